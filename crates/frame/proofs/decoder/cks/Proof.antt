@@ -1,0 +1,37 @@
+-- `frame::decoder::cks` meets its contract: an exclusive or over a list goes on over its parts.
+use Rattle.frame.proofs.Laws.{cks-message, cks-ack, cks-nak}
+use Rattle.frame.specs.Decoder.{frontIn}
+use borrow.Author.Needs.{needs}
+use Rattle.frame.proofs.decoder.cks.Statement.{statement}
+use Rattle.frame.proofs.decoder.cks.Tie as tie
+
+returns : tie.Need-returns
+unfolding frontIn
+returns c = rw (c .exclusive-or2 .ensures, c .before .before .info-cks .ensures, c .before .before .before .before .before .before .exclusive-or .ensures, c .before .before .before .before .before .before .before .before .front .ensures, cks-message (c .before .before .before .before .before .before .before .before .before .before .args .d) (c .before .before .before .before .enum-told .given .1))
+
+returns-2 : tie.Need-returns-2
+unfolding frontIn
+returns-2 c = rw (c .before .before .exclusive-or .ensures, c .before .before .before .before .front .ensures, cks-ack (c .before .before .before .before .before .before .args .d) (c .enum-told2 .given .1))
+
+returns-3 : tie.Need-returns-3
+unfolding frontIn
+returns-3 c = rw (c .exclusive-or3 .ensures, c .before .before .before .before .exclusive-or .ensures, c .before .before .before .before .before .before .front .ensures, cks-nak (c .before .before .before .before .before .before .before .before .args .d) (c .before .before .enum-told3 .given .1))
+
+pub cks-spec : {M : Type 1} → statement M
+cks-spec =
+    tie.close
+    (tie.spec
+    (λ c κs. search needs)
+    (λ c. search needs)
+    (λ c κs. search needs)
+    (λ c. search needs)
+    (λ c κs. search needs)
+    (λ c. search needs)
+    (λ c κs. search needs)
+    (λ c. search needs)
+    (λ c. search needs)
+    (λ c. search needs)
+    (λ c κs. search needs)
+    returns
+    returns-2
+    returns-3)

@@ -1,0 +1,14 @@
+-- `frame::decoder::info_octet` meets its contract: the test is the one of the definition.
+use borrow.Author.Tests.{eq-eqb, ne-eqb}
+use borrow.Author.Needs.{needs}
+use Rattle.frame.proofs.decoder.info_octet.Statement.{statement}
+use Rattle.frame.proofs.decoder.info_octet.Tie as tie
+
+returns : tie.Need-returns
+returns c = rw (c .found-at .ensures, eq-eqb _ _ (c .before .if1 .taken))
+
+returns-2 : tie.Need-returns-2
+returns-2 c = rw (c .stored .ensures, ne-eqb _ _ (c .before .if1 .left))
+
+pub info-octet-spec : {M : Type 1} → statement M
+info-octet-spec = tie.close (tie.spec (λ c κs. search needs) (λ c κs. search needs) returns returns-2)

@@ -1,0 +1,136 @@
+-- What follows from the definitions of specs/, for every crate above.
+use Prim.Native.Nat.{ℕ, zero, suc, _+_, _*_, _-_, _/_, _%_, min, _≤_, _<_}
+use mathlib.Core.Path.{_≡_, refl, sym, ap, subst, _∙_}
+use mathlib.Core.Bool.{Bool, true, false, not}
+use mathlib.Core.List.{List, [], _∷_, _++_}
+use native.Mathlib.Decide.{decLt}
+use native.Mathlib.Nat.{add-zero, add-suc, suc-add}
+use native.Mathlib.Numerals.{add-one}
+use native.Mathlib.Omega.{arith}
+use borrow.Author.Tests.{le-leb, lt-leb}
+use lib.Bits.{xor-self}
+use lib.Dec.{T, leb}
+use lib.ListN.{length, set, take, drop, getD, length-append, length-drop, drop-of-length-le}
+use lib.Seq.{sets, drop-cons, drop-length, length-sets, take-all}
+use Rattle.octets.specs.Choice.{pick, both}
+use Rattle.octets.specs.Word.{highOf, lowOf, wordOf}
+use Rattle.octets.specs.ExclusiveOr.{xor, exclusiveOr}
+use Rattle.octets.specs.Put.{Stored, Put}
+use Rattle.octets.specs.First.{First, firstOf}
+
+-- Choice
+
+-- what holds of both choices, each under its test, holds of the chosen
+pub pick-by : {A : Type 0} (P : A → Type 0) (t : Bool) {a b : A} → (t ≡ true → P a) → (t ≡ false → P b) → P (pick t a b)
+pick-by P true f g = f refl
+pick-by P false f g = g refl
+
+pub both-left : (a b : Bool) → both a b ≡ true → a ≡ true
+both-left true b h = refl
+both-left false b h = h
+
+pub both-right : (a b : Bool) → both a b ≡ true → b ≡ true
+both-right true b h = h
+both-right false b h = cc
+
+pub clash : {b : Bool} → b ≡ false → b ≡ true → ⊥
+clash p q = let z : false ≡ true = cc in absurd (subst (λ (b : Bool). T (not b)) z tt)
+
+-- Word
+
+pub word-back : (x : ℕ) → wordOf (highOf x) (lowOf x) ≡ x
+word-back x = omega arith
+
+pub high-word : (h l : ℕ) → l < 256 → highOf (wordOf h l) ≡ h
+high-word h l p = omega arith
+
+pub low-word : (h l : ℕ) → l < 256 → lowOf (wordOf h l) ≡ l
+low-word h l p = omega arith
+
+-- ExclusiveOr
+
+pub exclusive-or-append : (a : ℕ) (xs ys : List ℕ) → exclusiveOr a (xs ++ ys) ≡ exclusiveOr (exclusiveOr a xs) ys
+unfolding exclusiveOr
+exclusive-or-append a [] ys = refl
+exclusive-or-append a (x ∷ xs) ys = exclusive-or-append (xor a x) xs ys
+
+-- with its own exclusive or behind it a list gives 0
+pub exclusive-or-closed : (xs : List ℕ) → exclusiveOr 0 (xs ++ (exclusiveOr 0 xs ∷ [])) ≡ 0
+unfolding exclusiveOr xor
+exclusive-or-closed xs = exclusive-or-append 0 xs (exclusiveOr 0 xs ∷ []) ∙ xor-self (exclusiveOr 0 xs)
+
+-- Lists
+
+-- the code's next place in a list
+pub drop-next : (s : List ℕ) (i : ℕ) → i < length s → drop i s ≡ getD s i 0 ∷ drop (i + 1) s
+drop-next s i h = rw (add-one, drop-cons s i 0)
+
+pub sets-append : (xs ys l : List ℕ) (i : ℕ) → sets l i (xs ++ ys) ≡ sets (sets l i xs) (i + length xs) ys
+sets-append [] ys l i = rw (add-zero i)
+sets-append (x ∷ xs) ys l i = rw (add-suc i (length xs), ← suc-add i (length xs)) (sets-append xs ys (set l i x) (suc i))
+
+-- Part
+
+-- the part that reaches to the end is what is left from its start on
+pub part-to-end : (s : List ℕ) (a : ℕ) → take (length s - a) (drop a s) ≡ drop a s
+part-to-end s a = take-all (length s - a) (drop a s) (simp length-drop (omega arith))
+
+-- past the end nothing is left
+pub part-past-end : (s : List ℕ) (a : ℕ) → length s ≤ a → drop (length s) s ≡ drop a s
+part-past-end s a h = drop-length s ∙ sym (drop-of-length-le s h)
+
+-- Put
+
+-- one run of octets after another
+pub stored-then : {xs ys l m m′ : List ℕ} {i r r′ : ℕ} → Stored xs i l r m → Stored ys r m r′ m′ → Stored (xs ++ ys) i l r′ m′
+stored-then {xs} {ys} {l} {m} {m′} {i} {r} {r′} p q =
+    record {
+      place = omega (arith, p .place, q .place, length-append xs ys);
+      holds = q .holds ∙ rw (p .holds, p .place) (sym (sets-append xs ys l i));
+      long = q .long ∙ p .long;
+      fits = omega (arith, q .fits, p .long);
+    }
+
+module _ {vs l l′ : List ℕ} {i r : ℕ} where
+  pub put-stored : Put vs i l r l′ → i + length vs ≤ length l → Stored vs i l r l′
+  put-stored p h =
+      let t = le-leb (i + length vs) (length l) h in
+      let e : r ≡ i + length vs = p .place ∙ rw t in
+      let o : l′ ≡ sets l i vs = p .holds ∙ rw t in
+      record { place = e; holds = o; long = ap length o ∙ length-sets l i vs; fits = omega (arith, e) }
+
+  pub stored-put : Stored vs i l r l′ → Put vs i l r l′
+  stored-put p =
+      let h : i + length vs ≤ length l = omega (arith, p .place, p .fits) in
+      record { place = rw (le-leb (i + length vs) (length l) h) (p .place); holds = rw (le-leb (i + length vs) (length l) h) (p .holds) }
+
+pub put-none : {vs l : List ℕ} {i : ℕ} → length l < i + length vs → Put vs i l i l
+put-none {vs} {l} {i} h = record { place = rw (lt-leb (i + length vs) (length l) h); holds = rw (lt-leb (i + length vs) (length l) h) }
+
+-- First
+
+module _ {t : ℕ → Bool} {n : ℕ} where
+  pub first-none : ((j : ℕ) → j < n → t j ≡ false) → First t n 0
+  first-none h = record { within = omega arith; before = λ j p. absurd (omega arith); here = λ j p. absurd (omega arith); none = λ _. h }
+
+  pub first-found : {i : ℕ} → i < n → ((j : ℕ) → j < i → t j ≡ false) → t i ≡ true → First t n (i + 1)
+  first-found {i} l h e =
+      record {
+        within = omega arith;
+        before = λ j p. h j (omega arith);
+        here = λ j p. let q : j ≡ i = omega arith in rw q e;
+        none = λ z. absurd (omega arith);
+      }
+
+  -- there is only one such number
+  pub first-one : {r s : ℕ} → First t n r → First t n s → r ≡ s
+  first-one {r} {s} p q = by (decLt r s) (decLt s r)
+    where
+      less : {r s : ℕ} → First t n r → First t n s → r < s → ⊥
+      less {r = zero} {s = suc s} p q l = clash (p .none refl s (q .within)) (q .here s (add-one s))
+      less {r = suc r} {s = s} p q l = clash (q .before r (omega arith)) (p .here r (add-one r))
+
+      by : Dec (r < s) → Dec (s < r) → r ≡ s
+      by (yes l) d = absurd (less p q l)
+      by (no g) (yes l) = absurd (less q p l)
+      by (no g) (no g′) = omega arith

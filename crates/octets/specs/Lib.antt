@@ -1,0 +1,7 @@
+pub mod Choice
+pub mod Refusal
+pub mod Word
+pub mod ExclusiveOr
+pub mod Put
+pub mod Part
+pub mod First

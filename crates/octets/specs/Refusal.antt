@@ -1,0 +1,61 @@
+-- 01, "Replies": the refusals by number, and 0 for none.
+use Prim.Native.Nat.{ℕ}
+
+abbrev pub none : ℕ
+none = 0
+
+-- "CKS wrong"
+abbrev pub cksWrong : ℕ
+cksWrong = 1
+
+-- "doubling or closing octets wrong"
+abbrev pub closingWrong : ℕ
+closingWrong = 2
+
+-- "LEN not as in its kind's row above"
+abbrev pub lenWrong : ℕ
+lenWrong = 3
+
+-- "frame writer given INFO not 2 to 256 long"
+abbrev pub infoWrong : ℕ
+infoWrong = 4
+
+-- "message writer given a field outside its range or a code not listed"
+abbrev pub fieldWrong : ℕ
+fieldWrong = 5
+
+-- "fresh start with address FFFF"
+abbrev pub startWrong : ℕ
+startWrong = 6
+
+-- "state handed in is unsound"
+abbrev pub stateUnsound : ℕ
+stateUnsound = 7
+
+-- "plan book is not 3,840 octets"
+abbrev pub bookWrong : ℕ
+bookWrong = 8
+
+-- "output too short"
+abbrev pub outputShort : ℕ
+outputShort = 9
+
+-- "code not handled"
+abbrev pub codeUnknown : ℕ
+codeUnknown = 10
+
+-- "INFO length wrong for its code"
+abbrev pub lengthWrong : ℕ
+lengthWrong = 11
+
+-- "field out of range"
+abbrev pub outOfRange : ℕ
+outOfRange = 12
+
+-- "plan not set, or not ready"
+abbrev pub notReady : ℕ
+notReady = 13
+
+-- "fields disagree"
+abbrev pub disagree : ℕ
+disagree = 14

@@ -1,0 +1,82 @@
+// What several crates say of octets, said once.
+pub mod refusal;
+
+ghost use mathlib.Core.Path.{_≡_};
+ghost use Prim.Native.Nat.{_+_, _≤_};
+ghost use lib.ListN.{length};
+ghost use Rattle.octets.specs.Word.{highOf, lowOf, wordOf};
+ghost use Rattle.octets.specs.ExclusiveOr.{exclusiveOr};
+ghost use Rattle.octets.specs.Put.{Put, Stored};
+ghost use Rattle.octets.specs.Part.{PartFrom, codeLen};
+
+// The octets of a message's code, before its fields.
+pub const CODE_LEN: usize = 2;
+
+// The high octet of a number of two.
+pub fn high(x: u16) -> u8
+    ensures { λ r. ⌜ r ≡ highOf x ⌝ }
+{
+    (x / 256) as u8
+}
+
+// The low octet of a number of two.
+pub fn low(x: u16) -> u8
+    ensures { λ r. ⌜ r ≡ lowOf x ⌝ }
+{
+    (x % 256) as u8
+}
+
+// Two octets as one number, high octet first.
+pub fn word(hi: u8, lo: u8) -> u16
+    ensures { λ r. ⌜ r ≡ wordOf hi lo ⌝ }
+{
+    hi as u16 * 256 + lo as u16
+}
+
+// The exclusive or of the octets of `s`, going on from `start`.
+pub fn exclusive_or(start: u8, s: &[u8]) -> u8
+    ensures { λ r. ⌜ r ≡ exclusiveOr start (now (s .entry)) ⌝ }
+{
+    let mut x = start;
+    for i in 0..s.len() {
+        x = x ^ s[i];
+    }
+    x
+}
+
+// Stores the octets of `s` in `out` from `at` on and gives the place after them; where they do not fit, nothing is
+// stored and the place is `at`.
+pub fn put(s: &[u8], out: &mut [u8], at: usize) -> usize
+    ensures { λ r. ⌜ Put (now (s .entry)) at (now (out .entry)) r (now (out .exit)) ⌝ }
+{
+    if out.len() < at {
+        return at;
+    }
+    if out.len() - at < s.len() {
+        return at;
+    }
+    store(s, out, at)
+}
+
+fn store(s: &[u8], out: &mut [u8], at: usize) -> usize
+    requires { ⌜ at + length (now s) ≤ length (now out) ⌝ }
+    ensures { λ r. ⌜ Stored (now (s .entry)) at (now (out .entry)) r (now (out .exit)) ⌝ }
+{
+    let mut p = at;
+    for i in 0..s.len() {
+        out[p] = s[i];
+        p += 1;
+    }
+    p
+}
+
+// 01, "Messages": "the octets after the two of the code are handed on as a part".
+pub fn body<'a>(info: &'a [u8]) -> &'a [u8]
+    ensures { λ r. ⌜ PartFrom (info .entry) codeLen r ⌝ }
+{
+    let end = info.len();
+    if end < CODE_LEN {
+        return &info[end..];
+    }
+    &info[CODE_LEN..]
+}
