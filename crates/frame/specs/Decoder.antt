@@ -133,16 +133,19 @@ lenJudged d n =
     (foundAt d Idle (refusedBy h refusal.lenWrong))
 
 abbrev pub kept : Head → List ℕ → Place → ℕ → Taken
-kept h i p n = taken (headOf p (h .kind) (h .seq) (h .err) (h .addr) (h .len) n) i found.Nothing
+kept h i p g = taken (headOf p (h .kind) (h .seq) (h .err) (h .addr) (h .len) g) i found.Nothing
 
--- an octet of INFO is kept; "after n octets of INFO come AA and CC"
+-- "after n octets of INFO come AA and CC": the place where g of them are in
+abbrev pub afterInfo : ℕ → ℕ → Place
+afterInfo n g = pick (ltb (messageLen + g) n) Info CloseAa
+
+-- an octet of INFO is kept
 abbrev pub stored : Decoder → ℕ → Taken
 stored d b =
     let h = d .head in
-    let i = set (d .info) (h .got) b in
-    let n = h .got + 1 in
+    let g = h .got + 1 in
     pick (leb infoMost (h .got)) (foundAt d Idle found.Nothing)
-    (pick (ltb (n + messageLen) (h .len)) (kept h i Info n) (kept h i CloseAa n))
+    (kept h (set (d .info) (h .got) b) (afterInfo (h .len) g) g)
 
 abbrev pub infoOctet : Decoder → ℕ → Taken
 infoOctet d b = pick (eqb b 0xAA) (foundAt d InfoAa found.Nothing) (stored d b)

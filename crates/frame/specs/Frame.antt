@@ -5,13 +5,14 @@
 -- | message | AA BB SEQ ADDR(2) LEN(2) INFO(n) AA CC CKS | 10+n, n from 2 to 256 |
 -- | ACK | AA DD SEQ ADDR(2) LEN(2) CKS | 8 |
 -- | NAK | AA EE SEQ ADDR(2) LEN(2) ERR CKS | 9 |
-use Prim.Native.Nat.{ℕ, _+_}
+use Prim.Native.Nat.{ℕ, _+_, _<_}
 use mathlib.Core.Bool.{Bool, true}
 use mathlib.Core.List.{List, [], _∷_, _++_}
 use lib.Dec.{eqb, leb}
 use lib.ListN.{length}
 use Rattle.octets.specs.Choice.{pick, both}
 use Rattle.octets.specs.ExclusiveOr.{exclusiveOr}
+use Rattle.octets.specs.Octet.{Octets}
 use Rattle.octets.specs.Word.{highOf, lowOf}
 use Rattle.frame.specs.declared.Kind.{Kind}
 use Rattle.frame.specs.declared.Kind.the-variants.{Message, Ack, Nak}
@@ -20,6 +21,27 @@ pub data Frame : Type 0 where
   message : (seq addr : ℕ) (info : List ℕ) → Frame
   ack : (seq addr : ℕ) → Frame
   nak : (seq addr err : ℕ) → Frame
+
+abbrev pub kindOf : Frame → Kind
+kindOf (message s a i) = Message
+kindOf (ack s a) = Ack
+kindOf (nak s a e) = Nak
+
+abbrev pub seqOf : Frame → ℕ
+seqOf (message s a i) = s
+seqOf (ack s a) = s
+seqOf (nak s a e) = s
+
+abbrev pub addrOf : Frame → ℕ
+addrOf (message s a i) = a
+addrOf (ack s a) = a
+addrOf (nak s a e) = a
+
+-- SEQ and ERR are an octet, ADDR is two, and INFO is octets
+abbrev pub InOctets : Frame → Type 0
+InOctets (message s a i) = (s < 256) × (a < 65536) × Octets i
+InOctets (ack s a) = (s < 256) × (a < 65536)
+InOctets (nak s a e) = (s < 256) × (a < 65536) × (e < 256)
 
 -- the second octet of a frame
 abbrev pub opener : Kind → ℕ
@@ -66,9 +88,7 @@ abbrev pub front : Kind → ℕ → ℕ → ℕ → List ℕ
 front k s a n = 0xAA ∷ opener k ∷ s ∷ highOf a ∷ lowOf a ∷ highOf n ∷ lowOf n ∷ []
 
 unfoldable pub frontOf : Frame → List ℕ
-frontOf (message s a i) = front Message s a (messageLen + length i)
-frontOf (ack s a) = front Ack s a ackLen
-frontOf (nak s a e) = front Nak s a nakLen
+frontOf f = front (kindOf f) (seqOf f) (addrOf f) (lenOf f)
 
 -- between LEN and CKS, before doubling
 unfoldable pub bodyOf : Frame → List ℕ

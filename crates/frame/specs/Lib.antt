@@ -1,3 +1,6 @@
 pub mod Frame
 pub mod Decoder
 pub mod Writer
+pub mod Run
+pub mod Promises
+pub mod Cases

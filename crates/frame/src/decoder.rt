@@ -334,23 +334,23 @@ fn stored(d: Decoder, b: u8) -> Taken
         return found_at(d, Place::Idle, Found::Nothing);
     }
     info[at] = b;
-    let n = h.got + 1;
-    if n + MESSAGE_LEN < h.len {
-        kept(h, info, Place::Info, n)
+    let g = h.got + 1;
+    if MESSAGE_LEN + g < h.len {
+        kept(h, info, Place::Info, g)
     } else {
-        kept(h, info, Place::CloseAa, n)
+        kept(h, info, Place::CloseAa, g)
     }
 }
 
-fn kept(h: Head, info: [u8; INFO_MOST], p: Place, n: u16) -> Taken
-    ensures { λ r. ⌜ r ≡ kept h info p n ⌝ }
+fn kept(h: Head, info: [u8; INFO_MOST], p: Place, g: u16) -> Taken
+    ensures { λ r. ⌜ r ≡ kept h info p g ⌝ }
 {
     Taken {
         refusal: refusal::NONE,
         decoder: Decoder {
             head: Head {
                 place: p,
-                got: n,
+                got: g,
                 ..h
             },
             info: info,

@@ -8,11 +8,12 @@ use native.Mathlib.Nat.{add-zero, add-suc, suc-add}
 use native.Mathlib.Numerals.{add-one}
 use native.Mathlib.Omega.{arith}
 use borrow.Author.Tests.{le-leb, lt-leb}
-use lib.Bits.{xor-self}
+use lib.Bits.{xor-self, xor-lt}
 use lib.Dec.{T, leb}
 use lib.ListN.{length, set, take, drop, getD, length-append, length-drop, drop-of-length-le}
 use lib.Seq.{sets, drop-cons, drop-length, length-sets, take-all}
 use Rattle.octets.specs.Choice.{pick, both}
+use Rattle.octets.specs.Octet.{Octets}
 use Rattle.octets.specs.Word.{highOf, lowOf, wordOf}
 use Rattle.octets.specs.ExclusiveOr.{xor, exclusiveOr}
 use Rattle.octets.specs.Put.{Stored, Put}
@@ -58,6 +59,25 @@ exclusive-or-append a (x ∷ xs) ys = exclusive-or-append (xor a x) xs ys
 pub exclusive-or-closed : (xs : List ℕ) → exclusiveOr 0 (xs ++ (exclusiveOr 0 xs ∷ [])) ≡ 0
 unfolding exclusiveOr xor
 exclusive-or-closed xs = exclusive-or-append 0 xs (exclusiveOr 0 xs ∷ []) ∙ xor-self (exclusiveOr 0 xs)
+
+pub exclusive-or-octet : (a : ℕ) (xs : List ℕ) → a < 256 → Octets xs → exclusiveOr a xs < 256
+unfolding exclusiveOr xor
+exclusive-or-octet a [] h o = h
+exclusive-or-octet a (x ∷ xs) h o = exclusive-or-octet (xor a x) xs (xor-lt 8 a x h (o .0)) (o .1)
+
+-- Octet
+
+pub octets-append : (xs ys : List ℕ) → Octets xs → Octets ys → Octets (xs ++ ys)
+octets-append [] ys o q = q
+octets-append (x ∷ xs) ys o q = (o .0, octets-append xs ys (o .1) q)
+
+pub octets-left : (xs ys : List ℕ) → Octets (xs ++ ys) → Octets xs
+octets-left [] ys o = tt
+octets-left (x ∷ xs) ys o = (o .0, octets-left xs ys (o .1))
+
+pub octets-right : (xs ys : List ℕ) → Octets (xs ++ ys) → Octets ys
+octets-right [] ys o = o
+octets-right (x ∷ xs) ys o = octets-right xs ys (o .1)
 
 -- Lists
 

@@ -1,0 +1,11 @@
+-- The cases, computed.
+use mathlib.Core.Path.{refl}
+use Rattle.octets.specs.ExclusiveOr.{xor, exclusiveOr}
+use Rattle.frame.specs.Frame.{frontOf, bodyOf, sentOf, cksOf, twice, doubled, written}
+use Rattle.frame.specs.Decoder.{freshDecoder, possibleOf, frontIn, cksIn, stepOf, takenOf}
+use Rattle.frame.specs.Run.{outcomes}
+use Rattle.frame.specs.Cases.{read, dueRead, wrote, dueWritten, FrameCases}
+
+pub frame-cases : FrameCases
+unfolding read dueRead wrote dueWritten outcomes written frontOf bodyOf sentOf cksOf twice doubled exclusiveOr xor freshDecoder possibleOf frontIn cksIn stepOf takenOf
+frame-cases = (refl, refl)
