@@ -9,14 +9,15 @@ use native.Mathlib.Decide.{decLe}
 use lib.Dec.{leb, ltb, eqb}
 use lib.ListN.{length, take, drop, getD, length-append}
 use Rattle.octets.specs.ExclusiveOr.{exclusiveOr}
+use Rattle.octets.specs.Choice.{both}
 use Rattle.octets.specs.Put.{Stored}
-use Rattle.octets.proofs.Laws.{exclusive-or-append, both-left, drop-next}
+use Rattle.octets.proofs.Laws.{exclusive-or-append, both-left, both-right, drop-next}
 use Rattle.frame.specs.declared.Kind.{Kind}
 use Rattle.frame.specs.declared.Kind.the-variants.{Message, Ack, Nak}
 use Rattle.frame.specs.declared.decoder.Place.{Place}
 use Rattle.frame.specs.declared.decoder.Head.{Head}
 use Rattle.frame.specs.declared.decoder.Decoder.{Decoder}
-use Rattle.frame.specs.Frame.{Frame, message, ack, nak, messageLen, ackLen, nakLen, lenFits, infoFits, front, frontOf, bodyOf, sentOf, cksOf, twice, doubled, written}
+use Rattle.frame.specs.Frame.{Frame, message, ack, nak, infoLeast, infoMost, messageLen, ackLen, nakLen, lenFits, infoFits, front, frontOf, bodyOf, sentOf, cksOf, twice, doubled, written}
 use Rattle.frame.specs.Writer.{Wrote, writtenAs, writeOf, refusedAs}
 use Rattle.frame.specs.declared.writer.Written.{Written}
 use Rattle.frame.specs.Decoder.{infoDue, infoWhole, possibleOf, possibleAt, stepOf, stepAt, cksIn, frontIn, takenOf, idledOf, unsound, foundAt, moved, headOf, lenJudged, afterLen, refusedBy}
@@ -61,6 +62,9 @@ module _ (s a : ℕ) {f : List ℕ} {x : ℕ} where
   nak-parts e q h = rw (h, ← exclusive-or-append 0 f (e ∷ []), q)
 
 -- Writer
+
+pub info-most : (n : ℕ) → both (leb infoLeast n) (leb n infoMost) ≡ true → n ≤ infoMost
+info-most n h = leb-true n infoMost (both-right (leb infoLeast n) (leb n infoMost) h)
 
 pub room-left : (n at k : ℕ) → at ≤ n → leb k (n - at) ≡ leb (at + k) n
 room-left n at k h = by (decLe (at + k) n)

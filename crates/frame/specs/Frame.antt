@@ -65,6 +65,14 @@ ackLen = 8
 abbrev pub nakLen : ℕ
 nakLen = 9
 
+-- "Only an AA within INFO is sent twice"
+unfoldable pub twice : ℕ → List ℕ
+twice x = pick (eqb x 0xAA) (0xAA ∷ 0xAA ∷ []) (x ∷ [])
+
+unfoldable pub doubled : List ℕ → List ℕ
+doubled [] = []
+doubled (x ∷ xs) = twice x ++ doubled xs
+
 -- LEN as in its kind's row above
 abbrev pub lenFits : Kind → ℕ → Bool
 lenFits Message n = both (leb (messageLen + infoLeast) n) (leb n (messageLen + infoMost))
@@ -96,23 +104,15 @@ bodyOf (message s a i) = i ++ (0xAA ∷ 0xCC ∷ [])
 bodyOf (ack s a) = []
 bodyOf (nak s a e) = e ∷ []
 
--- "CKS is the exclusive or of all earlier octets of the frame before doubling."
-unfoldable pub cksOf : Frame → ℕ
-cksOf f = exclusiveOr 0 (frontOf f ++ bodyOf f)
-
--- "Only an AA within INFO is sent twice"
-unfoldable pub twice : ℕ → List ℕ
-twice x = pick (eqb x 0xAA) (0xAA ∷ 0xAA ∷ []) (x ∷ [])
-
-unfoldable pub doubled : List ℕ → List ℕ
-doubled [] = []
-doubled (x ∷ xs) = twice x ++ doubled xs
-
 -- between LEN and CKS, as sent
 unfoldable pub sentOf : Frame → List ℕ
 sentOf (message s a i) = doubled i ++ (0xAA ∷ 0xCC ∷ [])
 sentOf (ack s a) = []
 sentOf (nak s a e) = e ∷ []
+
+-- "CKS is the exclusive or of all earlier octets of the frame before doubling."
+unfoldable pub cksOf : Frame → ℕ
+cksOf f = exclusiveOr 0 (frontOf f ++ bodyOf f)
 
 -- the whole frame, before doubling and as sent
 unfoldable pub undoubled : Frame → List ℕ

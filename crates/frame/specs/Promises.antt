@@ -10,10 +10,11 @@ use Rattle.octets.specs.Refusal as refusal
 use Rattle.octets.specs.Word.{wordOf}
 use Rattle.frame.specs.declared.Kind.{Kind}
 use Rattle.frame.specs.declared.Kind.the-variants.{Message, Ack, Nak}
-use Rattle.frame.specs.declared.decoder.Place.the-variants.{Idle}
+use Rattle.frame.specs.declared.decoder.Place.{Place}
+use Rattle.frame.specs.declared.decoder.Place.the-variants.{Idle, LoneAa, Seq, AddrHigh, AddrLow, LenHigh, LenLow, Info, InfoAa, CloseAa, CloseCc, Err, Cks}
 use Rattle.frame.specs.declared.decoder.Decoder.{Decoder}
 use Rattle.frame.specs.Frame.{Frame, message, ack, nak, messageLen, InOctets, kindOf, seqOf, addrOf, lenFits, lenOf, infoFits, front, frontOf, sentOf, doubled, cksOf, undoubled, written}
-use Rattle.frame.specs.Decoder.{possibleOf, freshDecoder, takenOf, idledOf}
+use Rattle.frame.specs.Decoder.{headOf, possibleOf, freshDecoder, takenOf, idledOf}
 use Rattle.frame.specs.Writer.{Writing, writeOf}
 use Rattle.frame.specs.Run.{Outcome, nothing, refused, sound, outcomeOf, outcomes, after, AtRest, NothingDropped}
 
@@ -102,3 +103,29 @@ RefusedOnlyThen =
     (d : Decoder) (xs : List ℕ) (x n : ℕ) (k : Kind) (s a : ℕ) → AtRest d → Octets (xs ++ (x ∷ []))
     → outcomeOf (takenOf (after d xs) x) ≡ refused n k s a
     → RefusedFor xs x n k s a
+
+-- "The wrong octet after an AA is then judged as if it had followed a lone AA; a wrong octet where the closing AA was due
+-- returns to idle. Refusals 1 and 3 and the end of a sound frame also leave it idle, with no AA remembered."
+abbrev pub placedAt : Place → Decoder → Decoder
+placedAt p d = let h = d .head in record { head = headOf p (h .kind) (h .seq) (h .err) (h .addr) (h .len) (h .got); info = d .info }
+
+abbrev pub resumedAt : Place → Decoder → ℕ → Decoder
+resumedAt Idle d b = placedAt Idle d
+resumedAt LoneAa d b = placedAt Idle d
+resumedAt Seq d b = placedAt Idle d
+resumedAt AddrHigh d b = placedAt Idle d
+resumedAt AddrLow d b = placedAt Idle d
+resumedAt LenHigh d b = placedAt Idle d
+resumedAt LenLow d b = placedAt Idle d
+resumedAt Info d b = placedAt Idle d
+resumedAt InfoAa d b = takenOf (placedAt LoneAa d) b .decoder
+resumedAt CloseAa d b = placedAt Idle d
+resumedAt CloseCc d b = takenOf (placedAt LoneAa d) b .decoder
+resumedAt Err d b = placedAt Idle d
+resumedAt Cks d b = placedAt Idle d
+
+-- where an octet brings a refusal or a sound frame, the decoder is then
+abbrev pub Resumes : Type 0
+Resumes =
+    (d : Decoder) (b : ℕ) → possibleOf (d .head) ≡ true → (outcomeOf (takenOf d b) ≡ nothing → ⊥)
+    → takenOf d b .decoder ≡ resumedAt (d .head .place) d b

@@ -270,10 +270,9 @@ fn refused_by(h: Head, n: u8) -> Found
 fn idle_octet(d: Decoder, b: u8) -> Taken
     ensures { λ r. ⌜ r ≡ idleOctet d b ⌝ }
 {
-    if b == AA {
-        found_at(d, Place::LoneAa, Found::Nothing)
-    } else {
-        found_at(d, Place::Idle, Found::Nothing)
+    match b {
+        AA => found_at(d, Place::LoneAa, Found::Nothing),
+        _ => found_at(d, Place::Idle, Found::Nothing),
     }
 }
 
@@ -362,10 +361,9 @@ fn kept(h: Head, info: [u8; INFO_MOST], p: Place, g: u16) -> Taken
 fn info_octet(d: Decoder, b: u8) -> Taken
     ensures { λ r. ⌜ r ≡ infoOctet d b ⌝ }
 {
-    if b == AA {
-        found_at(d, Place::InfoAa, Found::Nothing)
-    } else {
-        stored(d, b)
+    match b {
+        AA => found_at(d, Place::InfoAa, Found::Nothing),
+        _ => stored(d, b),
     }
 }
 
@@ -374,11 +372,10 @@ fn info_octet(d: Decoder, b: u8) -> Taken
 fn info_aa_octet(d: Decoder, b: u8) -> Taken
     ensures { λ r. ⌜ r ≡ infoAaOctet d b ⌝ }
 {
-    if b == AA {
-        stored(d, b)
-    } else {
-        let h = d.head;
-        after_aa(d, b, refused_by(h, refusal::CLOSING_WRONG))
+    let h = d.head;
+    match b {
+        AA => stored(d, b),
+        _ => after_aa(d, b, refused_by(h, refusal::CLOSING_WRONG)),
     }
 }
 
@@ -386,22 +383,20 @@ fn info_aa_octet(d: Decoder, b: u8) -> Taken
 fn close_aa_octet(d: Decoder, b: u8) -> Taken
     ensures { λ r. ⌜ r ≡ closeAaOctet d b ⌝ }
 {
-    if b == AA {
-        found_at(d, Place::CloseCc, Found::Nothing)
-    } else {
-        let h = d.head;
-        found_at(d, Place::Idle, refused_by(h, refusal::CLOSING_WRONG))
+    let h = d.head;
+    match b {
+        AA => found_at(d, Place::CloseCc, Found::Nothing),
+        _ => found_at(d, Place::Idle, refused_by(h, refusal::CLOSING_WRONG)),
     }
 }
 
 fn close_cc_octet(d: Decoder, b: u8) -> Taken
     ensures { λ r. ⌜ r ≡ closeCcOctet d b ⌝ }
 {
-    if b == CC {
-        found_at(d, Place::Cks, Found::Nothing)
-    } else {
-        let h = d.head;
-        after_aa(d, b, refused_by(h, refusal::CLOSING_WRONG))
+    let h = d.head;
+    match b {
+        CC => found_at(d, Place::Cks, Found::Nothing),
+        _ => after_aa(d, b, refused_by(h, refusal::CLOSING_WRONG)),
     }
 }
 

@@ -1,12 +1,12 @@
 // 01, "Frames": the frames that we write, straight into the output from `at` on.
 ghost use mathlib.Core.Path.{_≡_};
-ghost use mathlib.Core.List.{[], _∷_, _++_};
+ghost use mathlib.Core.List.{_++_};
 ghost use Prim.Native.Nat.{_+_, _≤_};
 ghost use lib.Dec.{leb};
 ghost use lib.ListN.{length};
-ghost use Rattle.octets.specs.ExclusiveOr.{exclusiveOr};
+ghost use Rattle.octets.specs.Choice.{both};
 ghost use Rattle.octets.specs.Put.{Stored};
-ghost use Rattle.frame.specs.Frame.{message, ack, nak, twice, doubled, infoMost};
+ghost use Rattle.frame.specs.Frame.{message, ack, nak, twice, doubled, infoLeast, infoMost};
 ghost use Rattle.frame.specs.Writer.{Wrote, writeOf, writtenAs};
 use crate::AA;
 use crate::ACK_LEN;
@@ -27,13 +27,7 @@ pub struct Written {
 pub fn write_message(seq: u8, addr: u16, info: &[u8], out: &mut [u8], at: usize) -> Written
     ensures { λ r. ⌜ Wrote (writeOf (message seq addr (now (info .entry))) at (now (out .entry))) r (now (out .exit)) ⌝ }
 {
-    if info.len() < INFO_LEAST {
-        return Written {
-            refusal: refusal::INFO_WRONG,
-            count: 0,
-        };
-    }
-    if INFO_MOST < info.len() {
+    if !info_fits(info.len()) {
         return Written {
             refusal: refusal::INFO_WRONG,
             count: 0,
@@ -62,6 +56,13 @@ pub fn write_nak(seq: u8, addr: u16, err: u8, out: &mut [u8], at: usize) -> Writ
         octets::exclusive_or(octets::exclusive_or(0, &f), &[err]),
     ];
     write_parts(&f, &[0u8; 0], &e, out, at)
+}
+
+// "INFO(n), n from 2 to 256".
+fn info_fits(n: usize) -> bool
+    ensures { λ r. ⌜ r ≡ both (leb infoLeast n) (leb n infoMost) ⌝ }
+{
+    INFO_LEAST <= n && n <= INFO_MOST
 }
 
 // The front of a frame, its INFO with each AA twice, and its end, where there is room for all of it.

@@ -1,14 +1,14 @@
--- `frame::decoder::idle_octet` meets its contract: the test is the one of the definition.
-use borrow.Author.Tests.{eq-eqb, ne-eqb}
+-- `frame::decoder::idle_octet` meets its contract: each octet has its own arm.
+use borrow.Author.Tests.{ne-eqb}
 use borrow.Author.Needs.{needs}
 use Rattle.frame.proofs.decoder.idle_octet.Statement.{statement}
 use Rattle.frame.proofs.decoder.idle_octet.Tie as tie
 
 returns : tie.Need-returns
-returns c = rw (c .found-at .ensures, eq-eqb _ _ (c .before .if1 .taken))
+returns c = rw (c .before .match .keys1) (c .found-at .ensures)
 
 returns-2 : tie.Need-returns-2
-returns-2 c = rw (c .found-at2 .ensures, ne-eqb _ _ (c .before .if1 .left))
+returns-2 c = rw (ne-eqb _ _ (c .before .match .rest .1)) (c .found-at2 .ensures)
 
 pub idle-octet-spec : {M : Type 1} → statement M
 idle-octet-spec = tie.close (tie.spec (λ c κs. search needs) (λ c κs. search needs) returns returns-2)

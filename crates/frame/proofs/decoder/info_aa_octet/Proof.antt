@@ -1,14 +1,14 @@
--- `frame::decoder::info_aa_octet` meets its contract: the test is the one of the definition.
-use borrow.Author.Tests.{eq-eqb, ne-eqb}
+-- `frame::decoder::info_aa_octet` meets its contract: each octet has its own arm.
+use borrow.Author.Tests.{ne-eqb}
 use borrow.Author.Needs.{needs}
 use Rattle.frame.proofs.decoder.info_aa_octet.Statement.{statement}
 use Rattle.frame.proofs.decoder.info_aa_octet.Tie as tie
 
 returns : tie.Need-returns
-returns c = rw (c .stored .ensures, eq-eqb _ _ (c .before .if1 .taken))
+returns c = rw (c .before .match .keys1) (rw (c .before .match .keys1) at (c .stored .ensures))
 
 returns-2 : tie.Need-returns-2
-returns-2 c = rw (c .after-aa .ensures, c .before .refused-by .ensures, ne-eqb _ _ (c .before .before .before .if1 .left))
+returns-2 c = rw (c .after-aa .ensures, c .before .refused-by .ensures, ne-eqb _ _ (c .before .before .match .rest .1))
 
 pub info-aa-octet-spec : {M : Type 1} → statement M
 info-aa-octet-spec =

@@ -1,0 +1,6 @@
+pub mod Laws
+pub mod Every
+pub mod Known
+pub mod Rule
+pub mod Words
+pub mod Only

@@ -1,0 +1,59 @@
+-- The words of the table, by one computed test over its rows; a row that is not there is dark, and passes it too.
+use Prim.Native.Nat.{ℕ, _-_, _^_, _≤_, _<_}
+use mathlib.Core.Path.{_≡_, refl}
+use mathlib.Core.Bool.{Bool, true, false, not}
+use mathlib.Core.List.{List, [], _∷_}
+use native.Mathlib.Decide.{decLt}
+use native.Mathlib.Nat.{div-eq-of-lt, lt-of-lt-of-le, pow-le-pow-right}
+use native.Mathlib.Omega.{arith}
+use borrow.Author.Tests.{not-true, ltb-true}
+use lib.Dec.{ltb}
+use lib.ListN.{getD}
+use Rattle.octets.specs.Choice.{both}
+use Rattle.octets.proofs.Laws.{clash}
+use Rattle.diagram.specs.Table.{Row, rows, darkRow, rowNumber, rowOf, steadyOf, flashingOf}
+use Rattle.diagram.specs.Lamps.{bit, lampIn, lastLamp, SteadyOrFlashing, WordsFit}
+use Rattle.diagram.proofs.Every.{every, every-at, all, all-at, below, below-at}
+
+abbrev notBoth : Row → ℕ → Bool
+notBoth r i = not (both (bit (r .steady) i) (bit (r .flashing) i))
+
+wordTests : Row → List Bool
+wordTests r = ltb (r .steady) (2 ^ lastLamp) ∷ ltb (r .flashing) (2 ^ lastLamp) ∷ below (notBoth r) lastLamp ∷ []
+
+rows-pass : every (λ r. all (wordTests r)) rows ≡ true
+unfolding every all below wordTests rows
+rows-pass = refl
+
+row-passes : (order step k : ℕ) → getD (wordTests (rowOf order step)) k true ≡ true
+unfolding rowOf every all below wordTests
+row-passes order step k = all-at (wordTests (rowOf order step)) k (every-at (λ r. all (wordTests r)) rows (rowNumber order step) darkRow rows-pass (λ _. refl))
+
+pub steady-fits : (order step : ℕ) → steadyOf order step < 2 ^ lastLamp
+unfolding wordTests
+steady-fits order step = ltb-true (steadyOf order step) (2 ^ lastLamp) (row-passes order step 0)
+
+pub flashing-fits : (order step : ℕ) → flashingOf order step < 2 ^ lastLamp
+unfolding wordTests
+flashing-fits order step = ltb-true (flashingOf order step) (2 ^ lastLamp) (row-passes order step 1)
+
+pub words-fit : WordsFit
+words-fit order step = (steady-fits order step, flashing-fits order step)
+
+-- a word has no lamp past its length
+bit-past : (w n i : ℕ) → w < 2 ^ n → n ≤ i → bit w i ≡ false
+bit-past w n i h l = rw (div-eq-of-lt (lt-of-lt-of-le h (pow-le-pow-right (omega arith) l)))
+
+apart : (x y : Bool) → not (both x y) ≡ true → x ≡ true → y ≡ false
+apart true y t e = not-true y t
+apart false y t e = absurd (clash refl e)
+
+pub steady-or-flashing : SteadyOrFlashing
+unfolding wordTests
+steady-or-flashing order step m t = by (decLt (m - 1) lastLamp)
+  where
+    by : Dec (m - 1 < lastLamp) → lampIn (flashingOf order step) m ≡ false
+    by (yes l) =
+        let s = below-at (notBoth (rowOf order step)) lastLamp (m - 1) (row-passes order step 2) l in
+        apart (lampIn (steadyOf order step) m) (lampIn (flashingOf order step) m) s t
+    by (no g) = bit-past (flashingOf order step) lastLamp (m - 1) (flashing-fits order step) (omega arith)

@@ -1,0 +1,118 @@
+-- 01, "Lamps and seconds": what a lamp is, and the lamp rule over the whole table.
+use Prim.Native.Nat.{ℕ, _+_, _*_, _-_, _/_, _%_, _^_, _<_}
+use mathlib.Core.Path.{_≡_}
+use mathlib.Core.Bool.{Bool, true, false, _||_}
+use mathlib.Core.Logic.{_⊎_}
+use lib.Dec.{eqb}
+use Rattle.diagram.specs.Table.{Row, approachesOf, rowOf, steadyOf, flashingOf}
+use Rattle.diagram.specs.Known.{Step}
+
+-- Lamps
+
+abbrev pub bit : ℕ → ℕ → Bool
+bit word i = eqb (word / 2 ^ i % 2) 1
+
+-- "Lamp number m is bit m-1 of a 64-bit steady word and a flashing word."
+abbrev pub lampIn : ℕ → ℕ → Bool
+lampIn word m = bit word (m - 1)
+
+-- a lamp is lit where it is steady or flashing
+unfoldable pub lit : Row → ℕ → Bool
+lit r m = lampIn (r .steady) m || lampIn (r .flashing) m
+
+-- "Per approach A to D the lamps are red, yellow, left, round, straight, right green, red man, green man: 1 to 8 for A, 9 to 16 for B, on to 32."
+-- Approach A is a = 0, on to H with a = 7: a word of 64 bits has eight approaches.
+abbrev pub approachesInWord : ℕ
+approachesInWord = 8
+
+abbrev pub redLit : Row → ℕ → Bool
+redLit r a = lit r (8 * a + 1)
+
+abbrev pub yellowLit : Row → ℕ → Bool
+yellowLit r a = lit r (8 * a + 2)
+
+abbrev pub leftLit : Row → ℕ → Bool
+leftLit r a = lit r (8 * a + 3)
+
+abbrev pub roundLit : Row → ℕ → Bool
+roundLit r a = lit r (8 * a + 4)
+
+abbrev pub straightLit : Row → ℕ → Bool
+straightLit r a = lit r (8 * a + 5)
+
+abbrev pub rightLit : Row → ℕ → Bool
+rightLit r a = lit r (8 * a + 6)
+
+abbrev pub redManLit : Row → ℕ → Bool
+redManLit r a = lit r (8 * a + 7)
+
+abbrev pub greenManLit : Row → ℕ → Bool
+greenManLit r a = lit r (8 * a + 8)
+
+-- any of the four greens
+unfoldable pub greenLit : Row → ℕ → Bool
+greenLit r a = leftLit r a || (roundLit r a || (straightLit r a || rightLit r a))
+
+-- The lamp rule
+
+pub record RedAlone (r : Row) (a : ℕ) : Type 0 where
+  pub red : redLit r a ≡ true
+  pub yellow : yellowLit r a ≡ false
+  pub green : greenLit r a ≡ false
+
+pub record YellowAlone (r : Row) (a : ℕ) : Type 0 where
+  pub red : redLit r a ≡ false
+  pub yellow : yellowLit r a ≡ true
+  pub green : greenLit r a ≡ false
+
+pub record GreenAlone (r : Row) (a : ℕ) : Type 0 where
+  pub red : redLit r a ≡ false
+  pub yellow : yellowLit r a ≡ false
+  pub green : greenLit r a ≡ true
+
+pub record RedManAlone (r : Row) (a : ℕ) : Type 0 where
+  pub redMan : redManLit r a ≡ true
+  pub greenMan : greenManLit r a ≡ false
+
+pub record GreenManAlone (r : Row) (a : ℕ) : Type 0 where
+  pub redMan : redManLit r a ≡ false
+  pub greenMan : greenManLit r a ≡ true
+
+-- 02, E2: "each approach it uses shows red alone, yellow alone or green alone, and exactly one of its two men"
+pub record Shows (r : Row) (a : ℕ) : Type 0 where
+  pub vehicles : RedAlone r a ⊎ (YellowAlone r a ⊎ GreenAlone r a)
+  pub men : RedManAlone r a ⊎ GreenManAlone r a
+
+-- 02, E2: "An approach not used is dark."
+pub record Dark (r : Row) (a : ℕ) : Type 0 where
+  pub red : redLit r a ≡ false
+  pub yellow : yellowLit r a ≡ false
+  pub green : greenLit r a ≡ false
+  pub redMan : redManLit r a ≡ false
+  pub greenMan : greenManLit r a ≡ false
+
+-- the directory says that the order uses the approach
+abbrev pub uses : ℕ → ℕ → Bool
+uses order a = bit (approachesOf order) a
+
+pub record Ruled (order step a : ℕ) : Type 0 where
+  pub used : uses order a ≡ true → Shows (rowOf order step) a
+  pub unused : uses order a ≡ false → Dark (rowOf order step) a
+
+-- At each step of each order, for each approach.
+abbrev pub LampRule : Type 0
+LampRule = (order step a : ℕ) → Step order step → a < approachesInWord → Ruled order step a
+
+-- The words
+
+-- No lamp is both steady and flashing.
+abbrev pub SteadyOrFlashing : Type 0
+SteadyOrFlashing = (order step m : ℕ) → lampIn (steadyOf order step) m ≡ true → lampIn (flashingOf order step) m ≡ false
+
+-- "on to 32"
+abbrev pub lastLamp : ℕ
+lastLamp = 32
+
+-- No lamp has a higher number.
+abbrev pub WordsFit : Type 0
+WordsFit = (order step : ℕ) → (steadyOf order step < 2 ^ lastLamp) × (flashingOf order step < 2 ^ lastLamp)

@@ -1,0 +1,132 @@
+// 01, "Lamps and seconds": the step table. The lamp words of all diagrams stand in one table, row by row, and a directory
+// gives for each phase order its first row, its phases and the approaches it uses.
+ghost use mathlib.Core.Path.{_≡_};
+ghost use Rattle.diagram.specs.Table.{diagramOf, stepsIn, phasesOf, approachesOf, stepsOf};
+ghost use Rattle.diagram.specs.Table.{rowNumber, steadyOf, flashingOf};
+
+// The steps of a phase: green, walk flash, red man, yellow, all-red.
+pub const STEPS_A_PHASE: u16 = 5;
+
+// The table: the steady and the flashing lamps of each step.
+const ROWS: usize = 10;
+
+const STEADY: [u64; ROWS] = [
+    0x41418888,
+    0x41410808,
+    0x41414848,
+    0x41414242,
+    0x41414141,
+    0x88884141,
+    0x08084141,
+    0x48484141,
+    0x42424141,
+    0x41414141,
+];
+
+const FLASHING: [u64; ROWS] = [0, 0x8080, 0, 0, 0, 0, 0x80800000, 0, 0, 0];
+
+// The directory: each phase order, its first row (from 0), its phases, and the approaches it uses (bit 0 for A, on to bit
+// 7 for H).
+const LINES: usize = 1;
+
+const ORDERS: [u8; LINES] = [0x00];
+
+const FIRST_ROWS: [u16; LINES] = [0];
+
+const PHASES: [u8; LINES] = [2];
+
+const APPROACHES: [u8; LINES] = [0x0f];
+
+// A line of the directory.
+struct Diagram {
+    order: u8,
+    first: u16,
+    phases: u8,
+    approaches: u8,
+}
+
+// The first line with that order; one with no phases and no approaches where there is none.
+fn find(order: u8) -> Diagram
+    ensures { λ r. ⌜ r ≡ diagramOf order ⌝ }
+{
+    for i in 0..LINES {
+        if ORDERS[i] == order {
+            return Diagram {
+                order,
+                first: FIRST_ROWS[i],
+                phases: PHASES[i],
+                approaches: APPROACHES[i],
+            };
+        }
+    }
+    Diagram {
+        order,
+        first: 0,
+        phases: 0,
+        approaches: 0,
+    }
+}
+
+// The steps of a line's phases.
+fn steps_in(d: Diagram) -> u16
+    ensures { λ r. ⌜ r ≡ stepsIn d ⌝ }
+{
+    STEPS_A_PHASE * d.phases as u16
+}
+
+// The phases of an order; 0 where it is unknown.
+pub fn phases(order: u8) -> u8
+    ensures { λ r. ⌜ r ≡ phasesOf order ⌝ }
+{
+    find(order).phases
+}
+
+// The approaches that an order uses, bit 0 for A, on to bit 7 for H; none where it is unknown.
+pub fn approaches(order: u8) -> u8
+    ensures { λ r. ⌜ r ≡ approachesOf order ⌝ }
+{
+    find(order).approaches
+}
+
+// The steps of an order; 0 where it is unknown.
+pub fn steps(order: u8) -> u16
+    ensures { λ r. ⌜ r ≡ stepsOf order ⌝ }
+{
+    steps_in(find(order))
+}
+
+// The row of a step, from 0; past the table's end where there is no such step.
+fn row_number(order: u8, step: u16) -> usize
+    ensures { λ r. ⌜ r ≡ rowNumber order step ⌝ }
+{
+    let d = find(order);
+    if step == 0 {
+        return ROWS;
+    }
+    if steps_in(d) < step {
+        return ROWS;
+    }
+    d.first as usize + (step - 1) as usize
+}
+
+// The steady lamps of a step, the first step being 1; none where there is no such step.
+pub fn steady(order: u8, step: u16) -> u64
+    ensures { λ r. ⌜ r ≡ steadyOf order step ⌝ }
+{
+    let row = row_number(order, step);
+    if row < ROWS {
+        return STEADY[row];
+    }
+    0
+}
+
+// The flashing lamps of a step, the first step being 1; none where there is no such step.
+pub fn flashing(order: u8, step: u16) -> u64
+    ensures { λ r. ⌜ r ≡ flashingOf order step ⌝ }
+{
+    let row = row_number(order, step);
+    if row < ROWS {
+        return FLASHING[row];
+    }
+    0
+}
