@@ -1,0 +1,4 @@
+pub mod Laws
+pub mod Run
+pub mod Window
+pub mod TooFew

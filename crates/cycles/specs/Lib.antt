@@ -1,0 +1,4 @@
+pub mod Machine
+pub mod Cycles
+pub mod Ways
+pub mod Promises

@@ -1,0 +1,1 @@
+// Demand 3 in the abstract. There is nothing to run: the definitions stand in specs/, the theorems in proofs/.
