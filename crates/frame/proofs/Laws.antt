@@ -4,13 +4,13 @@ use mathlib.Core.Path.{_≡_, refl, sym, ap, _∙_}
 use mathlib.Core.Bool.{Bool, true, false}
 use mathlib.Core.List.{List, [], _∷_, _++_, append-assoc}
 use native.Mathlib.Omega.{arith}
-use borrow.Author.Tests.{leb-true, eq-eqb, ne-eqb, le-leb, lt-leb}
-use native.Mathlib.Decide.{decLe}
+use borrow.Author.Tests.{leb-true, eq-eqb, ne-eqb}
 use lib.Dec.{leb, ltb, eqb}
 use lib.ListN.{length, take, drop, getD, length-append}
 use Rattle.octets.specs.ExclusiveOr.{exclusiveOr}
 use Rattle.octets.specs.Choice.{both}
-use Rattle.octets.specs.Put.{Stored}
+use Rattle.octets.specs.Writing.{Wrote, writtenAs, refusedAs}
+use Rattle.octets.specs.declared.Written.{Written}
 use Rattle.octets.proofs.Laws.{exclusive-or-append, both-left, both-right, drop-next}
 use Rattle.frame.specs.declared.Kind.{Kind}
 use Rattle.frame.specs.declared.Kind.the-variants.{Message, Ack, Nak}
@@ -18,12 +18,11 @@ use Rattle.frame.specs.declared.decoder.Place.{Place}
 use Rattle.frame.specs.declared.decoder.Head.{Head}
 use Rattle.frame.specs.declared.decoder.Decoder.{Decoder}
 use Rattle.frame.specs.Frame.{Frame, message, ack, nak, infoLeast, infoMost, messageLen, ackLen, nakLen, lenFits, infoFits, front, frontOf, bodyOf, sentOf, cksOf, twice, doubled, written}
-use Rattle.frame.specs.Writer.{Wrote, writtenAs, writeOf, refusedAs}
-use Rattle.frame.specs.declared.writer.Written.{Written}
+use Rattle.frame.specs.Writer.{writeOf}
 use Rattle.frame.specs.Decoder.{infoDue, infoWhole, possibleOf, possibleAt, stepOf, stepAt, cksIn, frontIn, takenOf, idledOf, unsound, foundAt, moved, headOf, lenJudged, afterLen, refusedBy}
 use Rattle.frame.specs.declared.decoder.Place.the-variants.{Idle}
 use Rattle.frame.specs.declared.decoder.Found.the-variants.{Nothing}
-use Rattle.octets.specs.Refusal.{lenWrong, infoWrong, outputShort}
+use Rattle.octets.specs.Refusal.{lenWrong, infoWrong}
 
 -- Frame
 
@@ -65,23 +64,6 @@ module _ (s a : ℕ) {f : List ℕ} {x : ℕ} where
 
 pub info-most : (n : ℕ) → both (leb infoLeast n) (leb n infoMost) ≡ true → n ≤ infoMost
 info-most n h = leb-true n infoMost (both-right (leb infoLeast n) (leb n infoMost) h)
-
-pub room-left : (n at k : ℕ) → at ≤ n → leb k (n - at) ≡ leb (at + k) n
-room-left n at k h = by (decLe (at + k) n)
-  where
-    by : Dec (at + k ≤ n) → leb k (n - at) ≡ leb (at + k) n
-    by (yes l) = le-leb k (n - at) (omega arith) ∙ sym (le-leb (at + k) n l)
-    by (no g) = lt-leb k (n - at) (omega arith) ∙ sym (lt-leb (at + k) n (omega arith))
-
-module _ (vs out : List ℕ) (at : ℕ) where
-  pub written-9 : {n : ℕ} → n ≡ length vs → leb (at + n) (length out) ≡ false → writtenAs vs at out ≡ refusedAs outputShort out
-  unfolding writtenAs
-  written-9 e h = rw (← e, h)
-
-  pub written-done : {n r : ℕ} {o : List ℕ} → n ≡ length vs → Stored vs at out r o → Wrote (writtenAs vs at out) (record { refusal = 0; count = n }) o
-  unfolding writtenAs
-  written-done e p =
-      rw (le-leb (at + length vs) (length out) (omega (arith, p .place, p .fits))) (record { answer = ap (λ (k : ℕ). record { refusal = 0; count = k }) e; out = p .holds })
 
 module _ (f : Frame) (out : List ℕ) (at : ℕ) where
   pub write-4 : infoFits f ≡ false → writeOf f at out ≡ refusedAs infoWrong out

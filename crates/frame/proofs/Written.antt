@@ -4,16 +4,15 @@ use mathlib.Core.Path.{_≡_, refl, sym, ap, _∙_}
 use mathlib.Core.Bool.{Bool, true, false}
 use mathlib.Core.List.{List, [], _∷_, _++_, append-assoc}
 use native.Mathlib.Omega.{arith}
-use borrow.Author.Tests.{leb-true}
-use lib.Dec.{leb}
 use lib.ListN.{length, take, drop, getD, length-append}
-use lib.Seq.{sets, sets-eq, getD-append-seam}
+use lib.Seq.{getD-append-seam}
 use Rattle.octets.specs.ExclusiveOr.{exclusiveOr}
+use Rattle.octets.specs.Writing.{Leaves}
 use Rattle.octets.specs.Word.{highOf, lowOf, wordOf}
-use Rattle.octets.proofs.Laws.{pick-by, exclusive-or-closed, word-back}
+use Rattle.octets.proofs.Laws.{pick-by, exclusive-or-closed, word-back, written-leaves}
 use Rattle.frame.specs.Frame.{Frame, message, ack, nak, lenOf, messageLen, infoFits, frontOf, bodyOf, sentOf, cksOf, undoubled, written}
-use Rattle.frame.specs.Writer.{Writing, writeOf, writtenAs}
-use Rattle.frame.specs.Promises.{LenCounts, CksCovers, Leaves, WritersLeave}
+use Rattle.frame.specs.Writer.{writeOf}
+use Rattle.frame.specs.Promises.{LenCounts, CksCovers, WritersLeave}
 use Rattle.frame.proofs.Reading.{whole}
 
 undoubled-length : (f : Frame) → length (undoubled f) ≡ lenOf f
@@ -36,10 +35,8 @@ unfolding undoubled cksOf
 cks-covers f = (rw (← append-assoc (frontOf f) (bodyOf f) (cksOf f ∷ [])) (exclusive-or-closed (frontOf f ++ bodyOf f)), rw (whole f) (last-of (frontOf f ++ sentOf f) (cksOf f)))
 
 pub writers-leave : WritersLeave
-unfolding writeOf writtenAs
+unfolding writeOf
 writers-leave f at out =
-    pick-by (Leaves f at out) (infoFits f)
-    (λ _. pick-by (Leaves f at out) (leb (at + length (written f)) (length out))
-    (λ t. record { refused = λ p. absurd (p refl); stored = λ _. (sets-eq (written f) out at (leb-true (at + length (written f)) (length out) t) ∙ append-assoc (take at out) (written f) (drop (at + length (written f)) out), refl) })
-    (λ _. record { refused = λ _. (refl, refl); stored = λ p. absurd (omega arith) }))
+    pick-by (Leaves (written f) at out) (infoFits f)
+    (λ _. written-leaves (written f) out at)
     (λ _. record { refused = λ _. (refl, refl); stored = λ p. absurd (omega arith) })

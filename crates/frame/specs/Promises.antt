@@ -3,11 +3,12 @@ use Prim.Native.Nat.{ℕ, _+_, _-_, _<_}
 use mathlib.Core.Path.{_≡_}
 use mathlib.Core.Bool.{true, false}
 use mathlib.Core.List.{List, [], _∷_, _++_}
-use lib.ListN.{length, take, drop, replicate, getD}
+use lib.ListN.{length, replicate, getD}
 use Rattle.octets.specs.ExclusiveOr.{exclusiveOr}
 use Rattle.octets.specs.Octet.{Octets}
 use Rattle.octets.specs.Refusal as refusal
 use Rattle.octets.specs.Word.{wordOf}
+use Rattle.octets.specs.Writing.{Leaves}
 use Rattle.frame.specs.declared.Kind.{Kind}
 use Rattle.frame.specs.declared.Kind.the-variants.{Message, Ack, Nak}
 use Rattle.frame.specs.declared.decoder.Place.{Place}
@@ -15,7 +16,7 @@ use Rattle.frame.specs.declared.decoder.Place.the-variants.{Idle, LoneAa
 use Rattle.frame.specs.declared.decoder.Decoder.{Decoder}
 use Rattle.frame.specs.Frame.{Frame, message, ack, nak, messageLen, InOctets, kindOf, seqOf, addrOf, lenFits, lenOf, infoFits, front, frontOf, sentOf, doubled, cksOf, undoubled, written}
 use Rattle.frame.specs.Decoder.{headOf, possibleOf, freshDecoder, takenOf, idledOf}
-use Rattle.frame.specs.Writer.{Writing, writeOf}
+use Rattle.frame.specs.Writer.{writeOf}
 use Rattle.frame.specs.Run.{Outcome, nothing, refused, sound, outcomeOf, outcomes, after, AtRest, NothingDropped}
 
 -- A fresh decoder is possible, and whatever octet comes, or the line falls idle, a possible one stays so: no refusal 7
@@ -37,14 +38,9 @@ LenCounts = (f : Frame) → (length (undoubled f) ≡ lenOf f) × (wordOf (getD 
 abbrev pub CksCovers : Type 0
 CksCovers = (f : Frame) → (exclusiveOr 0 (undoubled f) ≡ 0) × (getD (written f) (length (written f) - 1) 0 ≡ cksOf f)
 
--- A writer that refuses writes nothing and counts nothing; one that writes stores the frame from `at` on, and "the output
--- beyond stays", as does what stands before it.
-pub record Leaves (f : Frame) (at : ℕ) (out : List ℕ) (w : Writing) : Type 0 where
-  pub refused : (w .answer .refusal ≡ refusal.none → ⊥) → (w .out ≡ out) × (w .answer .count ≡ 0)
-  pub stored : w .answer .refusal ≡ refusal.none → (w .out ≡ take at out ++ (written f ++ drop (at + length (written f)) out)) × (w .answer .count ≡ length (written f))
-
+-- "nothing written"; "A call writes only the octets that its result counts; the output beyond them stays."
 abbrev pub WritersLeave : Type 0
-WritersLeave = (f : Frame) (at : ℕ) (out : List ℕ) → Leaves f at out (writeOf f at out)
+WritersLeave = (f : Frame) (at : ℕ) (out : List ℕ) → Leaves (written f) at out (writeOf f at out)
 
 -- Reading undoes writing: octet by octet, from idle, a frame as written brings nothing before its last octet and the
 -- frame itself with it; "the end of a sound frame also leaves it idle, with no AA remembered".

@@ -7,7 +7,8 @@ ghost use lib.ListN.{length};
 ghost use Rattle.octets.specs.Choice.{both};
 ghost use Rattle.octets.specs.Put.{Stored};
 ghost use Rattle.frame.specs.Frame.{message, ack, nak, twice, doubled, infoLeast, infoMost};
-ghost use Rattle.frame.specs.Writer.{Wrote, writeOf, writtenAs};
+ghost use Rattle.octets.specs.Writing.{Wrote, writtenAs};
+ghost use Rattle.frame.specs.Writer.{writeOf};
 use crate::AA;
 use crate::ACK_LEN;
 use crate::CC;
@@ -16,12 +17,8 @@ use crate::INFO_MOST;
 use crate::Kind;
 use crate::MESSAGE_LEN;
 use crate::NAK_LEN;
+use octets::Written;
 use octets::refusal;
-
-pub struct Written {
-    pub refusal: u8,
-    pub count: usize,
-}
 
 // A message frame. INFO that is not 2 to 256 long is refused before the output is looked at.
 pub fn write_message(seq: u8, addr: u16, info: &[u8], out: &mut [u8], at: usize) -> Written
@@ -71,7 +68,7 @@ fn write_parts(front: &[u8], info: &[u8], end: &[u8], out: &mut [u8], at: usize)
     ensures { λ r. ⌜ Wrote (writtenAs (now (front .entry) ++ (doubled (now (info .entry)) ++ now (end .entry))) at (now (out .entry))) r (now (out .exit)) ⌝ }
 {
     let n = front.len() + doubled_len(info) + end.len();
-    if !room(out.len(), at, n) {
+    if !octets::room(out.len(), at, n) {
         return Written {
             refusal: refusal::OUTPUT_SHORT,
             count: 0,
@@ -84,16 +81,6 @@ fn write_parts(front: &[u8], info: &[u8], end: &[u8], out: &mut [u8], at: usize)
         refusal: refusal::NONE,
         count: n,
     }
-}
-
-// Is there room for n octets from `at` on in an output of `len`?
-fn room(len: usize, at: usize, n: usize) -> bool
-    ensures { λ r. ⌜ r ≡ leb (at + n) len ⌝ }
-{
-    if len < at {
-        return false;
-    }
-    n <= len - at
 }
 
 // How many octets INFO is as sent.

@@ -6,6 +6,7 @@ use Rattle.octets.proofs.low.Reads as low
 use Rattle.octets.proofs.word.Reads as word
 use Rattle.octets.proofs.exclusive_or.Reads as exclusive-or
 use Rattle.octets.proofs.put.Reads as put
+use Rattle.octets.proofs.room.Reads as room
 use Rattle.octets.proofs.body.Reads as body
 
 only-high : (κs : _) (a : _) (r s : _) (x y : _) → high.Post κs a r x → high.Post κs a s y → r ≡ s
@@ -22,6 +23,9 @@ only-exclusive-or κs a r s x y p q = p ∙ sym q
 
 only-put : (κs : _) (a : _) (r s : _) (x y : _) → put.Post κs a r x → put.Post κs a s y → (r ≡ s) × (now (x .1 .0) ≡ now (y .1 .0))
 only-put κs a r s x y p q = (p .place ∙ sym (q .place), p .holds ∙ sym (q .holds))
+
+only-room : (κs : _) (a : _) (r s : _) (x y : _) → room.Post κs a r x → room.Post κs a s y → r ≡ s
+only-room κs a r s x y p q = p ∙ sym q
 
 only-body : (κs : _) (a : _) (r s : _) (x y : _) → body.Post κs a r x → body.Post κs a s y → (r .ptr ≡ s .ptr) × (now r ≡ now s)
 only-body κs a r s x y p q = (p .place ∙ sym (q .place), p .octets ∙ sym (q .octets))

@@ -4,5 +4,6 @@ pub mod Octet
 pub mod Word
 pub mod ExclusiveOr
 pub mod Put
+pub mod Writing
 pub mod Part
 pub mod First

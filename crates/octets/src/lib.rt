@@ -3,6 +3,7 @@ pub mod refusal;
 
 ghost use mathlib.Core.Path.{_≡_};
 ghost use Prim.Native.Nat.{_+_, _≤_};
+ghost use lib.Dec.{leb};
 ghost use lib.ListN.{length};
 ghost use Rattle.octets.specs.Word.{highOf, lowOf, wordOf};
 ghost use Rattle.octets.specs.ExclusiveOr.{exclusiveOr};
@@ -68,6 +69,22 @@ fn store(s: &[u8], out: &mut [u8], at: usize) -> usize
         p += 1;
     }
     p
+}
+
+// What a writer answers: the refusal, and how many octets it stored.
+pub struct Written {
+    pub refusal: u8,
+    pub count: usize,
+}
+
+// Is there room for n octets from `at` on in an output of `len`?
+pub fn room(len: usize, at: usize, n: usize) -> bool
+    ensures { λ r. ⌜ r ≡ leb (at + n) len ⌝ }
+{
+    if len < at {
+        return false;
+    }
+    n <= len - at
 }
 
 // 01, "Messages": "the octets after the two of the code are handed on as a part".

@@ -6,9 +6,8 @@ use native.Mathlib.Omega.{arith}
 use borrow.Author.Needs.{needs}
 use borrow.Author.Tests.{leb-true, not-true, not-false}
 use lib.ListN.{length, length-append}
-use Rattle.octets.proofs.Laws.{put-stored, stored-then}
+use Rattle.octets.proofs.Laws.{put-stored, stored-then, written-9, written-done}
 use Rattle.frame.specs.Frame.{doubled}
-use Rattle.frame.proofs.Laws.{written-9, written-done}
 use Rattle.frame.proofs.writer.write_parts.Statement.{statement}
 use Rattle.frame.proofs.writer.write_parts.Tie as tie
 

@@ -1,11 +1,11 @@
--- `frame::writer::room` meets its contract: the difference is taken only where it does not wrap.
+-- `octets::room` meets its contract: the difference is taken only where it does not wrap.
 use Prim.Native.Nat.{_+_}
 use mathlib.Core.Path.{sym}
 use native.Mathlib.Omega.{arith}
 use borrow.Author.Tests.{lt-leb}
-use Rattle.frame.proofs.Laws.{room-left}
-use Rattle.frame.proofs.writer.room.Statement.{statement}
-use Rattle.frame.proofs.writer.room.Tie as tie
+use Rattle.octets.proofs.Laws.{room-left}
+use Rattle.octets.proofs.room.Statement.{statement}
+use Rattle.octets.proofs.room.Tie as tie
 
 pub room-spec : {M : Type 1} → statement M
 room-spec =
