@@ -1,0 +1,170 @@
+-- The rows of a layout, and how the code's table keeps them.
+use Prim.Native.Nat.{ℕ, zero, suc, _+_, _*_, _-_, _%_, _≤_, _<_}
+use mathlib.Core.Path.{_≡_, refl, sym, ap, _∙_}
+use mathlib.Core.Bool.{Bool, true}
+use mathlib.Core.List.{List, _++_, map, append-assoc}
+use native.Mathlib.Decide.{decLt}
+use native.Mathlib.Nat.{mul-le-mul-right, mul-zero, zero-mul, suc-mul, mod-eq-of-lt, mod-eq-sub-mod}
+use native.Mathlib.Omega.{arith}
+use borrow.Author.Tests.{leb-true}
+use lib.Dec.{leb}
+use lib.ListN.{length, getD, drop, length-append, length-drop, List·getD-append, List·getD-eq-default, List·getD-map}
+use lib.Seq.{getD-take, getD-drop, length-take-le}
+use Rattle.octets.specs.Choice.{both}
+use Rattle.octets.proofs.Laws.{both-left, both-right}
+use Rattle.diagram.proofs.Every.{every, every-at}
+use Rattle.message.specs.declared.layout.Entry.{Entry}
+use Rattle.message.specs.declared.layout.Field.{Field}
+use Rattle.message.specs.declared.layout.Layout.{Layout}
+use Rattle.message.specs.Fields.{noField}
+use Rattle.message.specs.Layouts as specified
+use Rattle.message.specs.Layouts.{layouts, layoutAt, noLayout, mostAt, rowsOf, rowsAt, kFits, repeated}
+use Rattle.message.specs.Values.{fieldsMost}
+use Rattle.message.specs.Table.{table, tableLen, cut, keptBy, Kept}
+use Rattle.message.proofs.Search.{getD-past}
+
+pub length-repeated : (k : ℕ) (g : List Field) → length (repeated k g) ≡ k * length g
+length-repeated zero g = sym (zero-mul (length g))
+length-repeated (suc k) g = omega (arith, length-append g (repeated k g), length-repeated k g, suc-mul k (length g))
+
+pub repeated-at : (k : ℕ) (g t : List Field) (j : ℕ) → j < k * length g → getD (repeated k g ++ t) j noField ≡ getD g (j % length g) noField
+repeated-at zero g t j h = absurd (omega (arith, zero-mul (length g)))
+repeated-at (suc k) g t j h = rw append-assoc (by (decLt j (length g)) (λ p. repeated-at k g t (j - length g) p))
+  where
+    by : Dec (j < length g) → (j - length g < k * length g → getD (repeated k g ++ t) (j - length g) noField ≡ getD g ((j - length g) % length g) noField)
+        → getD (g ++ (repeated k g ++ t)) j noField ≡ getD g (j % length g) noField
+    by (yes l) r = rw (List·getD-append g (repeated k g ++ t) noField j l, mod-eq-of-lt l)
+    by (no m) r =
+        let p : length g ≤ j = omega arith in
+        rw (getD-past g (repeated k g ++ t) noField j p, mod-eq-sub-mod p) (r (omega (arith, suc-mul k (length g))))
+
+pub some-repeated : (k n : ℕ) {j : ℕ} → j < k * n → 0 < n
+some-repeated k zero h = absurd (omega (arith, mul-zero k))
+some-repeated k (suc n) h = omega arith
+
+-- the rows of a layout, as the code's table keeps them
+module _ (from n : ℕ) (h : from + n ≤ tableLen) where
+  pub length-cut : length (cut from n) ≡ n
+  unfolding cut table
+  length-cut = length-take-le n (drop from table) (simp length-drop (omega arith))
+
+  pub cut-at : (i : ℕ) → i < n → getD (cut from n) i noField ≡ getD table (from + i) noField
+  unfolding cut
+  cut-at i l = rw (getD-take, getD-drop)
+
+  pub cut-past : (i : ℕ) → n ≤ i → getD (cut from n) i noField ≡ noField
+  cut-past i l = List·getD-eq-default (cut from n) noField (rw length-cut l)
+
+module _ (y : Layout) (k i : ℕ) (h : y .from + y .head + y .group + y .tail ≤ tableLen) where
+  head-len : length (cut (y .from) (y .head)) ≡ y .head
+  head-len = length-cut (y .from) (y .head) (omega arith)
+
+  group-len : length (cut (y .from + y .head) (y .group)) ≡ y .group
+  group-len = length-cut (y .from + y .head) (y .group) (omega arith)
+
+  tail-len : length (cut (y .from + y .head + y .group) (y .tail)) ≡ y .tail
+  tail-len = length-cut (y .from + y .head + y .group) (y .tail) (omega arith)
+
+  pub rows-len : y .head + k * y .group + y .tail ≡ length (rowsOf (keptBy y) k)
+  unfolding rowsOf
+  rows-len = simp (length-append, length-repeated, head-len, group-len, tail-len) (omega arith)
+
+  pub row-head : i < y .head → getD (cut (y .from) (y .head)) i noField ≡ getD (rowsOf (keptBy y) k) i noField
+  unfolding rowsOf
+  row-head l = sym (List·getD-append (cut (y .from) (y .head)) _ noField i (rw head-len l))
+
+  module _ (m : y .head ≤ i) where
+    past-head : getD (rowsOf (keptBy y) k) i noField
+        ≡ getD (repeated k (cut (y .from + y .head) (y .group)) ++ cut (y .from + y .head + y .group) (y .tail)) (i - y .head) noField
+    unfolding rowsOf
+    past-head = getD-past (cut (y .from) (y .head)) _ noField i (rw head-len m) ∙ rw head-len
+
+    pub row-group : i - y .head < k * y .group → getD (cut (y .from + y .head) (y .group)) ((i - y .head) % y .group) noField ≡ getD (rowsOf (keptBy y) k) i noField
+    row-group l = rw past-head (sym (rw group-len at (repeated-at k (cut (y .from + y .head) (y .group)) (cut (y .from + y .head + y .group) (y .tail)) (i - y .head) (rw group-len l))))
+
+    pub row-tail : k * y .group ≤ i - y .head
+        → getD (cut (y .from + y .head + y .group) (y .tail)) (i - y .head - k * y .group) noField ≡ getD (rowsOf (keptBy y) k) i noField
+    row-tail l =
+        let e : length (repeated k (cut (y .from + y .head) (y .group))) ≡ k * y .group = length-repeated k (cut (y .from + y .head) (y .group)) ∙ rw group-len in
+        rw past-head (sym (rw e at (getD-past (repeated k (cut (y .from + y .head) (y .group))) (cut (y .from + y .head + y .group) (y .tail)) noField (i - y .head) (rw e l))))
+
+-- The code's table of layouts
+
+abbrev pub noEntry : Entry
+noEntry = (0, 0, 0, 0, 0, 0, 0, 0)
+
+abbrev pub named : Entry → Layout
+named e = record { code = e .0; from = e .1; head = e .2; group = e .3; tail = e .4; count = e .5; fewest = e .6; most = e .7 }
+
+abbrev pub inside : Entry → Bool
+inside e = leb (e .1 + e .2 + e .3 + e .4) tableLen
+
+-- a list of lines that cuts out the layouts, one by one, keeps each under its number
+module _ (es : List Entry) (cuts : map (λ (e : Entry). keptBy (named e)) es ≡ layouts) (inner : every inside es ≡ true) (l : ℕ) where
+  pub kept : Kept l (named (getD es l noEntry))
+  unfolding layoutAt cut
+  kept =
+      record {
+        is = sym (List·getD-map (λ (e : Entry). keptBy (named e)) es l noEntry) ∙ ap (λ (ls : List _). getD ls l noLayout) cuts;
+        inside = leb-true _ _ (every-at inside es l noEntry inner (λ _. refl));
+      }
+
+pub kept-none : {l : ℕ} → length layouts ≤ l → Kept l (named noEntry)
+unfolding layoutAt cut
+kept-none {l} h = record { is = sym (List·getD-eq-default layouts noLayout h); inside = omega arith }
+
+pub kept-code : {l : ℕ} {y : Layout} → Kept l y → y .code ≡ layoutAt l .code
+kept-code h = ap (λ (l : specified.Layout). l .code) (h .is)
+
+pub kept-count : {l : ℕ} {y : Layout} → Kept l y → y .count ≡ layoutAt l .count
+kept-count h = ap (λ (l : specified.Layout). l .count) (h .is)
+
+module _ {l : ℕ} {y : Layout} (h : Kept l y) (k : ℕ) where
+  pub kept-fits : both (leb (y .fewest) k) (leb k (y .most)) ≡ kFits (layoutAt l) k
+  kept-fits = rw (← h .is)
+
+  pub kept-len : y .head + k * y .group + y .tail ≡ length (rowsAt l k)
+  unfolding rowsAt
+  kept-len = rw (← h .is) (rows-len y k 0 (h .inside))
+
+  module _ (i : ℕ) where
+    pub kept-head : i < y .head → getD (cut (y .from) (y .head)) i noField ≡ getD (rowsAt l k) i noField
+    unfolding rowsAt
+    kept-head p = rw (← h .is) (row-head y k i (h .inside) p)
+
+    pub kept-group : y .head ≤ i → i - y .head < k * y .group
+        → getD (cut (y .from + y .head) (y .group)) ((i - y .head) % y .group) noField ≡ getD (rowsAt l k) i noField
+    unfolding rowsAt
+    kept-group p q = rw (← h .is) (row-group y k i (h .inside) p q)
+
+    pub kept-tail : y .head ≤ i → k * y .group ≤ i - y .head
+        → getD (cut (y .from + y .head + y .group) (y .tail)) (i - y .head - k * y .group) noField ≡ getD (rowsAt l k) i noField
+    unfolding rowsAt
+    kept-tail p q = rw (← h .is) (row-tail y k i (h .inside) p q)
+
+-- What holds of every layout
+
+abbrev pub fitting : specified.Layout → Bool
+fitting y = both (leb (length (y .head) + y .most * length (y .group) + length (y .tail)) fieldsMost) (leb (y .count) (length (y .head)))
+
+fitting-at : (l : ℕ) → fitting (layoutAt l) ≡ true
+unfolding layouts layoutAt every
+fitting-at l = every-at fitting layouts l noLayout refl (λ _. refl)
+
+pub rows-length : (y : specified.Layout) (k : ℕ) → length (rowsOf y k) ≡ length (y .head) + k * length (y .group) + length (y .tail)
+unfolding rowsOf
+rows-length y k = simp (length-append, length-repeated) (omega arith)
+
+pub rows-most : (l k : ℕ) → k ≤ mostAt l → length (rowsAt l k) ≤ fieldsMost
+unfolding rowsAt
+rows-most l k h =
+    let y = layoutAt l in
+    let n = length (y .head) + y .most * length (y .group) + length (y .tail) in
+    let t : n ≤ fieldsMost = leb-true n fieldsMost (both-left (leb n fieldsMost) (leb (y .count) (length (y .head))) (fitting-at l)) in
+    omega (arith, rows-length y k, mul-le-mul-right (length (y .group)) h)
+
+pub count-head : (l : ℕ) → layoutAt l .count ≤ length (layoutAt l .head)
+count-head l =
+    let y = layoutAt l in
+    let n = length (y .head) + y .most * length (y .group) + length (y .tail) in
+    leb-true (y .count) (length (y .head)) (both-right (leb n fieldsMost) (leb (y .count) (length (y .head))) (fitting-at l))

@@ -1,0 +1,15 @@
+pub mod Search
+pub mod Layouts
+pub mod Values
+pub mod Reading
+pub mod Writing
+pub mod Ranges
+pub mod Fitting
+pub mod Numbers
+pub mod ReadSo
+pub mod Accepted
+pub mod Places
+pub mod WrittenSo
+pub mod RoundTrips
+pub mod Cases
+pub mod Only

@@ -1,0 +1,212 @@
+-- The layouts hold what 01's table lists, each field under its number and at its place.
+use Prim.Native.Nat.{ℕ, zero, suc, _+_, _*_, _-_, _≤_, _<_}
+use mathlib.Core.Path.{_≡_, refl, sym, ap, _∙_}
+use mathlib.Core.Bool.{false}
+use mathlib.Core.List.{List, [], _∷_, _++_, append-assoc}
+use native.Mathlib.Nat.{mul-le-mul-right, zero-mul, suc-mul}
+use native.Mathlib.Omega.{arith}
+use lib.ListN.{length, getD, take, drop, length-append, List·getD-append}
+use lib.Seq.{getD-append-add, drop-append-add, getD-drop, take-add, take-append-add, take-append-le}
+use Rattle.octets.specs.First.{firstOf}
+use Rattle.message.specs.declared.layout.Field.{Field}
+use Rattle.message.specs.Fields as field
+use Rattle.message.specs.Fields.{twoOf, noField}
+use Rattle.message.specs.Layouts.{layouts, layoutAt, numberOf, codes, rowsAt, rowsOf, repeated, times, greens, cycleOffset}
+use Rattle.message.specs.Values.{sizeOf, startOf}
+use Rattle.message.specs.Promises.{CodesListed, Stands, PhaseFields, GreenFields, TimesFields, PlanFields, OnePlan, FieldNumbers, StoredParts}
+use Rattle.message.proofs.Search.{search-first}
+use Rattle.message.proofs.Layouts.{length-repeated}
+
+pub codes-listed : CodesListed
+unfolding numberOf
+codes-listed c = search-first _ codes
+
+size-append : (fs gs : List Field) → sizeOf (fs ++ gs) ≡ sizeOf fs + sizeOf gs
+size-append [] gs = omega arith
+size-append (f ∷ fs) gs = omega (arith, size-append fs gs)
+
+size-repeated : (g : List Field) (k : ℕ) → sizeOf (repeated k g) ≡ k * sizeOf g
+size-repeated g zero = sym (zero-mul (sizeOf g))
+size-repeated g (suc k) = omega (arith, size-append g (repeated k g), size-repeated g k, suc-mul k (sizeOf g))
+
+module _ (g t : List Field) where
+  drop-repeated : (k i : ℕ) → i ≤ k → drop (i * length g) (repeated k g ++ t) ≡ repeated (k - i) g ++ t
+  drop-repeated k zero h = let e : k ≡ k - 0 = omega arith in rw (zero-mul (length g)) (ap (λ (n : ℕ). repeated n g ++ t) e)
+  drop-repeated zero (suc i) h = absurd (omega arith)
+  drop-repeated (suc k) (suc i) h =
+      let e : suc i * length g ≡ length g + i * length g = omega (arith, suc-mul i (length g)) in
+      let d : k - i ≡ suc k - suc i = omega arith in
+      rw (append-assoc, e, drop-append-add g (repeated k g ++ t) (i * length g), ← d) (drop-repeated k i (omega arith))
+
+  take-repeated : (k i : ℕ) → i ≤ k → sizeOf (take (i * length g) (repeated k g ++ t)) ≡ i * sizeOf g
+  take-repeated k zero h = rw (zero-mul (length g), zero-mul (sizeOf g))
+  take-repeated zero (suc i) h = absurd (omega arith)
+  take-repeated (suc k) (suc i) h =
+      let e : suc i * length g ≡ length g + i * length g = omega (arith, suc-mul i (length g)) in
+      rw (append-assoc, e, take-append-add g (repeated k g ++ t) (i * length g))
+      (omega (arith, size-append g (take (i * length g) (repeated k g ++ t)), take-repeated k i (omega arith), suc-mul i (sizeOf g)))
+
+  -- what stands j places on from the i-th time
+  module _ (k i : ℕ) (h : i ≤ k) (j : ℕ) where
+    there : getD (repeated k g ++ t) (i * length g + j) noField ≡ getD (repeated (k - i) g ++ t) j noField
+    there = sym (getD-drop (i * length g) (repeated k g ++ t) j noField) ∙ ap (λ (l : List Field). getD l j noField) (drop-repeated k i h)
+
+    start : sizeOf (take (i * length g + j) (repeated k g ++ t)) ≡ i * sizeOf g + sizeOf (take j (repeated (k - i) g ++ t))
+    start =
+        rw (take-add (i * length g) j (repeated k g ++ t), size-append, drop-repeated k i h, take-repeated k i h)
+
+-- a field of the head, of the group and of the tail of a layout
+module _ (hs g t : List Field) (k : ℕ) where
+  abbrev rows : List Field
+  rows = hs ++ (repeated k g ++ t)
+
+  many : length rows ≡ length hs + k * length g + length t
+  many = omega (arith, length-append hs (repeated k g ++ t), length-append (repeated k g) t, length-repeated k g)
+
+  size : sizeOf rows ≡ sizeOf hs + k * sizeOf g + sizeOf t
+  size = omega (arith, size-append hs (repeated k g ++ t), size-append (repeated k g) t, size-repeated g k)
+
+  in-head : (j : ℕ) → j < length hs → {n s : ℕ} → n ≡ j + 1 → s ≡ sizeOf (take j hs) → Stands rows n (getD hs j noField) s
+  in-head j l en es =
+      record {
+        place = j;
+        number = en;
+        within = omega (arith, many);
+        there = List·getD-append hs (repeated k g ++ t) noField j l;
+        start = rw (take-append-le j hs (repeated k g ++ t) (omega arith)) (sym es);
+      }
+
+  -- j places on from the i-th time
+  past-head : (i : ℕ) → i ≤ k → (j : ℕ) → i * length g + j < k * length g + length t → {n s : ℕ} {f : Field} → n ≡ length hs + (i * length g + j) + 1
+      → getD (repeated (k - i) g ++ t) j noField ≡ f → sizeOf hs + (i * sizeOf g + sizeOf (take j (repeated (k - i) g ++ t))) ≡ s → Stands rows n f s
+  past-head i h j l en ef es =
+      record {
+        place = length hs + (i * length g + j);
+        number = en;
+        within = omega (arith, many);
+        there = getD-append-add hs (repeated k g ++ t) (i * length g + j) noField ∙ there g t k i h j ∙ ef;
+        start =
+            rw (take-append-add hs (repeated k g ++ t) (i * length g + j))
+            (omega (arith, size-append hs (take (i * length g + j) (repeated k g ++ t)), start g t k i h j, es));
+      }
+
+  in-group : (i : ℕ) → i < k → (j : ℕ) → j < length g → {n s : ℕ} → n ≡ length hs + (i * length g + j) + 1 → s ≡ sizeOf hs + (i * sizeOf g + sizeOf (take j g))
+      → Stands rows n (getD g j noField) s
+  in-group i h j l en es =
+      let e : k - i ≡ suc (k - suc i) = omega arith in
+      let a : repeated (k - i) g ++ t ≡ g ++ (repeated (k - suc i) g ++ t) = rw (e, append-assoc) in
+      let more : i * length g + length g ≤ k * length g = omega (arith, suc-mul i (length g), mul-le-mul-right (length g) h) in
+      past-head i (omega arith) j (omega arith) en (rw a (List·getD-append g (repeated (k - suc i) g ++ t) noField j l))
+      (rw (a, take-append-le j g (repeated (k - suc i) g ++ t) (omega arith)) (sym es))
+
+  in-tail : (j : ℕ) → j < length t → {n s : ℕ} → n ≡ length hs + (k * length g + j) + 1 → s ≡ sizeOf hs + (k * sizeOf g + sizeOf (take j t)) → Stands rows n (getD t j noField) s
+  in-tail j l en es =
+      let e : k - k ≡ 0 = omega arith in
+      let a : repeated (k - k) g ++ t ≡ t = rw e in
+      past-head k (omega arith) j (omega arith) en (rw a) (rw a (sym es))
+
+-- the fields of a phase, and the greens, the cycle and the offset, after any head
+module _ (hs : List Field) (k : ℕ) where
+  phase : (i : ℕ) → i < k → {n s : ℕ} → n ≡ length hs + 6 * i + 1 → s ≡ sizeOf hs + 7 * i → PhaseFields (hs ++ (repeated k times ++ [])) n s
+  phase i h en es =
+      record {
+        minimum = in-group hs times [] k i h 0 (omega arith) (omega arith) (omega arith);
+        maximum = in-group hs times [] k i h 1 (omega arith) (omega arith) (omega arith);
+        yellow = in-group hs times [] k i h 2 (omega arith) (omega arith) (omega arith);
+        allRed = in-group hs times [] k i h 3 (omega arith) (omega arith) (omega arith);
+        walkFlash = in-group hs times [] k i h 4 (omega arith) (omega arith) (omega arith);
+        redMan = in-group hs times [] k i h 5 (omega arith) (omega arith) (omega arith);
+      }
+
+  green : {n s : ℕ} → n ≡ length hs + 1 → s ≡ sizeOf hs → GreenFields k (hs ++ (repeated k greens ++ cycleOffset)) n s
+  green en es =
+      record {
+        green = λ i h. in-group hs greens cycleOffset k i h 0 (omega arith) (omega arith) (omega arith);
+        cycle = in-tail hs greens cycleOffset k 0 (omega arith) (omega arith) (omega arith);
+        offset = in-tail hs greens cycleOffset k 1 (omega arith) (omega arith) (omega arith);
+      }
+
+module _ (p : Field) (one : twoOf p ≡ false) (k : ℕ) where
+  abbrev timesHead : List Field
+  timesHead = p ∷ field.count ∷ []
+
+  times-two : sizeOf timesHead ≡ 2
+  times-two = rw one
+
+  times-fields : TimesFields p k (timesHead ++ (repeated k times ++ []))
+  times-fields =
+      record {
+        many = omega (arith, many timesHead times [] k);
+        size = omega (arith, size timesHead times [] k, times-two);
+        planned = in-head timesHead times [] k 0 (omega arith) refl refl;
+        count = in-head timesHead times [] k 1 (omega arith) refl (rw one);
+        phase = λ i h. phase timesHead k i h (omega arith) (omega (arith, times-two));
+      }
+
+  abbrev planHead : List Field
+  planHead = p ∷ field.direct ∷ field.order ∷ field.count ∷ []
+
+  plan-four : sizeOf planHead ≡ 4
+  plan-four = rw one
+
+  plan-fields : PlanFields p k (planHead ++ (repeated k greens ++ cycleOffset))
+  plan-fields =
+      record {
+        many = omega (arith, many planHead greens cycleOffset k);
+        size = omega (arith, size planHead greens cycleOffset k, plan-four);
+        planned = in-head planHead greens cycleOffset k 0 (omega arith) refl refl;
+        direct = in-head planHead greens cycleOffset k 1 (omega arith) refl (rw one);
+        order = in-head planHead greens cycleOffset k 2 (omega arith) refl (rw one);
+        count = in-head planHead greens cycleOffset k 3 (omega arith) refl (rw one);
+        greens = green planHead k refl (sym plan-four);
+      }
+
+-- a layout with no repeated field
+alone : (fs : List Field) (j : ℕ) {n s : ℕ} → n ≡ j + 1 → j < length fs → startOf fs j ≡ s → Stands fs n (getD fs j noField) s
+alone fs j en l es = record { place = j; number = en; within = l; there = refl; start = es }
+
+abbrev refusalRows : List Field
+refusalRows = field.code ∷ field.errorNumber ∷ field.parameterNumber ∷ []
+
+one-plan : OnePlan (field.plan ∷ [])
+one-plan = record { many = refl; planned = alone (field.plan ∷ []) 0 refl (omega arith) refl }
+
+pub field-numbers : FieldNumbers
+unfolding numberOf firstOf layouts layoutAt rowsAt rowsOf
+field-numbers =
+    record {
+      carriedOut = record { many = refl; answered = alone (field.code ∷ []) 0 refl (omega arith) refl };
+      refused =
+          record {
+            many = refl;
+            answered = alone refusalRows 0 refl (omega arith) refl;
+            error = alone refusalRows 1 refl (omega arith) refl;
+            parameter = alone refusalRows 2 refl (omega arith) refl;
+          };
+      setTimes = λ k. times-fields field.planSet refl k;
+      reportTimes = λ k. times-fields field.plan refl k;
+      setPlan = λ k. plan-fields field.planSet refl k;
+      reportPlan = λ k. plan-fields field.plan refl k;
+      reportRunning = λ k. plan-fields field.plan refl k;
+      run = one-plan;
+      queryTimes = one-plan;
+      queryPlan = one-plan;
+      queryRunning = refl;
+    }
+
+abbrev storedHead : List Field
+storedHead = field.direct ∷ field.order ∷ []
+
+pub stored-parts : StoredParts
+unfolding numberOf firstOf layouts layoutAt rowsAt rowsOf
+stored-parts k =
+    record {
+      times = refl;
+      timesSize = omega (arith, size [] times [] k);
+      phase = λ i h. phase [] k i h (omega arith) (omega arith);
+      plan = refl;
+      planSize = omega (arith, size storedHead greens cycleOffset k);
+      direct = in-head storedHead greens cycleOffset k 0 (omega arith) refl refl;
+      order = in-head storedHead greens cycleOffset k 1 (omega arith) refl refl;
+      greens = green storedHead k refl refl;
+    }

@@ -1,0 +1,135 @@
+-- The reader refuses when, and only when, 01 says so, and names the first field that is wrong.
+use Prim.Native.Nat.{ℕ, zero, suc, _≤_, _<_}
+use mathlib.Core.Path.{_≡_, refl, sym, subst, _∙_}
+use mathlib.Core.Bool.{Bool, true, false}
+use mathlib.Core.List.{List}
+use native.Mathlib.Decide.{decLt, ℕ-discrete}
+use native.Mathlib.Omega.{arith}
+use borrow.Author.Tests.{le-leb, lt-ltb, leb-true, ltb-true}
+use lib.Dec.{leb, ltb}
+use lib.ListN.{length, getD, List·getD-eq-default}
+use Rattle.octets.specs.Part.{codeLen}
+use Rattle.octets.specs.Refusal as refusal
+use Rattle.octets.proofs.Laws.{both-left, both-right, clash}
+use Rattle.message.specs.declared.Read.{Read}
+use Rattle.message.specs.declared.layout.Field.{Field}
+use Rattle.message.specs.Layouts.{layouts, layoutAt, known, numberOf, rowsAt, kFits}
+use Rattle.message.specs.Values.{fieldsMost, sizeOf, valuesOf, placed, firstOut}
+use Rattle.message.specs.Reader.{refusedAs, readAs, kIn, partOf, rangedOf, readPartOf, codeIn, bodyIn, readOf}
+use Rattle.message.specs.Promises.{FirstWrong, Known, RightLength, PartJudged, unknown, wrongLength, outOfRange, accepted, PartsReadSo, Judged, short, body, ReadSo, FirstFieldNamed}
+use Rattle.message.proofs.Layouts.{rows-most}
+use Rattle.message.proofs.Values.{length-values}
+use Rattle.message.proofs.Reading.{most-fits, part-10, part-k, part-length, part-done, ranged-12, ranged-done, read-11, read-body}
+use Rattle.message.proofs.Ranges.{both-true, placed-at, none-out, one-out, out-none, out-one, right-same, wrong-same}
+
+pub known-in : (l : ℕ) → known l ≡ true → Known l
+unfolding known
+known-in l h = record { first = leb-true 1 l (both-left (leb 1 l) (ltb l (length layouts)) h); last = ltb-true l (length layouts) (both-right (leb 1 l) (ltb l (length layouts)) h) }
+
+pub in-known : (l : ℕ) → Known l → known l ≡ true
+unfolding known
+in-known l h = both-true (le-leb 1 l (h .first)) (lt-ltb l (length layouts) (h .last))
+
+module _ (l k : ℕ) (os : List ℕ) where
+  abbrev fs : List Field
+  fs = rowsAt l k
+
+  abbrev vs : List ℕ
+  vs = valuesOf fs os
+
+  k-in : RightLength l k os → kFits (layoutAt l) k ≡ true
+  k-in r = both-true (le-leb (layoutAt l .fewest) k (r .fewest)) (le-leb k (layoutAt l .most) (r .most))
+
+  right : kFits (layoutAt l) k ≡ true → length os ≡ sizeOf fs → RightLength l k os
+  right h e =
+      record {
+        fewest = leb-true (layoutAt l .fewest) k (both-left (leb (layoutAt l .fewest) k) (leb k (layoutAt l .most)) h);
+        most = most-fits l k h;
+        octets = e;
+      }
+
+  past : (j : ℕ) → length fs ≤ j → j < fieldsMost → getD (placed vs) j 0 ≡ 0
+  past j h _ = placed-at vs j ∙ List·getD-eq-default vs 0 (rw length-values h)
+
+  part-read : 0 ≡ firstOut fs (placed vs) → readAs (partOf l k os) ≡ rangedOf l k os
+  unfolding partOf
+  part-read z = ranged-done l k os (placed vs) 0 refl z refl refl refl
+
+  parts-when : {r : Read} → PartJudged l k os r → r ≡ readPartOf l k os
+  parts-when (unknown n) = by (known l) refl
+    where
+      by : (b : Bool) → known l ≡ b → refusedAs refusal.codeUnknown 0 ≡ readPartOf l k os
+      by true e = absurd (n (known-in l e))
+      by false e = part-10 l k os e
+  parts-when (wrongLength kn n) = by (kFits (layoutAt l) k) refl (ℕ-discrete (length os) (sizeOf fs))
+    where
+      by : (b : Bool) → kFits (layoutAt l) k ≡ b → Dec (length os ≡ sizeOf fs) → refusedAs refusal.lengthWrong 0 ≡ readPartOf l k os
+      by false e d = part-k l k os (in-known l kn) e
+      by true e (no g) = part-length l k os (in-known l kn) e g
+      by true e (yes p) = absurd (n (right e p))
+  parts-when (outOfRange n kn r w) =
+      let m = rows-most l k (r .most) in
+      let e = one-out fs (placed vs) m past (wrong-same fs vs (placed vs) (λ j. sym (placed-at vs j)) w) in
+      ranged-12 l k os (placed vs) n refl (sym e) (λ z. absurd (omega (arith, w .number))) ∙ part-done l k os (in-known l kn) (k-in r) (r .octets)
+  parts-when (accepted kn r a) =
+      let m = rows-most l k (r .most) in
+      let e = none-out fs (placed vs) m past (λ j h. right-same fs vs (placed vs) (λ i. sym (placed-at vs i)) j (a j h)) in
+      part-read (sym e) ∙ part-done l k os (in-known l kn) (k-in r) (r .octets)
+
+  -- of a part that the reader has found of the right length
+  ranged-then : Known l → RightLength l k os → (n : ℕ) → n ≡ firstOut fs (placed vs) → PartJudged l k os (rangedOf l k os)
+  ranged-then kn r zero e =
+      subst (λ (r : Read). PartJudged l k os r) (part-read e)
+      (accepted kn r (λ j h. right-same fs (placed vs) vs (placed-at vs) j (out-none fs (placed vs) (rows-most l k (r .most)) past (sym e) j h)))
+  ranged-then kn r (suc n) e =
+      let w = rw (← e) at (out-one fs (placed vs) (rows-most l k (r .most)) past (λ z. absurd (omega (arith, e, z)))) in
+      subst (λ (r : Read). PartJudged l k os r) (ranged-12 l k os (placed vs) (suc n) refl e (λ z. absurd (omega arith)))
+      (outOfRange (suc n) kn r (wrong-same fs (placed vs) vs (placed-at vs) w))
+
+  parts-then : PartJudged l k os (readPartOf l k os)
+  parts-then = by (known l) refl (kFits (layoutAt l) k) refl (ℕ-discrete (length os) (sizeOf fs))
+    where
+      judged : {r s : Read} → r ≡ s → PartJudged l k os r → PartJudged l k os s
+      judged e p = subst (λ (r : Read). PartJudged l k os r) e p
+
+      by : (a : Bool) → known l ≡ a → (b : Bool) → kFits (layoutAt l) k ≡ b → Dec (length os ≡ sizeOf fs) → PartJudged l k os (readPartOf l k os)
+      by false e b f d = judged (part-10 l k os e) (unknown (λ kn. clash e (in-known l kn)))
+      by true e false f d = judged (part-k l k os e f) (wrongLength (known-in l e) (λ r. clash f (k-in r)))
+      by true e true f (no g) = judged (part-length l k os e f g) (wrongLength (known-in l e) (λ r. g (r .octets)))
+      by true e true f (yes p) = judged (part-done l k os e f p) (ranged-then (known-in l e) (right f p) (firstOut fs (placed vs)) refl)
+
+pub parts-read-so : PartsReadSo
+parts-read-so l k os r = (parts-when l k os, λ e. rw e (parts-then l k os))
+
+pub read-so : ReadSo
+read-so info r = (when, λ e. rw e then′)
+  where
+    when : {r : Read} → Judged info r → r ≡ readOf info
+    when (short h) = read-11 info h
+    when (body h p) = parts-when _ _ _ p ∙ read-body info h refl refl refl
+
+    then′ : Judged info (readOf info)
+    then′ = by (decLt (length info) codeLen)
+      where
+        by : Dec (length info < codeLen) → Judged info (readOf info)
+        by (yes l) = subst (λ (r : Read). Judged info r) (read-11 info l) (short l)
+        by (no g) = let h : codeLen ≤ length info = omega arith in subst (λ (r : Read). Judged info r) (read-body info h refl refl refl) (body h (parts-then _ _ _))
+
+-- what is refused 12 names the first field that is wrong
+module _ (info : List ℕ) where
+  abbrev l : ℕ
+  l = numberOf (codeIn info)
+
+  abbrev k : ℕ
+  k = kIn (layoutAt l) (bodyIn info)
+
+  named : {r : Read} → Judged info r → r .refusal ≡ refusal.outOfRange → FirstWrong (rowsAt l k) (valuesOf (rowsAt l k) (bodyIn info)) (r .field)
+  unfolding refusedAs
+  named (short h) e = absurd (omega arith)
+  named (body h (unknown n)) e = absurd (omega arith)
+  named (body h (wrongLength kn n)) e = absurd (omega arith)
+  named (body h (outOfRange n kn r w)) e = w
+  named (body h (accepted kn r a)) e = absurd (omega arith)
+
+pub first-field-named : FirstFieldNamed
+first-field-named info e = named info (read-so info (readOf info) .1 refl) e

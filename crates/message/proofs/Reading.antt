@@ -1,0 +1,82 @@
+-- What follows from the reader's definitions: one law for each way through.
+use Prim.Native.Nat.{ℕ, zero, suc, _+_, _≤_, _<_}
+use mathlib.Core.Path.{_≡_, refl}
+use mathlib.Core.Bool.{true, false}
+use mathlib.Core.List.{List, [], _∷_, _++_, append-assoc}
+use borrow.Author.Tests.{eq-eqb, ne-eqb, lt-ltb, le-ltb, leb-true}
+use lib.Dec.{leb}
+use lib.ListN.{length, getD, drop, List·getD-append}
+use lib.Seq.{drop-drop}
+use Rattle.octets.specs.Refusal as refusal
+use Rattle.octets.specs.Part.{codeLen}
+use Rattle.octets.specs.Word.{wordOf}
+use Rattle.octets.proofs.Laws.{both-right}
+use Rattle.message.specs.declared.layout.Field.{Field}
+use Rattle.message.specs.Fields.{twoOf, widthOf}
+use Rattle.message.specs.Layouts.{layoutAt, known, numberOf, rowsAt, rowsOf, kFits}
+use Rattle.message.specs.Values.{fieldsMost, sizeOf, valuesOf, placed, numbered, firstOut, outAt}
+use Rattle.message.specs.Reader.{refusedAs, readAs, kIn, partOf, rangedOf, readPartOf, readOf}
+use Rattle.message.proofs.Search.{search-first}
+use Rattle.message.proofs.Layouts.{count-head}
+use Rattle.message.proofs.Values.{length-values}
+
+pub first-out-most : (fs : List Field) (vs : List ℕ) → firstOut fs vs ≤ fieldsMost
+unfolding firstOut
+first-out-most fs vs = search-first (outAt fs vs) fieldsMost .within
+
+pub values-append : (fs gs : List Field) (os : List ℕ) → valuesOf (fs ++ gs) os ≡ valuesOf fs os ++ valuesOf gs (drop (sizeOf fs) os)
+values-append [] gs os = refl
+values-append (f ∷ fs) gs os = rw (values-append fs gs (drop (widthOf (twoOf f)) os), drop-drop)
+
+numbered-append : (xs ys : List ℕ) (n : ℕ) → n ≤ length xs → numbered (xs ++ ys) n ≡ numbered xs n
+numbered-append xs ys zero h = refl
+numbered-append xs ys (suc n) h = List·getD-append xs ys 0 n h
+
+-- the count stands in the head, so it does not depend on k
+pub k-placed : (l k : ℕ) (os : List ℕ) → numbered (placed (valuesOf (rowsAt l k) os)) (layoutAt l .count) ≡ kIn (layoutAt l) os
+unfolding placed rowsAt rowsOf
+k-placed l k os =
+    let y = layoutAt l in
+    rw (values-append (y .head) _ os, append-assoc) (numbered-append (valuesOf (y .head) os) _ (y .count) (rw length-values (count-head l)))
+
+-- what the code has found of the part, its values and the first out of range
+module _ (l k : ℕ) (os vs : List ℕ) (field : ℕ) (ev : vs ≡ placed (valuesOf (rowsAt l k) os)) (ef : field ≡ firstOut (rowsAt l k) vs) where
+  pub ranged-12 : (field ≡ 0 → ⊥) → refusedAs refusal.outOfRange field ≡ rangedOf l k os
+  unfolding rangedOf partOf
+  ranged-12 h = rw (← ev, ← ef, ne-eqb field 0 h)
+
+  pub ranged-done : field ≡ 0 → {n c : ℕ} → c ≡ layoutAt l .code → n ≡ length (rowsAt l k) → readAs (record { code = c; fields = n; values = vs }) ≡ rangedOf l k os
+  unfolding rangedOf partOf
+  ranged-done h ec en = rw (← ev, ← ef, eq-eqb field 0 h, ec, en)
+
+module _ (l k : ℕ) (os : List ℕ) where
+  pub part-10 : known l ≡ false → refusedAs refusal.codeUnknown 0 ≡ readPartOf l k os
+  unfolding readPartOf
+  part-10 h = rw h
+
+  module _ (h : known l ≡ true) where
+    pub part-k : kFits (layoutAt l) k ≡ false → refusedAs refusal.lengthWrong 0 ≡ readPartOf l k os
+    unfolding readPartOf
+    part-k f = rw (h, f)
+
+    module _ (f : kFits (layoutAt l) k ≡ true) where
+      pub part-length : (length os ≡ sizeOf (rowsAt l k) → ⊥) → refusedAs refusal.lengthWrong 0 ≡ readPartOf l k os
+      unfolding readPartOf
+      part-length n = rw (h, f, ne-eqb (length os) (sizeOf (rowsAt l k)) n)
+
+      pub part-done : length os ≡ sizeOf (rowsAt l k) → rangedOf l k os ≡ readPartOf l k os
+      unfolding readPartOf
+      part-done e = rw (h, f, eq-eqb (length os) (sizeOf (rowsAt l k)) e)
+
+module _ (info : List ℕ) where
+  pub read-11 : length info < codeLen → refusedAs refusal.lengthWrong 0 ≡ readOf info
+  unfolding readOf
+  read-11 h = rw (lt-ltb (length info) codeLen h)
+
+  pub read-body : codeLen ≤ length info → {l k : ℕ} {os : List ℕ} → l ≡ numberOf (wordOf (getD info 0 0) (getD info 1 0)) → os ≡ drop codeLen info
+      → k ≡ kIn (layoutAt l) os → readPartOf l k os ≡ readOf info
+  unfolding readOf
+  read-body h el eo ek = rw (le-ltb (length info) codeLen h, ek, eo, el)
+
+pub most-fits : (l k : ℕ) → kFits (layoutAt l) k ≡ true → k ≤ layoutAt l .most
+most-fits l k h = leb-true k (layoutAt l .most) (both-right (leb (layoutAt l .fewest) k) (leb k (layoutAt l .most)) h)

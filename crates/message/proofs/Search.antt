@@ -1,0 +1,44 @@
+-- A search that stops at the first place at which a test holds, and what stands past the end of a list.
+use Prim.Native.Nat.{ℕ, zero, suc, _+_, _-_, _≤_, _<_}
+use mathlib.Core.Path.{_≡_, refl, ap}
+use mathlib.Core.Bool.{Bool, true, false}
+use mathlib.Core.List.{List, _++_}
+use native.Mathlib.Omega.{arith}
+use borrow.Author.Count.{below-more}
+use lib.ListN.{length, getD}
+use lib.Seq.{getD-append-add}
+use Rattle.octets.specs.First.{First, firstOf}
+use Rattle.octets.proofs.Laws.{first-none, first-found}
+
+searched : (t : ℕ → Bool) (i m : ℕ) {b : Bool} → t i ≡ b → firstOf t i (suc m) ≡ elim b [ true ↦ i + 1 | false ↦ firstOf t (i + 1) m ]
+unfolding firstOf
+searched t i m e = ap (λ (b : Bool). elim b [ true ↦ i + 1 | false ↦ firstOf t (i + 1) m ]) e
+
+module _ (t : ℕ → Bool) (n i : ℕ) where
+  pub search-ends : n ≤ i → firstOf t i (n - i) ≡ 0
+  unfolding firstOf
+  search-ends h = let e : n - i ≡ 0 = omega arith in rw e
+
+  pub search-stops : i < n → t i ≡ true → firstOf t i (n - i) ≡ i + 1
+  search-stops h e = let s : n - i ≡ suc (n - (i + 1)) = omega arith in rw s (searched t i (n - (i + 1)) e)
+
+  pub search-goes : i < n → t i ≡ false → firstOf t i (n - i) ≡ firstOf t (i + 1) (n - (i + 1))
+  search-goes h e = let s : n - i ≡ suc (n - (i + 1)) = omega arith in rw s (searched t i (n - (i + 1)) e)
+
+search-from : (t : ℕ → Bool) (n i m : ℕ) → i + m ≡ n → ((j : ℕ) → j < i → t j ≡ false) → First t n (firstOf t i m)
+unfolding firstOf
+search-from t n i zero e h = first-none (λ j l. h j (omega arith))
+search-from t n i (suc m) e h = by (t i) refl (λ q. search-from t n (i + 1) m (omega arith) (below-more (λ (k : ℕ). t k ≡ false) i h q))
+  where
+    by : (b : Bool) → t i ≡ b → (t i ≡ false → First t n (firstOf t (i + 1) m)) → First t n (elim b [ true ↦ i + 1 | false ↦ firstOf t (i + 1) m ])
+    by true q r = first-found (omega arith) h q
+    by false q r = r q
+
+-- the number that the search yields is the first
+pub search-first : (t : ℕ → Bool) (n : ℕ) → First t n (firstOf t 0 n)
+search-first t n = search-from t n 0 n (omega arith) (λ j h. absurd (omega arith))
+
+-- Lists
+
+pub getD-past : {A : Type 0} (xs ys : List A) (d : A) (i : ℕ) → length xs ≤ i → getD (xs ++ ys) i d ≡ getD ys (i - length xs) d
+getD-past xs ys d i h = let e : length xs + (i - length xs) ≡ i = omega arith in rw e at (getD-append-add xs ys (i - length xs) d)

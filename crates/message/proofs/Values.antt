@@ -1,0 +1,74 @@
+-- Values, their octets and their places.
+use Prim.Native.Nat.{ℕ, zero, suc, _+_, _-_, _≤_, _<_}
+use mathlib.Core.Path.{_≡_, refl, ap, _∙_}
+use mathlib.Core.Bool.{Bool, true, false}
+use mathlib.Core.List.{List, [], _∷_, _++_}
+use native.Mathlib.Nat.{add-zero, zero-add}
+use native.Mathlib.Numerals.{add-one}
+use native.Mathlib.Omega.{arith}
+use lib.ListN.{drop-of-length-le, replicate, set, length, getD, drop, List·getD-eq-default}
+use lib.Seq.{sets, sets-eq, drop-drop, drop-cons, getD-drop}
+use Rattle.octets.specs.Word.{wordOf}
+use Rattle.message.specs.declared.layout.Field.{Field}
+use Rattle.message.specs.Fields.{noField, twoOf, widthOf, valueOf}
+use Rattle.message.specs.Values.{fieldsMost, sizeOf, valuesOf, zeros, placed, numbered}
+
+pub numbered-past : (vs : List ℕ) (n : ℕ) → length vs < n → numbered vs n ≡ 0
+numbered-past vs zero h = refl
+numbered-past vs (suc n) h = List·getD-eq-default vs 0 (omega arith)
+
+pub numbered-one : (vs : List ℕ) (n : ℕ) → 0 < n → numbered vs n ≡ getD vs (n - 1) 0
+numbered-one vs zero h = absurd (omega arith)
+numbered-one vs (suc n) h = ap (λ (m : ℕ). getD vs m 0) (omega arith)
+
+module _ (fs : List Field) (i : ℕ) where
+  pub size-next : i < length fs → sizeOf (drop i fs) ≡ widthOf (twoOf (getD fs i noField)) + sizeOf (drop (i + 1) fs)
+  size-next h = rw (drop-cons fs i noField h, add-one)
+
+  pub size-done : length fs ≤ i → sizeOf (drop i fs) ≡ 0
+  size-done h = rw (drop-of-length-le fs h)
+
+pub width-most : (t : Bool) → widthOf t ≤ 2
+width-most false = omega arith
+width-most true = omega arith
+
+pub value-one : (os : List ℕ) (at : ℕ) → valueOf false (drop at os) ≡ getD os at 0
+value-one os at = rw (getD-drop, add-zero)
+
+pub value-two : (os : List ℕ) (at : ℕ) → valueOf true (drop at os) ≡ wordOf (getD os at 0) (getD os (at + 1) 0)
+value-two os at = rw (getD-drop at os 0 0, getD-drop at os 1 0, add-zero)
+
+pub value-none : (t : Bool) → valueOf t [] ≡ 0
+value-none false = refl
+value-none true = refl
+
+pub length-values : (fs : List Field) (os : List ℕ) → length (valuesOf fs os) ≡ length fs
+length-values [] os = refl
+length-values (f ∷ fs) os = ap suc (length-values fs (drop (widthOf (twoOf f)) os))
+
+-- a turn of the reader: the field at i is read where the octets before it end
+module _ (fs : List Field) (os v : List ℕ) (i at x : ℕ) (t : Bool) (h : i < length fs)
+    (et : t ≡ twoOf (getD fs i noField)) (ex : x ≡ valueOf t (drop at os)) where
+  pub values-next : sets (set v i x) (i + 1) (valuesOf (drop (i + 1) fs) (drop (at + widthOf t) os)) ≡ sets v i (valuesOf (drop i fs) (drop at os))
+  values-next = rw (drop-cons fs i noField h, ← et, ex, drop-drop, add-one)
+
+module _ (x : ℕ) where
+  drop-replicate : (n m : ℕ) → drop m (replicate n x) ≡ replicate (n - m) x
+  drop-replicate n zero = let e : n ≡ n - 0 = omega arith in ap (λ (k : ℕ). replicate k x) e
+  drop-replicate zero (suc m) = let e : 0 ≡ 0 - suc m = omega arith in ap (λ (k : ℕ). replicate k x) e
+  drop-replicate (suc n) (suc m) = let e : n - m ≡ suc n - suc m = omega arith in drop-replicate n m ∙ ap (λ (k : ℕ). replicate k x) e
+
+zeros-past : (n : ℕ) → drop n zeros ≡ replicate (fieldsMost - n) 0
+unfolding zeros
+zeros-past n = drop-replicate 0 fieldsMost n
+
+pub length-zeros : length zeros ≡ fieldsMost
+unfolding zeros
+length-zeros = refl
+
+pub placed-is : (vs : List ℕ) → length vs ≤ fieldsMost → sets zeros 0 vs ≡ placed vs
+unfolding placed
+placed-is vs h = sets-eq vs zeros 0 (omega (arith, length-zeros)) ∙ ap (λ (l : List ℕ). vs ++ l) (rest vs)
+  where
+    rest : (vs : List ℕ) → drop (0 + length vs) zeros ≡ replicate (fieldsMost - length vs) 0
+    rest vs = ap (λ (n : ℕ). drop n zeros) (zero-add (length vs)) ∙ zeros-past (length vs)

@@ -1,0 +1,103 @@
+-- What follows from the writer's definitions: one law for each way through, and one for a turn of its loop.
+use Prim.Native.Nat.{ℕ, _+_, _-_, _≤_, _<_}
+use mathlib.Core.Path.{_≡_, refl, sym, _∙_}
+use mathlib.Core.Bool.{Bool, true, false}
+use mathlib.Core.List.{List, [], _∷_, _++_}
+use native.Mathlib.Nat.{add-zero}
+use native.Mathlib.Numerals.{add-one}
+use native.Mathlib.Omega.{arith}
+use borrow.Author.Tests.{eq-eqb, ne-eqb}
+use lib.Dec.{eqb}
+use lib.ListN.{length, getD, drop, length-append}
+use lib.Seq.{sets, drop-cons, drop-drop, getD-drop}
+use Rattle.octets.specs.Put.{Put, Stored}
+use Rattle.octets.specs.Part.{codeLen}
+use Rattle.octets.specs.Refusal as refusal
+use Rattle.octets.specs.Word.{highOf, lowOf}
+use Rattle.octets.specs.Writing.{Wrote, refusedAs, writtenAs}
+use Rattle.octets.specs.declared.Written.{Written}
+use Rattle.octets.proofs.Laws.{both-left, both-right, sets-append}
+use Rattle.message.specs.declared.Message.{Message}
+use Rattle.message.specs.declared.layout.Field.{Field}
+use Rattle.message.specs.Fields.{twoOf, widthOf, fieldOctets, noField}
+use Rattle.message.specs.Layouts.{layoutAt, known, numberOf, rowsAt, mostAt, kFits}
+use Rattle.message.specs.Values.{sizeOf, octetsOf, numbered, firstOut}
+use Rattle.message.specs.Writer.{writableAs, writable, infoAs, infoOf, writeOf}
+use Rattle.message.proofs.Reading.{most-fits}
+
+-- The octets of a field
+
+pub field-len : (t : Bool) (v : ℕ) → length (fieldOctets t v) ≡ widthOf t
+field-len false v = refl
+field-len true v = refl
+
+pub length-octets : (fs : List Field) (vs : List ℕ) → length (octetsOf fs vs) ≡ sizeOf fs
+length-octets [] vs = refl
+length-octets (f ∷ fs) vs =
+    omega (arith, length-append (fieldOctets (twoOf f) (getD vs 0 0)) (octetsOf fs (drop 1 vs)), field-len (twoOf f) (getD vs 0 0), length-octets fs (drop 1 vs))
+
+module _ (v : ℕ) {i r : ℕ} {l l′ : List ℕ} {t : Bool} where
+  pub put-two : t ≡ true → {h o : ℕ} → h ≡ highOf v → o ≡ lowOf v → Put (h ∷ o ∷ []) i l r l′ → Put (fieldOctets t v) i l r l′
+  put-two et eh eo p = rw (et, ← eh, ← eo) p
+
+  pub put-one : t ≡ false → {o : ℕ} → o ≡ lowOf v → Put (o ∷ []) i l r l′ → Put (fieldOctets t v) i l r l′
+  put-one et eo p = rw (et, ← eo) p
+
+-- a turn of the writer: the field at i is stored where the octets before it end
+module _ (fs : List Field) (vs : List ℕ) (i : ℕ) (h : i < length fs) where
+  octets-next : octetsOf (drop i fs) (drop i vs) ≡ fieldOctets (twoOf (getD fs i noField)) (getD vs i 0) ++ octetsOf (drop (i + 1) fs) (drop (i + 1) vs)
+  octets-next = rw (drop-cons fs i noField h, getD-drop, drop-drop, add-zero, add-one)
+
+  pub stored-next : {out out′ : List ℕ} {p r : ℕ} {t : Bool} → t ≡ twoOf (getD fs i noField) → Stored (fieldOctets t (getD vs i 0)) p out r out′
+      → sets out′ r (octetsOf (drop (i + 1) fs) (drop (i + 1) vs)) ≡ sets out p (octetsOf (drop i fs) (drop i vs))
+  stored-next {out} {p = p} {t = t} et s =
+      rw (octets-next, ← et, s .holds, s .place) (sym (sets-append (fieldOctets t (getD vs i 0)) (octetsOf (drop (i + 1) fs) (drop (i + 1) vs)) out p))
+
+pub info-len : (c : ℕ) (fs : List Field) (vs : List ℕ) → length (infoAs c fs vs) ≡ codeLen + sizeOf fs
+unfolding infoAs
+info-len c fs vs = omega (arith, length-octets fs vs)
+
+-- The calls
+
+module _ (l k n : ℕ) (vs : List ℕ) where
+  pub writable-known : known l ≡ false → writableAs l k n vs ≡ false
+  unfolding writableAs
+  writable-known h = rw h
+
+  module _ (h : known l ≡ true) where
+    pub writable-k : kFits (layoutAt l) k ≡ false → writableAs l k n vs ≡ false
+    unfolding writableAs
+    writable-k f = rw (h, f)
+
+    module _ (f : kFits (layoutAt l) k ≡ true) where
+      pub writable-fields : (n ≡ length (rowsAt l k) → ⊥) → writableAs l k n vs ≡ false
+      unfolding writableAs
+      writable-fields e = rw (h, f, ne-eqb n (length (rowsAt l k)) e)
+
+      pub writable-ranges : n ≡ length (rowsAt l k) → writableAs l k n vs ≡ eqb (firstOut (rowsAt l k) vs) 0
+      unfolding writableAs
+      writable-ranges e = rw (h, f, eq-eqb n (length (rowsAt l k)) e)
+
+module _ (m : Message) (at : ℕ) (out : List ℕ) where
+  pub write-no : writable m ≡ false → refusedAs refusal.fieldWrong out ≡ writeOf m at out
+  unfolding writeOf
+  write-no h = rw h
+
+  pub write-yes : writable m ≡ true → writtenAs (infoOf m) at out ≡ writeOf m at out
+  unfolding writeOf
+  write-yes h = rw h
+
+  -- what the code has found of the message: its layout, its count, and whether it is writable
+  module _ {l k : ℕ} {t : Bool} (el : l ≡ numberOf (m .code)) (ek : k ≡ numbered (m .values) (layoutAt l .count)) (et : t ≡ writableAs l k (m .fields) (m .values)) where
+    tested : t ≡ writable m
+    tested = et ∙ rw (ek, el)
+
+    pub write-5 : t ≡ false → Wrote (writeOf m at out) (record { refusal = refusal.fieldWrong; count = 0 }) out
+    write-5 h = rw (← write-no (sym tested ∙ h)) (record { answer = refl; out = refl })
+
+    pub write-on : t ≡ true → {r : Written} {out′ : List ℕ} → Wrote (writtenAs (infoAs (m .code) (rowsAt l k) (m .values)) at out) r out′ → Wrote (writeOf m at out) r out′
+    write-on h w = rw (← write-yes (sym tested ∙ h)) (rw (ek, el) at w)
+
+pub writable-most : (l k n : ℕ) (vs : List ℕ) → writableAs l k n vs ≡ true → k ≤ mostAt l
+unfolding writableAs
+writable-most l k n vs h = most-fits l k (both-left (kFits (layoutAt l) k) _ (both-right (known l) _ h))

@@ -1,0 +1,98 @@
+-- The writer refuses when, and only when, 01 says so.
+use Prim.Native.Nat.{ℕ, _+_, _≤_, _<_}
+use mathlib.Core.Path.{_≡_, refl, sym, subst, _∙_}
+use mathlib.Core.Bool.{Bool, true, false}
+use mathlib.Core.List.{List, _++_, append-assoc}
+use native.Mathlib.Decide.{decLt}
+use native.Mathlib.Omega.{arith}
+use borrow.Author.Tests.{lt-leb, le-leb, leb-true, eq-eqb, eqb-true}
+use lib.Dec.{leb, eqb}
+use lib.ListN.{length, take, drop}
+use lib.Seq.{sets-eq}
+use Rattle.octets.specs.Refusal as refusal
+use Rattle.octets.specs.Writing.{Writing, refusedAs, writtenAs}
+use Rattle.octets.proofs.Laws.{both-left, both-right, clash, written-9}
+use Rattle.message.specs.declared.Message.{Message}
+use Rattle.message.specs.declared.layout.Field.{Field}
+use Rattle.message.specs.Layouts.{layoutAt, known, rowsAt, kFits}
+use Rattle.message.specs.Values.{fieldsMost, firstOut}
+use Rattle.message.specs.Writer.{numberIn, kOf, writableAs, writable, infoOf, writeOf}
+use Rattle.message.specs.Promises.{Writable, WriteJudged, fieldWrong, outputShort, written, WrittenSo}
+use Rattle.message.proofs.Layouts.{rows-most}
+use Rattle.message.proofs.Reading.{most-fits}
+use Rattle.message.proofs.Writing.{write-no, write-yes}
+use Rattle.message.proofs.Ranges.{both-true, none-out, all-right, past-zero}
+use Rattle.message.proofs.ReadSo.{known-in, in-known}
+
+module _ (m : Message) where
+  abbrev l : ℕ
+  l = numberIn m
+
+  abbrev k : ℕ
+  k = kOf m
+
+  abbrev fs : List Field
+  fs = rowsAt l k
+
+  abbrev rest : Bool
+  rest = eqb (firstOut fs (m .values)) 0
+
+  pub in-writable : Writable m → writable m ≡ true
+  unfolding writableAs
+  in-writable w =
+      let h : length fs ≤ fieldsMost = rows-most l k (w .most) in
+      let e = none-out fs (m .values) h (λ j p q. w .rest j (omega (arith, w .fields)) q) (λ j p. w .ranges j (omega (arith, w .fields))) in
+      both-true (in-known l (w .listed))
+      (both-true (both-true (le-leb (layoutAt l .fewest) k (w .fewest)) (le-leb k (layoutAt l .most) (w .most)))
+      (both-true (eq-eqb (m .fields) (length fs) (w .fields)) (eq-eqb (firstOut fs (m .values)) 0 e)))
+
+  pub writable-in : writable m ≡ true → Writable m
+  unfolding writableAs
+  writable-in h =
+      let a = both-right (known l) _ h in
+      let f = both-left (kFits (layoutAt l) k) _ a in
+      let b = both-right (kFits (layoutAt l) k) _ a in
+      let n = eqb-true (m .fields) (length fs) (both-left (eqb (m .fields) (length fs)) rest b) in
+      let z = eqb-true (firstOut fs (m .values)) 0 (both-right (eqb (m .fields) (length fs)) rest b) in
+      record {
+        listed = known-in l (both-left (known l) _ h);
+        fewest = leb-true (layoutAt l .fewest) k (both-left (leb (layoutAt l .fewest) k) (leb k (layoutAt l .most)) f);
+        most = most-fits l k f;
+        fields = n;
+        ranges = λ j p. all-right fs (m .values) z j (omega (arith, rows-most l k (most-fits l k f)));
+        rest = λ j p q. past-zero fs (m .values) z j (omega (arith, n)) q;
+      }
+
+module _ (m : Message) (at : ℕ) (out : List ℕ) where
+  abbrev vs : List ℕ
+  vs = infoOf m
+
+  abbrev stored : Writing
+  stored = record { answer = record { refusal = refusal.none; count = length vs }; out = take at out ++ (vs ++ drop (at + length vs) out) }
+
+  pub stored-as : at + length vs ≤ length out → stored ≡ writtenAs vs at out
+  unfolding writtenAs
+  stored-as h = rw (le-leb (at + length vs) (length out) h, sets-eq vs out at h, append-assoc)
+
+  when : {w : Writing} → WriteJudged m at out w → w ≡ writeOf m at out
+  when (fieldWrong n) = by (writable m) refl
+    where
+      by : (b : Bool) → writable m ≡ b → refusedAs refusal.fieldWrong out ≡ writeOf m at out
+      by true e = absurd (n (writable-in m e))
+      by false e = write-no m at out e
+  when (outputShort w h) = sym (written-9 vs out at refl (lt-leb (at + length vs) (length out) h)) ∙ write-yes m at out (in-writable m w)
+  when (written w h) = stored-as h ∙ write-yes m at out (in-writable m w)
+
+  then′ : WriteJudged m at out (writeOf m at out)
+  then′ = by (writable m) refl (decLt (length out) (at + length vs))
+    where
+      judged : {v w : Writing} → v ≡ w → WriteJudged m at out v → WriteJudged m at out w
+      judged e p = subst (λ (w : Writing). WriteJudged m at out w) e p
+
+      by : (b : Bool) → writable m ≡ b → Dec (length out < at + length vs) → WriteJudged m at out (writeOf m at out)
+      by false e d = judged (write-no m at out e) (fieldWrong (λ w. clash e (in-writable m w)))
+      by true e (yes h) = judged (sym (written-9 vs out at refl (lt-leb (at + length vs) (length out) h)) ∙ write-yes m at out e) (outputShort (writable-in m e) h)
+      by true e (no g) = let h : at + length vs ≤ length out = omega arith in judged (stored-as h ∙ write-yes m at out e) (written (writable-in m e) h)
+
+pub written-so : WrittenSo
+written-so m at out w = (when m at out, λ e. rw e (then′ m at out))

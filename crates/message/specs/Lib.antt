@@ -1,0 +1,9 @@
+pub mod Fields
+pub mod Layouts
+pub mod Values
+pub mod Reader
+pub mod Writer
+pub mod Names
+pub mod Promises
+pub mod Cases
+pub mod Table

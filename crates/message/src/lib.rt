@@ -1,0 +1,49 @@
+// 01, "Messages": every code of its table, read and written by one reader and one writer over layouts.
+mod layout;
+pub mod reader;
+pub mod writer;
+
+// The codes of 01's table, high octet first.
+pub const CARRIED_OUT: u16 = 0x0F80;
+
+pub const REFUSED: u16 = 0x0F81;
+
+pub const SET_TIMES: u16 = 0x5F14;
+
+pub const REPORT_TIMES: u16 = 0x5FC4;
+
+pub const SET_PLAN: u16 = 0x5F15;
+
+pub const REPORT_PLAN: u16 = 0x5FC5;
+
+pub const REPORT_RUNNING: u16 = 0x5FC8;
+
+pub const RUN: u16 = 0x5F18;
+
+pub const QUERY_TIMES: u16 = 0x5F44;
+
+pub const QUERY_PLAN: u16 = 0x5F45;
+
+pub const QUERY_RUNNING: u16 = 0x5F48;
+
+// The layouts of a record's parts, by number: "the 7k octets of 5F 14", and "direct, order, 2k green octets, cycle, offset".
+pub const STORED_TIMES: usize = 12;
+
+pub const STORED_PLAN: usize = 13;
+
+// The most fields that a message has: 5F 14 and 5F C4 with eight phases.
+pub const FIELDS_MOST: usize = 50;
+
+// The code, how many fields, and their values, left to right; a place past the last holds 0.
+pub struct Message {
+    pub code: u16,
+    pub fields: usize,
+    pub values: [u16; FIELDS_MOST],
+}
+
+// What reading gives: the refusal, the number of the field that refusal 12 names, and the message where nothing is refused.
+pub struct Read {
+    pub refusal: u8,
+    pub field: u8,
+    pub message: Message,
+}

@@ -1,0 +1,124 @@
+// 01, "Messages": "The fields of a message are read left to right".
+ghost use mathlib.Core.Path.{_≡_};
+ghost use Prim.Native.Nat.{_≤_};
+ghost use lib.ListN.{getD, drop};
+ghost use Rattle.message.specs.Fields.{valueOf};
+ghost use Rattle.message.specs.Layouts.{layoutAt, rowsAt, mostAt};
+ghost use Rattle.message.specs.Values.{valuesOf, placed};
+ghost use Rattle.message.specs.Reader.{refusedAs, kIn, rangedOf, readPartOf, readOf};
+use crate::FIELDS_MOST;
+use crate::Message;
+use crate::Read;
+use crate::layout;
+use octets::refusal;
+
+// The message that stands in INFO. "It refuses with 10, 11 (so for under two octets) or 12 and then gives no message."
+pub fn read(info: &[u8]) -> Read
+    ensures { λ r. ⌜ r ≡ readOf (now (info .entry)) ⌝ }
+{
+    if info.len() < octets::CODE_LEN {
+        return refused(refusal::LENGTH_WRONG, 0);
+    }
+    let l = layout::find(octets::word(info[0], info[1]));
+    let body = octets::body(info);
+    let k = count_in(l, body);
+    read_part(l, k, body)
+}
+
+// The fields of a layout, by its number, for k, that stand in the part.
+pub fn read_part(l: usize, k: usize, part: &[u8]) -> Read
+    ensures { λ r. ⌜ r ≡ readPartOf l k (now (part .entry)) ⌝ }
+{
+    if !layout::known(l) {
+        return refused(refusal::CODE_UNKNOWN, 0);
+    }
+    if !layout::k_fits(l, k) {
+        return refused(refusal::LENGTH_WRONG, 0);
+    }
+    if part.len() != layout::size(l, k) {
+        return refused(refusal::LENGTH_WRONG, 0);
+    }
+    ranged(l, k, part)
+}
+
+// A part of the right length: its first field out of range is refused.
+fn ranged(l: usize, k: usize, part: &[u8]) -> Read
+    requires { ⌜ k ≤ mostAt l ⌝ }
+    ensures { λ r. ⌜ r ≡ rangedOf l k (now (part .entry)) ⌝ }
+{
+    let values = values(l, k, part);
+    let field = layout::first_out(l, k, values);
+    if field != 0 {
+        return refused(refusal::OUT_OF_RANGE, field as u8);
+    }
+    let code = layout::layout_at(l).code;
+    let fields = layout::fields(l, k);
+    Read {
+        refusal: refusal::NONE,
+        field: 0,
+        message: Message {
+            code,
+            fields,
+            values,
+        },
+    }
+}
+
+fn refused(n: u8, field: u8) -> Read
+    ensures { λ r. ⌜ r ≡ refusedAs n field ⌝ }
+{
+    Read {
+        refusal: n,
+        field,
+        message: Message {
+            code: 0,
+            fields: 0,
+            values: [0u16; FIELDS_MOST],
+        },
+    }
+}
+
+// The count k: it stands before the fields that come k times.
+fn count_in(l: usize, body: &[u8]) -> usize
+    ensures { λ r. ⌜ r ≡ kIn (layoutAt l) (now (body .entry)) ⌝ }
+{
+    layout::count(l, values(l, 0, body))
+}
+
+// The values of the fields, left to right.
+fn values(l: usize, k: usize, body: &[u8]) -> [u16; FIELDS_MOST]
+    requires { ⌜ k ≤ mostAt l ⌝ }
+    ensures { λ r. ⌜ r ≡ placed (valuesOf (rowsAt l k) (now (body .entry))) ⌝ }
+{
+    let n = layout::fields(l, k);
+    let mut v = [0u16; FIELDS_MOST];
+    let mut at: usize = 0;
+    for i in 0..n {
+        let two = layout::two_at(l, k, i);
+        v[i] = value_at(body, at, two);
+        at += layout::width(two);
+    }
+    v
+}
+
+// The value that stands at a place; an octet that is not there is 0.
+fn value_at(body: &[u8], at: usize, two: bool) -> u16
+    ensures { λ r. ⌜ r ≡ valueOf two (drop at (now (body .entry))) ⌝ }
+{
+    if body.len() <= at {
+        return 0;
+    }
+    if two {
+        return octets::word(body[at], octet_at(body, at + 1));
+    }
+    body[at] as u16
+}
+
+fn octet_at(body: &[u8], at: usize) -> u8
+    ensures { λ r. ⌜ r ≡ getD (now (body .entry)) at 0 ⌝ }
+{
+    if body.len() <= at {
+        return 0;
+    }
+    body[at]
+}
