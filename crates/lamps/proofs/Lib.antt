@@ -1,0 +1,4 @@
+pub mod Laws
+pub mod Second
+pub mod Cycle
+pub mod Only

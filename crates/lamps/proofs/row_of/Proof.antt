@@ -1,0 +1,10 @@
+-- `lamps::row_of` meets its contract: both words are the diagram's.
+use borrow.Author.Needs.{needs}
+use Rattle.lamps.proofs.row_of.Statement.{statement}
+use Rattle.lamps.proofs.row_of.Tie as tie
+
+returns : tie.Need-returns
+returns c = rw (c .flashing .ensures, c .before .steady .ensures)
+
+pub row-of-spec : {M : Type 1} → statement M
+row-of-spec = tie.close (tie.spec (λ c κs. search needs) (λ c κs. search needs) returns)

@@ -1,0 +1,57 @@
+-- The cases, computed, and what the built-in record is.
+use Prim.Native.Nat.{ℕ, zero, suc, _<_}
+use mathlib.Core.Path.{_≡_, refl}
+use mathlib.Core.Bool.{Bool, true}
+use mathlib.Core.List.{List, [], _∷_}
+use native.Mathlib.Omega.{arith}
+use borrow.Author.Tests.{ltb-true}
+use lib.Dec.{ltb}
+use Rattle.octets.specs.Choice.{both}
+use Rattle.octets.specs.First.{firstOf}
+use Rattle.octets.specs.Octet.{Octets}
+use Rattle.octets.proofs.Laws.{both-left, both-right}
+use Rattle.diagram.specs.Table.{find, directory, diagramOf}
+use Rattle.message.specs.Layouts.{layouts, layoutAt, known, numberOf, rowsAt, rowsOf}
+use Rattle.message.specs.Values.{zeros, placed, firstOut}
+use Rattle.message.specs.Reader.{noMessage, refusedAs, partOf, rangedOf, readPartOf, readOf}
+use Rattle.plan.specs.Record.{ready, kOf}
+use Rattle.plan.specs.Standing.{timesDisagree, planDisagree, ranged, timesStand, planStands, readyStands, allZero, standingOf}
+use Rattle.plan.specs.BuiltIn.{padded, builtIn, PhaseSays, BuiltInIsSo}
+use Rattle.plan.specs.Setting.{notMade, timesRecord, readyRecord, timesField, timesMade, readyMade, keptAs, frontOf, setOf}
+use Rattle.plan.specs.Cases.{answers, dueAnswers, stands, dueStands, PlanCases}
+use Rattle.plan.proofs.Stands.{stands-as-it-is}
+
+pub plan-cases : PlanCases
+unfolding firstOf find directory diagramOf layouts layoutAt known numberOf rowsAt rowsOf zeros placed firstOut noMessage refusedAs partOf rangedOf readPartOf readOf timesDisagree planDisagree ranged timesStand planStands readyStands allZero standingOf padded notMade timesRecord readyRecord timesField timesMade readyMade keptAs frontOf setOf answers dueAnswers stands dueStands
+plan-cases = (refl, refl)
+
+built-in-stands : standingOf builtIn ≡ ready
+unfolding firstOf find directory diagramOf layouts layoutAt known rowsAt rowsOf zeros placed firstOut noMessage refusedAs partOf rangedOf readPartOf timesDisagree planDisagree ranged timesStand planStands readyStands allZero standingOf padded builtIn
+built-in-stands = refl
+
+-- a list that passes the test is one of octets
+allOctets : List ℕ → Bool
+allOctets [] = true
+allOctets (x ∷ xs) = both (ltb x 256) (allOctets xs)
+
+octets-in : (xs : List ℕ) → allOctets xs ≡ true → Octets xs
+unfolding allOctets
+octets-in [] h = tt
+octets-in (x ∷ xs) h = (ltb-true x 256 (both-left (ltb x 256) (allOctets xs) h), octets-in xs (both-right (ltb x 256) (allOctets xs) h))
+
+pub built-in-is-so : BuiltInIsSo
+unfolding padded builtIn allOctets
+built-in-is-so =
+    record {
+      stands = stands-as-it-is builtIn (octets-in builtIn refl) .readyFrom built-in-stands;
+      each = each;
+      cycle = refl;
+      offset = refl;
+      direct = refl;
+      order = refl;
+    }
+  where
+    each : (i : ℕ) → i < kOf builtIn → PhaseSays builtIn i
+    each zero l = record { green = refl; yellow = refl; allRed = refl; walkFlash = refl; redMan = refl; minimum = refl; maximum = refl }
+    each (suc zero) l = record { green = refl; yellow = refl; allRed = refl; walkFlash = refl; redMan = refl; minimum = refl; maximum = refl }
+    each (suc (suc i)) l = absurd (omega arith)

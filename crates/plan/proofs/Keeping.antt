@@ -1,0 +1,97 @@
+-- A set leaves every other plan as it was, and a well-formed book well formed.
+use Prim.Native.Nat.{ℕ, _≤_, _<_}
+use mathlib.Core.Path.{_≡_, refl, sym, ap, subst, _∙_}
+use mathlib.Core.Logic.{_⊎_, inl, inr}
+use mathlib.Core.List.{List}
+use native.Mathlib.Decide.{decLt, ℕ-discrete}
+use native.Mathlib.Omega.{arith}
+use borrow.Author.Tests.{eq-eqb, ne-eqb, lt-leb}
+use lib.ListN.{length}
+use Rattle.octets.specs.Octet.{Octets}
+use Rattle.octets.specs.Refusal as refusal
+use Rattle.message.specs.Reader.{codeIn, bodyIn}
+use Rattle.plan.specs.declared.setting.Made.{Made}
+use Rattle.plan.specs.Record.{bookLen, plansMost, Empty, TimesSet, Ready}
+use Rattle.plan.specs.Reading.{recordAt, readRefusal}
+use Rattle.plan.specs.Setting.{planIn, frontOf, setOf, timesMade, readyMade, setTimesCode, setPlanCode, setTimesOf, setPlanOf}
+use Rattle.plan.specs.Promises.{Stored, OthersRead, SetsLeaveOthers, WellFormed, BookWellFormed, SetsKeepForm}
+use Rattle.plan.proofs.Sets.{front-sound}
+use Rattle.plan.proofs.Storing.{times-stored-exactly-when}
+use Rattle.plan.proofs.Readying.{plan-stored-exactly-when}
+
+-- a set leaves the book as it was, or stores a record that stands
+pub data Left (book : List ℕ) (p : ℕ) : List ℕ → Type 0 where
+  same : Left book p book
+  put : (rec book′ : List ℕ) → Stored book p rec book′ → WellFormed rec → Left book p book′
+
+pub set-other : (code : ℕ) (m : Made) (book info : List ℕ) → (codeIn info ≡ code → ⊥) → setOf code m book info .book ≡ book
+unfolding setOf
+set-other code m book info n = rw (ne-eqb (frontOf (length book) code info .refusal) refusal.none (λ e. n (front-sound (length book) code info e .2)))
+
+module _ (book info : List ℕ) (hb : length book ≡ bookLen) where
+  abbrev p : ℕ
+  p = planIn (bodyIn info)
+
+  left-as : {l : List ℕ} → l ≡ book → Left book p l
+  left-as e = subst (Left book p) (sym e) same
+
+  pub times-left : Left book p (setTimesOf book info .book)
+  times-left = by (ℕ-discrete (codeIn info) setTimesCode)
+    where
+      by : Dec (codeIn info ≡ setTimesCode) → Left book p (setTimesOf book info .book)
+      by (no n) = left-as (set-other setTimesCode (timesMade (bodyIn info)) book info n)
+      by (yes e) = go (ℕ-discrete (setTimesOf book info .answer .refusal) refusal.none)
+        where
+          go : Dec (setTimesOf book info .answer .refusal ≡ refusal.none) → Left book p (setTimesOf book info .book)
+          go (no n) = left-as (times-stored-exactly-when book info hb e .kept n)
+          go (yes a) =
+              let j = times-stored-exactly-when book info hb e in
+              put (j .rec) (setTimesOf book info .book) (j .stored (j .only a)) (inr (inl (j .holds (j .only a) .stands)))
+
+  pub plan-left : Octets book → Left book p (setPlanOf book info .book)
+  plan-left o = by (ℕ-discrete (codeIn info) setPlanCode)
+    where
+      by : Dec (codeIn info ≡ setPlanCode) → Left book p (setPlanOf book info .book)
+      by (no n) = left-as (set-other setPlanCode (readyMade (recordAt book p) (bodyIn info)) book info n)
+      by (yes e) = go (ℕ-discrete (setPlanOf book info .answer .refusal) refusal.none)
+        where
+          go : Dec (setPlanOf book info .answer .refusal ≡ refusal.none) → Left book p (setPlanOf book info .book)
+          go (no n) = left-as (plan-stored-exactly-when book info hb o e .kept n)
+          go (yes a) =
+              let j = plan-stored-exactly-when book info hb o e in
+              put (j .rec) (setPlanOf book info .book) (j .stored (j .only a)) (inr (inr (j .holds (j .only a) .stands)))
+
+-- a plan whose record is the same reads the same
+reads-same : (book book′ own : List ℕ) (q : ℕ) → length book′ ≡ length book → (1 ≤ q → q ≤ plansMost → recordAt book′ q ≡ recordAt book q)
+    → readRefusal book′ own q ≡ readRefusal book own q
+unfolding readRefusal
+reads-same book book′ own q e h = by (ℕ-discrete q 0) (decLt plansMost q)
+  where
+    by : Dec (q ≡ 0) → Dec (plansMost < q) → readRefusal book′ own q ≡ readRefusal book own q
+    by (yes z) d = rw (e, eq-eqb q 0 z)
+    by (no n) (yes l) = rw (e, lt-leb q plansMost l)
+    by (no n) (no g) = rw (e, h (omega arith) (omega arith))
+
+others-read : (book : List ℕ) (p : ℕ) → length book ≡ bookLen → {book′ : List ℕ} → Left book p book′ → OthersRead book book′ p
+others-read book p hb same = record { refusal = λ own q n. refl; octets = λ q a b n. refl }
+others-read book p hb (put rec book′ s w) =
+    record {
+      refusal = λ own q n. reads-same book book′ own q (s .long ∙ sym hb) (λ a b. s .others q a b n);
+      octets = s .others;
+    }
+
+well-formed : (book : List ℕ) (p : ℕ) → BookWellFormed book → {book′ : List ℕ} → Left book p book′ → BookWellFormed book′
+well-formed book p f same = f
+well-formed book p f (put rec book′ s w) = record { long = s .long; each = λ q a b. by q a b (ℕ-discrete q p) }
+  where
+    by : (q : ℕ) → 1 ≤ q → q ≤ plansMost → Dec (q ≡ p) → WellFormed (recordAt book′ q)
+    by q a b (yes e) = rw e (rw (s .here) w)
+    by q a b (no n) = rw (s .others q a b n) (f .each q a b)
+
+pub sets-leave-others : SetsLeaveOthers
+sets-leave-others book info hb o =
+    (others-read book (planIn (bodyIn info)) hb (times-left book info hb), others-read book (planIn (bodyIn info)) hb (plan-left book info hb o))
+
+pub sets-keep-form : SetsKeepForm
+sets-keep-form book info o f =
+    (well-formed book (planIn (bodyIn info)) f (times-left book info (f .long)), well-formed book (planIn (bodyIn info)) f (plan-left book info (f .long) o))

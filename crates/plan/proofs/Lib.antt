@@ -1,0 +1,11 @@
+pub mod Laws
+pub mod Fields
+pub mod Stands
+pub mod Sets
+pub mod Storing
+pub mod Readying
+pub mod Reports
+pub mod Cases
+pub mod Keeping
+pub mod Telling
+pub mod Only

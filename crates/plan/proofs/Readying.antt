@@ -1,0 +1,431 @@
+-- A 5F 15 is stored exactly when its checks pass.
+use Prim.Native.Nat.{ℕ, zero, suc, _+_, _*_, _-_, _≤_, _<_}
+use mathlib.Core.Path.{_≡_, refl, sym, ap, subst, _∙_}
+use mathlib.Core.Bool.{Bool, true, false, not}
+use mathlib.Core.Logic.{_⊎_, inl, inr}
+use mathlib.Core.List.{List, [], _∷_, _++_}
+use native.Mathlib.Decide.{decLt, ℕ-discrete}
+use native.Mathlib.Omega.{arith}
+use borrow.Author.Tests.{eq-eqb, ne-eqb, eqb-true, eqb-false, leb-true, leb-false, not-true, not-false}
+use lib.Dec.{eqb, leb}
+use lib.ListN.{length, getD, take, drop, length-drop, length-append}
+use lib.Seq.{sets, drop-drop, getD-drop, length-take-le}
+use Rattle.octets.specs.First.{First, firstOf}
+use Rattle.octets.specs.Octet.{Octets}
+use Rattle.octets.specs.Refusal as refusal
+use Rattle.octets.specs.Word.{wordOf}
+use Rattle.octets.proofs.Laws.{clash}
+use Rattle.diagram.specs.Table.{phasesOf}
+use Rattle.message.specs.Layouts.{layouts, layoutAt, numberOf, rowsAt, rowsOf, repeated, greens, cycleOffset}
+use Rattle.message.specs.Names.{planAt, planCountAt, offsetAt}
+use Rattle.message.specs.Reader.{kIn, codeIn, bodyIn, readOf}
+use Rattle.plan.specs.declared.setting.Answered.{Answered}
+use Rattle.plan.specs.declared.setting.Made.{Made}
+use Rattle.plan.specs.Record.{recordLen, bookLen, plansMost, empty, timesSet, ready, octetAt, wordAt, stateOf, kOf, timesAt, timesEnd, greensAt, readyEnd, minimumOf, maximumOf, yellowOf, allRedOf, directOf, orderOf, greenOf, cycleOf, offsetOf, sumOf, Within, TimesFit, AllTimesFit, TimesSet, Ready}
+use Rattle.plan.specs.Standing.{between, greenFails, planFails, planChecks, planDisagree, standingOf, Stands}
+use Rattle.plan.specs.Reading.{startOf, recordAt}
+use Rattle.plan.specs.Setting.{planIn, countIn, Setting, answered, made, notMade, readyRecord, planField, readyMade, keptAs, setOf, setPlanCode, setPlanOf}
+use Rattle.plan.specs.Promises.{directIn, orderIn, greenIn, cycleIn, offsetIn, sumIn, Ranges15, HasTimes, CountAgrees, GreenAgrees, Fit15, Disagrees15, count, green, cycle, offset, Stored, SameTimes, Holds15, PlanJudged, PlanStoredExactlyWhen}
+use Rattle.plan.proofs.Laws.{octets-part}
+use Rattle.plan.proofs.Fields.{at-one, within, inside, size-append, size-repeated, Pass, Read1, greens-in, greens-out}
+use Rattle.plan.proofs.Stands.{PlanAgrees, plan-first, plan-agrees, agrees-plan, green-within, within-green, check-green, check-cycle, check-offset, stands-as-it-is}
+use Rattle.plan.proofs.Sets.{read-plan, plan-body, padded-at, padded-long, padded-rest, ready-times, ready-two, ready-rest, ready-k}
+use Rattle.plan.proofs.Storing.{stored-here, set-read, set-unread, kept-made, kept-not-made, is-read, long-enough, same-times, same-fit}
+
+-- The ranges
+
+module _ (body : List ℕ) where
+  e2 : drop 1 (drop 1 body) ≡ drop 2 body
+  e2 = drop-drop 1 1 body
+
+  e3 : drop 1 (drop 1 (drop 1 body)) ≡ drop 3 body
+  e3 = ap (drop 1) e2 ∙ drop-drop 1 2 body
+
+  e4 : drop 1 (drop 1 (drop 1 (drop 1 body))) ≡ drop 4 body
+  e4 = ap (drop 1) e3 ∙ drop-drop 1 3 body
+
+  ranges-from : Read1 5 (countIn body) body → Ranges15 body
+  unfolding rowsAt rowsOf layoutAt layouts
+  ranges-from r =
+      let k = countIn body in
+      let b = plan-body body r in
+      let p = r .pass in
+      let o = at-one body 2 e2 in
+      let g = greens-in body 4 k (subst (Pass (repeated k greens ++ cycleOffset)) e4 (p .1 .1 .1 .1)) in
+      record {
+        long = b .long;
+        plan = b .plan;
+        direct = within (at-one body 1 refl) (p .1 .0);
+        order = (omega (arith, p .1 .1 .0 .0), subst (λ (v : ℕ). 1 ≤ phasesOf v) o (p .1 .1 .0 .1));
+        count = b .count;
+        green = g .0;
+        cycle = g .1;
+        offset = g .2;
+      }
+
+  pub ranges-to : Ranges15 body → Read1 5 (countIn body) body
+  unfolding rowsAt rowsOf layoutAt layouts
+  ranges-to r =
+      let k = countIn body in
+      let o = at-one body 2 e2 in
+      record {
+        right =
+            record {
+              fewest = r .count .least;
+              most = r .count .most;
+              octets = r .long ∙ omega (arith, size-append (repeated k greens) cycleOffset, size-repeated greens k);
+            };
+        pass = (
+          (r .plan .least, r .plan .most),
+          (
+            inside (at-one body 1 refl) (r .direct),
+            (
+              (omega (arith, r .order .0), subst (λ (v : ℕ). 1 ≤ phasesOf v) (sym o) (r .order .1)),
+              (
+                inside (at-one body 3 e3) (r .count),
+                subst (Pass (repeated k greens ++ cycleOffset)) (sym e4) (greens-out body 4 k (r .green) (r .cycle) (r .offset)),
+              ),
+            ),
+          ),
+        );
+      }
+
+-- A plan that has times
+
+module _ (rec : List ℕ) where
+  pub has-long : HasTimes rec → length rec ≡ recordLen
+  has-long (inl t) = t .long
+  has-long (inr r) = r .long
+
+  pub has-fit : HasTimes rec → AllTimesFit rec
+  has-fit (inl t) = t .times
+  has-fit (inr r) = r .times
+
+  module _ (o : Octets rec) where
+    s : Stands rec
+    s = stands-as-it-is rec o
+
+    pub stands-has : (standingOf rec ≡ empty → ⊥) → HasTimes rec
+    stands-has n = by (ℕ-discrete (standingOf rec) timesSet)
+      where
+        by : Dec (standingOf rec ≡ timesSet) → HasTimes rec
+        by (yes e) = inl (s .timesFrom e)
+        by (no g) = inr (s .readyFrom (omega (arith, s .most)))
+
+    pub has-stands : HasTimes rec → standingOf rec ≡ empty → ⊥
+    has-stands (inl t) e = absurd (omega (arith, s .timesTo t))
+    has-stands (inr r) e = absurd (omega (arith, s .readyTo r))
+
+-- The record that a 5F 15 makes has the stored times and the message's fields
+
+module _ (old body : List ℕ) (h : HasTimes old) (r : Ranges15 body) (e : countIn body ≡ kOf old) where
+  abbrev m : List ℕ
+  m = readyRecord old body
+
+  abbrev k : ℕ
+  k = kOf old
+
+  long-old : timesEnd old ≤ length old
+  long-old = omega (arith, has-long old h, has-fit old h .count .most)
+
+  long-body : 4 ≤ length body
+  long-body = omega (arith, r .long)
+
+  m-k : kOf m ≡ k
+  m-k = ready-k old body long-old long-body
+
+  m-times : (i : ℕ) → i < k → SameTimes m old i
+  m-times i l = same-times m old i (λ j a b. ready-times old body long-old long-body j (omega arith) (omega arith))
+
+  m-direct : directOf m ≡ directIn body
+  m-direct = let q : timesAt (kOf m) ≡ timesEnd old + 0 = omega (arith, m-k) in ap (octetAt m) q ∙ ready-two old body long-old long-body 0 (omega arith)
+
+  m-order : orderOf m ≡ orderIn body
+  m-order = let q : timesAt (kOf m) + 1 ≡ timesEnd old + 1 = omega (arith, m-k) in ap (octetAt m) q ∙ ready-two old body long-old long-body 1 (omega arith)
+
+  m-word : (at j : ℕ) → at ≡ timesEnd old + (2 + j) → wordAt m at ≡ wordAt body (4 + j)
+  m-word at j q =
+      let q′ : at + 1 ≡ timesEnd old + (2 + (j + 1)) = omega arith in
+      let b : 4 + (j + 1) ≡ 4 + j + 1 = omega arith in
+      rw (q′, q, ready-rest old body long-old long-body j, ready-rest old body long-old long-body (j + 1), b)
+
+  m-green : (i : ℕ) → greenOf m i ≡ greenIn body i
+  m-green i = m-word (greensAt m + 2 * i) (2 * i) (omega (arith, m-k))
+
+  m-cycle : cycleOf m ≡ cycleIn body
+  m-cycle = m-word (greensAt m + 2 * kOf m) (2 * kOf m) (omega (arith, m-k)) ∙ ap (λ (n : ℕ). wordAt body (4 + 2 * n)) (m-k ∙ sym e)
+
+  m-offset : offsetOf m ≡ offsetIn body
+  m-offset =
+      let a : 4 + (2 * kOf m + 2) ≡ 4 + 2 * countIn body + 2 = omega (arith, m-k, e) in
+      m-word (greensAt m + 2 * kOf m + 2) (2 * kOf m + 2) (omega (arith, m-k)) ∙ ap (wordAt body) a
+
+  m-sum : (n : ℕ) → n ≤ k → sumOf m n ≡ sumIn old body n
+  m-sum zero l = refl
+  m-sum (suc n) l = rw (m-sum n (omega arith), m-green n, m-times n l .yellow, m-times n l .allRed)
+
+  m-within : (i : ℕ) → i < k → Within (minimumOf m i) (greenOf m i) (maximumOf m i) → GreenAgrees old body i
+  m-within i l w = rw (m-times i l .minimum, m-times i l .maximum, m-green i) at w
+
+  within-m : (i : ℕ) → i < k → GreenAgrees old body i → Within (minimumOf m i) (greenOf m i) (maximumOf m i)
+  within-m i l w = rw (m-times i l .minimum, m-times i l .maximum, m-green i) w
+
+  m-total : sumOf m (kOf m) ≡ sumIn old body (countIn body)
+  m-total = ap (sumOf m) (m-k ∙ sym e) ∙ m-sum (countIn body) (omega (arith, e))
+
+  -- its checks are those of the message
+  module _ (d : countIn body ≡ phasesOf (orderIn body)) (g : (i : ℕ) → i < countIn body → GreenAgrees old body i) (c : cycleIn body ≡ sumIn old body (countIn body))
+      (f : offsetIn body < cycleIn body) where
+    m-agrees : PlanAgrees m
+    m-agrees =
+        record {
+          count = m-k ∙ (sym e ∙ (d ∙ ap phasesOf (sym m-order)));
+          green = λ i l. within-m i (omega (arith, m-k)) (g i (omega (arith, m-k, e)));
+          cycle = m-cycle ∙ (c ∙ sym m-total);
+          offset = rw (m-offset, m-cycle) f;
+        }
+
+    front-len : length (between 1 (timesEnd old) old) ≡ timesEnd old - 1
+    front-len = length-take-le (timesEnd old - 1) (drop 1 old) (simp length-drop (omega (arith, long-old)))
+
+    two-len : length (between 1 3 body) ≡ 2
+    two-len = length-take-le 2 (drop 1 body) (simp length-drop (omega (arith, long-body)))
+
+    m-len : length (ready ∷ (between 1 (timesEnd old) old ++ (between 1 3 body ++ drop 4 body))) ≡ timesEnd old + 2 + (length body - 4)
+    m-len =
+        omega (arith, length-append (between 1 (timesEnd old) old) (between 1 3 body ++ drop 4 body), length-append (between 1 3 body) (drop 4 body), front-len, two-len, length-drop 4 body)
+
+    pub m-long : length m ≡ recordLen
+    unfolding readyRecord
+    m-long = padded-long (ready ∷ (between 1 (timesEnd old) old ++ (between 1 3 body ++ drop 4 body))) (omega (arith, m-len, r .long, e, has-fit old h .count .most))
+
+    m-ready : Ready m
+    unfolding readyRecord
+    m-ready =
+        record {
+          long = m-long;
+          state = padded-at (ready ∷ (between 1 (timesEnd old) old ++ (between 1 3 body ++ drop 4 body))) 0;
+          times =
+              record {
+                count = rw m-k (has-fit old h .count);
+                phases = λ i l. let l′ : i < k = omega (arith, m-k) in same-fit m old i (m-times i l′) (has-fit old h .phases i l′);
+              };
+          greens =
+              record {
+                direct = rw m-direct (r .direct);
+                count = m-agrees .count;
+                green = m-agrees .green;
+                cycle = m-agrees .cycle;
+                most = rw m-cycle (r .cycle .most);
+                offset = m-agrees .offset;
+              };
+          rest =
+              padded-rest (ready ∷ (between 1 (timesEnd old) old ++ (between 1 3 body ++ drop 4 body))) (readyEnd m) (omega (arith, m-len, r .long, e, m-k));
+        }
+
+    pub m-holds : Holds15 old body m
+    m-holds =
+        record {
+          stands = m-ready;
+          count = m-k;
+          times = m-times;
+          direct = m-direct;
+          order = m-order;
+          green = λ i l. m-green i;
+          cycle = m-cycle;
+          offset = m-offset;
+        }
+
+  -- what the checks of the record say of the message
+  m-fit : planDisagree m ≡ 0 → Fit15 old body
+  m-fit z =
+      let a = plan-agrees m z in
+      record {
+        ranges = r;
+        set = h;
+        count = record { stored = e; diagram = e ∙ (sym m-k ∙ (a .count ∙ ap phasesOf m-order)) };
+        green = λ i l. m-within i (omega (arith, e)) (a .green i (omega (arith, m-k, e)));
+        cycle = sym m-cycle ∙ (a .cycle ∙ m-total);
+        offset = rw (m-offset, m-cycle) at (a .offset);
+      }
+
+  m-disagrees : (planDisagree m ≡ 0 → ⊥) → Disagrees15 old body (planField (planDisagree m))
+  m-disagrees n = by (planDisagree m) (plan-first m) n
+    where
+      counted : (n : ℕ) → First (planFails m) (planChecks m) n → 1 < n → CountAgrees old body
+      counted n f l =
+          let c = eqb-true (kOf m) (phasesOf (orderOf m)) (not-false (eqb (kOf m) (phasesOf (orderOf m))) (f .before 0 (omega arith))) in
+          record { stored = e; diagram = e ∙ (sym m-k ∙ (c ∙ ap phasesOf m-order)) }
+
+      greened : (n : ℕ) → First (planFails m) (planChecks m) n → (j : ℕ) → j + 2 < n → j < k → GreenAgrees old body j
+      greened n f j l lk = m-within j lk (green-within m j (sym (check-green m j (omega (arith, m-k))) ∙ f .before (j + 1) (omega arith)))
+
+      summed : (n : ℕ) → First (planFails m) (planChecks m) n → kOf m + 2 < n → cycleIn body ≡ sumIn old body (countIn body)
+      summed n f l =
+          let c = not-false (eqb (cycleOf m) (sumOf m (kOf m))) (sym (check-cycle m) ∙ f .before (kOf m + 1) (omega arith)) in
+          sym m-cycle ∙ (eqb-true (cycleOf m) (sumOf m (kOf m)) c ∙ m-total)
+
+      by : (n : ℕ) → First (planFails m) (planChecks m) n → (n ≡ 0 → ⊥) → Disagrees15 old body (planField n)
+      by n f h0 = go (ℕ-discrete n 1) (decLt (kOf m + 1) n) (ℕ-discrete n (kOf m + 2))
+        where
+          go : Dec (n ≡ 1) → Dec (kOf m + 1 < n) → Dec (n ≡ kOf m + 2) → Disagrees15 old body (planField n)
+          go (yes z) d d′ =
+              let x = eqb-false (kOf m) (phasesOf (orderOf m)) (not-true (eqb (kOf m) (phasesOf (orderOf m))) (f .here 0 (omega arith))) in
+              let q : planCountAt ≡ planField n = omega arith in
+              subst (Disagrees15 old body) q (count (λ a. x (m-k ∙ (sym e ∙ (a .diagram ∙ ap phasesOf (sym m-order))))))
+          go (no z) (no d) d′ =
+              let i : ℕ = n - 2 in
+              let q : 5 + i ≡ planField n = omega arith in
+              let t = sym (check-green m i (omega arith)) ∙ f .here (i + 1) (omega arith) in
+              subst (Disagrees15 old body) q
+              (green i (omega (arith, m-k, e)) (counted n f (omega arith)) (λ j l. greened n f j (omega arith) (omega (arith, m-k)))
+              (λ w. clash (within-green m i (within-m i (omega (arith, m-k)) w)) t))
+          go (no z) (yes d) (yes c) =
+              let x = eqb-false (cycleOf m) (sumOf m (kOf m)) (not-true (eqb (cycleOf m) (sumOf m (kOf m))) (sym (check-cycle m) ∙ f .here (kOf m + 1) (omega arith))) in
+              let q : 5 + countIn body ≡ planField n = omega (arith, m-k, e) in
+              subst (Disagrees15 old body) q
+              (cycle (counted n f (omega arith)) (λ j l. greened n f j (omega (arith, m-k, e)) (omega (arith, e))) (λ y. x (m-cycle ∙ (y ∙ sym m-total))))
+          go (no z) (yes d) (no c) =
+              let n3 : n ≡ kOf m + 3 = omega (arith, f .within) in
+              let q : offsetAt (countIn body) ≡ planField n = omega (arith, m-k, e) in
+              let x = leb-true (cycleOf m) (offsetOf m) (sym (check-offset m) ∙ f .here (kOf m + 2) (omega arith)) in
+              subst (Disagrees15 old body) q
+              (offset (counted n f (omega arith)) (λ j l. greened n f j (omega (arith, m-k, e)) (omega (arith, e))) (summed n f (omega arith))
+              (omega (arith, m-cycle, m-offset, x)))
+
+-- Stored exactly when
+
+module _ (book info : List ℕ) (hb : length book ≡ bookLen) (ob : Octets book) (hc : codeIn info ≡ setPlanCode) where
+  abbrev os : List ℕ
+  os = bodyIn info
+
+  abbrev p : ℕ
+  p = planIn os
+
+  abbrev old : List ℕ
+  old = recordAt book p
+
+  old-octets : Octets old
+  old-octets = octets-part recordLen (startOf p) book ob
+
+  pub plan-number : numberOf (codeIn info) ≡ 5
+  unfolding numberOf firstOf layoutAt layouts
+  plan-number = ap numberOf hc
+
+  pub plan-count : kIn (layoutAt 5) os ≡ countIn os
+  unfolding layoutAt layouts
+  plan-count = simp getD-drop
+
+  ranges-read : Ranges15 os → readOf info .refusal ≡ refusal.none
+  unfolding layouts
+  ranges-read r = is-read info 5 (countIn os) plan-number plan-count (long-enough info setPlanCode hc (λ z. absurd (omega arith))) (record { first = omega arith; last = omega arith }) (ranges-to os r)
+
+  abbrev what : Made
+  what = readyMade old os
+
+  abbrev m15 : List ℕ
+  m15 = readyRecord old os
+
+  abbrev no-set : ℕ → ℕ → Setting
+  no-set n field = record { answer = answered n field; book = book }
+
+  abbrev done : Setting
+  done = record { answer = answered refusal.none 0; book = sets book (startOf p) m15 }
+
+  module _ (er : readOf info .refusal ≡ refusal.none) where
+    read-unset : standingOf old ≡ empty → setPlanOf book info ≡ no-set refusal.notReady planAt
+    unfolding readyMade
+    read-unset z = set-read setPlanCode what book info hb er hc ∙ rw (eq-eqb (standingOf old) empty z) (kept-not-made p book refusal.notReady planAt (λ z. absurd (omega arith)))
+
+    module _ (hs : standingOf old ≡ empty → ⊥) where
+      read-count : (countIn os ≡ kOf old → ⊥) → setPlanOf book info ≡ no-set refusal.disagree planCountAt
+      unfolding readyMade
+      read-count n =
+          set-read setPlanCode what book info hb er hc
+          ∙ rw (ne-eqb (standingOf old) empty hs, ne-eqb (countIn os) (kOf old) n) (kept-not-made p book refusal.disagree planCountAt (λ z. absurd (omega arith)))
+
+      module _ (ek : countIn os ≡ kOf old) where
+        read-disagrees : (planDisagree m15 ≡ 0 → ⊥) → setPlanOf book info ≡ no-set refusal.disagree (planField (planDisagree m15))
+        unfolding readyMade
+        read-disagrees n =
+            set-read setPlanCode what book info hb er hc
+            ∙ rw (ne-eqb (standingOf old) empty hs, eq-eqb (countIn os) (kOf old) ek, ne-eqb (planDisagree m15) 0 n)
+            (kept-not-made p book refusal.disagree (planField (planDisagree m15)) (λ z. absurd (omega arith)))
+
+        read-done : planDisagree m15 ≡ 0 → setPlanOf book info ≡ done
+        unfolding readyMade
+        read-done z =
+            set-read setPlanCode what book info hb er hc
+            ∙ rw (ne-eqb (standingOf old) empty hs, eq-eqb (countIn os) (kOf old) ek, eq-eqb (planDisagree m15) 0 z) (kept-made p book m15)
+
+  pub fit-done : Fit15 old os → setPlanOf book info ≡ done
+  fit-done f =
+      read-done (ranges-read (f .ranges)) (has-stands old old-octets (f .set)) (f .count .stored)
+      (agrees-plan m15 (m-agrees old os (f .set) (f .ranges) (f .count .stored) (f .count .diagram) (f .green) (f .cycle) (f .offset)))
+
+  -- what comes of it, way by way
+  data Way : Setting → Type 0 where
+    unread : (readOf info .refusal ≡ refusal.none → ⊥) → Way (no-set (readOf info .refusal) (readOf info .field))
+    unset : readOf info .refusal ≡ refusal.none → (HasTimes old → ⊥) → Way (no-set refusal.notReady planAt)
+    refused : (f : ℕ) → HasTimes old → Disagrees15 old os f → Way (no-set refusal.disagree f)
+    fits : Fit15 old os → Way done
+
+  way : Way (setPlanOf book info)
+  way = by (ℕ-discrete (readOf info .refusal) refusal.none) (ℕ-discrete (standingOf old) empty) (ℕ-discrete (countIn os) (kOf old)) (ℕ-discrete (planDisagree m15) 0)
+    where
+      by : Dec (readOf info .refusal ≡ refusal.none) → Dec (standingOf old ≡ empty) → Dec (countIn os ≡ kOf old) → Dec (planDisagree m15 ≡ 0) → Way (setPlanOf book info)
+      by (no n) d d′ d″ = subst Way (sym (set-unread setPlanCode what book info hb n)) (unread n)
+      by (yes e) (yes z) d′ d″ = subst Way (sym (read-unset e z)) (unset e (λ h. has-stands old old-octets h z))
+      by (yes e) (no hs) (no n) d″ = subst Way (sym (read-count e hs n)) (refused planCountAt (stands-has old old-octets hs) (count (λ a. n (a .stored))))
+      by (yes e) (no hs) (yes ek) (no n) =
+          let h = stands-has old old-octets hs in
+          subst Way (sym (read-disagrees e hs ek n)) (refused (planField (planDisagree m15)) h (m-disagrees old os h (ranges-from os (read-plan info e hc)) ek n))
+      by (yes e) (no hs) (yes ek) (yes z) =
+          subst Way (sym (read-done e hs ek z)) (fits (m-fit old os (stands-has old old-octets hs) (ranges-from os (read-plan info e hc)) ek z))
+
+  only : {w : Setting} → Way w → w .answer .refusal ≡ refusal.none → Fit15 old os
+  only (unread n) e = absurd (n e)
+  only (unset r n) e = absurd (omega arith)
+  only (refused f h d) e = absurd (omega arith)
+  only (fits f) e = f
+
+  kept : {w : Setting} → Way w → (w .answer .refusal ≡ refusal.none → ⊥) → w .book ≡ book
+  kept (unread n) h = refl
+  kept (unset r n) h = refl
+  kept (refused f t d) h = refl
+  kept (fits f) h = absurd (h refl)
+
+  unset-is : {w : Setting} → Way w → readOf info .refusal ≡ refusal.none → (HasTimes old → ⊥) → (w .answer .refusal ≡ refusal.notReady) × (w .answer .field ≡ planAt)
+  unset-is (unread n) e h = absurd (n e)
+  unset-is (unset r n) e h = (refl, refl)
+  unset-is (refused f t d) e h = absurd (h t)
+  unset-is (fits f) e h = absurd (h (f .set))
+
+  named : {w : Setting} → Way w → readOf info .refusal ≡ refusal.none → HasTimes old → (w .answer .refusal ≡ refusal.none → ⊥)
+      → (w .answer .refusal ≡ refusal.disagree) × Disagrees15 old os (w .answer .field)
+  named (unread n) e t h = absurd (n e)
+  named (unset r n) e t h = absurd (n t)
+  named (refused f t′ d) e t h = (refl, d)
+  named (fits f) e t h = absurd (h refl)
+
+  pub plan-judged : PlanJudged book info old
+  plan-judged =
+      record {
+        rec = m15;
+        stored = λ f.
+            subst (λ (w : Setting). Stored book p m15 (w .book)) (sym (fit-done f))
+            (stored-here book p m15 hb (f .ranges .plan .least) (f .ranges .plan .most)
+            (m-long old os (f .set) (f .ranges) (f .count .stored) (f .count .diagram) (f .green) (f .cycle) (f .offset)));
+        holds = λ f. m-holds old os (f .set) (f .ranges) (f .count .stored) (f .count .diagram) (f .green) (f .cycle) (f .offset);
+        accepted = λ f. ap (λ (w : Setting). w .answer .refusal) (fit-done f);
+        only = only way;
+        kept = kept way;
+        unread = λ n.
+            let e = set-unread setPlanCode what book info hb n in
+            (ap (λ (w : Setting). w .answer .refusal) e, ap (λ (w : Setting). w .answer .field) e);
+        unset = unset-is way;
+        named = named way;
+      }
+
+pub plan-stored-exactly-when : PlanStoredExactlyWhen
+plan-stored-exactly-when book info hb ob hc = plan-judged book info hb ob hc

@@ -1,0 +1,304 @@
+-- What follows from the definitions of a set: one law for each way, and what a message that is read tells.
+use Prim.Native.Nat.{ℕ, zero, suc, _+_, _*_, _-_, _/_, _%_, _≤_, _<_}
+use mathlib.Core.Path.{_≡_, refl, sym, ap, subst, _∙_}
+use mathlib.Core.Bool.{Bool, true, false}
+use mathlib.Core.List.{List, [], _∷_, _++_}
+use native.Mathlib.Nat.{zero-add}
+use native.Mathlib.Decide.{decLt}
+use native.Mathlib.Omega.{arith}
+use borrow.Author.Tests.{eq-eqb, ne-eqb, eqb-true, eqb-false}
+use lib.Dec.{eqb}
+use lib.ListN.{length, getD, take, drop, set, replicate, length-append, length-take, length-drop, length-replicate, List·getD-append, List·getD-eq-default}
+use lib.Seq.{sets, sets-eq, getD-drop, getD-take, getD-append-add, drop-at, length-take-le}
+use Rattle.octets.specs.Choice.{pick}
+use Rattle.octets.specs.First.{First, firstOf}
+use Rattle.octets.specs.Put.{Put, Stored}
+use Rattle.octets.specs.Refusal as refusal
+use Rattle.octets.proofs.Laws.{put-stored, stored-then, part-to-end}
+use Rattle.message.specs.declared.Read.{Read}
+use Rattle.message.specs.Fields as field
+use Rattle.message.specs.Layouts.{layouts, layoutAt, numberOf, rowsAt, rowsOf, repeated, times, greens, cycleOffset}
+use Rattle.message.specs.Values.{sizeOf, valuesOf}
+use Rattle.message.specs.Reader.{kIn, codeIn, bodyIn, readOf}
+use Rattle.message.specs.Names.{planAt, planCountAt, maximumAt, redManAt}
+use Rattle.message.proofs.Search.{getD-past}
+use Rattle.message.proofs.Accepted.{Accepted, accepted-in}
+use Rattle.plan.specs.declared.setting.Answered.{Answered}
+use Rattle.plan.specs.declared.setting.Made.{Made}
+use Rattle.plan.specs.Record.{recordLen, bookLen, empty, timesSet, ready, octetAt, wordAt, kOf, timesEnd, Within, ZeroFrom}
+use Rattle.plan.specs.Standing.{between, timesDisagree, planDisagree, standingOf}
+use Rattle.plan.specs.BuiltIn.{padded}
+use Rattle.plan.specs.Reading.{startOf, recordAt}
+use Rattle.plan.specs.Setting.{planIn, countIn, Times14, Plan15, timesRecord, readyRecord, made, notMade, timesField, planField, timesMade, readyMade, Setting, Did, answered, keptAs, setTimesCode, setPlanCode, frontOf, setOf}
+use Rattle.plan.proofs.Fields.{size-append, size-repeated, Read1, pass-all}
+
+-- What any set refuses
+
+module _ (n code : ℕ) (info : List ℕ) where
+  pub front-book : (n ≡ bookLen → ⊥) → answered refusal.bookWrong 0 ≡ frontOf n code info
+  unfolding frontOf
+  front-book h = rw (ne-eqb n bookLen h)
+
+  module _ (hb : n ≡ bookLen) {r : Read} (er : r ≡ readOf info) where
+    pub front-read : (r .refusal ≡ refusal.none → ⊥) → answered (r .refusal) (r .field) ≡ frontOf n code info
+    unfolding frontOf
+    front-read h = rw (eq-eqb n bookLen hb, ← er, ne-eqb (r .refusal) refusal.none h)
+
+    module _ (hr : r .refusal ≡ refusal.none) {w : ℕ} (ew : w ≡ wordAt info 0) where
+      pub front-code : (w ≡ code → ⊥) → answered refusal.codeUnknown 0 ≡ frontOf n code info
+      unfolding frontOf
+      front-code h = rw (eq-eqb n bookLen hb, ← er, eq-eqb (r .refusal) refusal.none hr, ← ew, ne-eqb w code h)
+
+      pub front-passes : w ≡ code → answered refusal.none 0 ≡ frontOf n code info
+      unfolding frontOf
+      front-passes h = rw (eq-eqb n bookLen hb, ← er, eq-eqb (r .refusal) refusal.none hr, ← ew, eq-eqb w code h)
+
+  -- what no refusal tells
+  pub front-sound : frontOf n code info .refusal ≡ refusal.none → (n ≡ bookLen) × (readOf info .refusal ≡ refusal.none) × (codeIn info ≡ code)
+  unfolding frontOf
+  front-sound e = by (eqb n bookLen) refl (eqb (readOf info .refusal) refusal.none) refl (eqb (codeIn info) code) refl e
+    where
+      by : (a : Bool) → eqb n bookLen ≡ a → (b : Bool) → eqb (readOf info .refusal) refusal.none ≡ b → (c : Bool) → eqb (codeIn info) code ≡ c
+          → pick a (pick b (pick c (answered refusal.none 0) (answered refusal.codeUnknown 0)) (answered (readOf info .refusal) (readOf info .field)))
+          (answered refusal.bookWrong 0) .refusal ≡ refusal.none
+          → (n ≡ bookLen) × (readOf info .refusal ≡ refusal.none) × (codeIn info ≡ code)
+      by true ea true eb true ec h = (eqb-true n bookLen ea, eqb-true (readOf info .refusal) refusal.none eb, eqb-true (codeIn info) code ec)
+      by true ea true eb false ec h = absurd (omega arith)
+      by true ea false eb c ec h = absurd (eqb-false (readOf info .refusal) refusal.none eb h)
+      by false ea b eb c ec h = absurd (omega arith)
+
+-- A message that is read
+
+read1 : (info : List ℕ) (l k : ℕ) → numberOf (codeIn info) ≡ l → kIn (layoutAt l) (bodyIn info) ≡ k → readOf info .refusal ≡ refusal.none → Read1 l k (bodyIn info)
+read1 info l k el ek e =
+    let a = accepted-in info e in
+    record { right = rw (el, ek) at (a .right); pass = pass-all (rowsAt l k) (bodyIn info) (rw (el, ek) at (a .ranges)) }
+
+module _ (info : List ℕ) (e : readOf info .refusal ≡ refusal.none) where
+  pub read-times : codeIn info ≡ setTimesCode → Read1 3 (kOf (bodyIn info)) (bodyIn info)
+  unfolding numberOf firstOf layoutAt layouts
+  read-times c = read1 info 3 (kOf (bodyIn info)) (ap numberOf c) (getD-drop 1 (bodyIn info) 0 0) e
+
+  pub read-plan : codeIn info ≡ setPlanCode → Read1 5 (countIn (bodyIn info)) (bodyIn info)
+  unfolding numberOf firstOf layoutAt layouts
+  read-plan c = read1 info 5 (countIn (bodyIn info)) (ap numberOf c) (simp getD-drop) e
+
+module _ (body : List ℕ) where
+  pub times-body : Read1 3 (kOf body) body → Times14 body
+  unfolding rowsAt rowsOf layoutAt layouts
+  times-body r =
+      let k = kOf body in
+      record {
+        long = r .right .octets ∙ omega (arith, size-append (repeated k times) [], size-repeated times k);
+        plan = record { least = r .pass .0 .0; most = r .pass .0 .1 };
+        count = record { least = r .right .fewest; most = r .right .most };
+      }
+
+  pub plan-body : Read1 5 (countIn body) body → Plan15 body
+  unfolding rowsAt rowsOf layoutAt layouts
+  plan-body r =
+      let k = countIn body in
+      record {
+        long = r .right .octets ∙ omega (arith, size-append (repeated k greens) cycleOffset, size-repeated greens k);
+        plan = record { least = r .pass .0 .0; most = r .pass .0 .1 };
+        count = record { least = r .right .fewest; most = r .right .most };
+      }
+
+-- The records
+
+module _ (x : ℕ) where
+  drop-replicate : (n m : ℕ) → drop m (replicate n x) ≡ replicate (n - m) x
+  drop-replicate n zero = let e : n ≡ n - 0 = omega arith in ap (λ (k : ℕ). replicate k x) e
+  drop-replicate zero (suc m) = let e : 0 ≡ 0 - suc m = omega arith in ap (λ (k : ℕ). replicate k x) e
+  drop-replicate (suc n) (suc m) = let e : n - m ≡ suc n - suc m = omega arith in drop-replicate n m ∙ ap (λ (k : ℕ). replicate k x) e
+
+pub padded-is : (vs : List ℕ) → length vs ≤ recordLen → sets (replicate recordLen 0) 0 vs ≡ padded vs
+unfolding padded
+padded-is vs h =
+    sets-eq vs (replicate recordLen 0) 0 (omega arith)
+    ∙ ap (λ (l : List ℕ). vs ++ l) (ap (λ (n : ℕ). drop n (replicate recordLen 0)) (zero-add (length vs)) ∙ drop-replicate 0 recordLen (length vs))
+
+-- a state in front of the octets
+module _ (state : ℕ) (vs : List ℕ) {r : ℕ} {l : List ℕ} where
+  pub built : Stored vs 1 (set (replicate recordLen 0) 0 state) r l → length vs < recordLen → l ≡ padded (state ∷ vs)
+  built s h = s .holds ∙ padded-is (state ∷ vs) h
+
+pub times-built : (body : List ℕ) {r : ℕ} {l : List ℕ} → 1 ≤ length body → length body ≤ recordLen
+    → Put (between 1 (length body) body) 1 (set (replicate recordLen 0) 0 timesSet) r l → l ≡ timesRecord body
+unfolding timesRecord
+times-built body h m p =
+    let e : between 1 (length body) body ≡ drop 1 body = part-to-end body 1 in
+    let n : length (drop 1 body) ≡ length body - 1 = length-drop 1 body in
+    built timesSet (drop 1 body) (put-stored (rw e at p) (omega arith)) (omega arith)
+
+pub ready-built : (old body : List ℕ) {p q r : ℕ} {l m o : List ℕ} → length old ≡ recordLen → kOf old ≤ 8 → length body ≡ 8 + 2 * kOf old
+    → {end : ℕ} → end ≡ timesEnd old
+    → Put (between 1 end old) 1 (set (replicate recordLen 0) 0 ready) p l → Put (between 1 3 body) p l q m → Put (between 4 (length body) body) q m r o
+    → o ≡ readyRecord old body
+unfolding readyRecord
+ready-built old body {p} {q} {r} {l} {m} {o} ho hk hb {end} ee a b c =
+    let e : between 4 (length body) body ≡ drop 4 body = part-to-end body 4 in
+    let na : length (between 1 (timesEnd old) old) ≡ timesEnd old - 1 = length-take-le (timesEnd old - 1) (drop 1 old) (simp length-drop (omega arith)) in
+    let nb : length (between 1 3 body) ≡ 2 = length-take-le 2 (drop 1 body) (simp length-drop (omega arith)) in
+    let nc : length (drop 4 body) ≡ length body - 4 = length-drop 4 body in
+    let sa = put-stored (rw ee at a) (omega arith) in
+    let sb = put-stored b (omega (arith, sa .place, sa .long)) in
+    let sc = put-stored (rw e at c) (omega (arith, sb .place, sb .long, sa .place, sa .long)) in
+    built ready (between 1 (timesEnd old) old ++ (between 1 3 body ++ drop 4 body)) (stored-then sa (stored-then sb sc))
+    (omega (arith, length-append (between 1 (timesEnd old) old) (between 1 3 body ++ drop 4 body), length-append (between 1 3 body) (drop 4 body)))
+
+-- an octet of a record is that of what it was made of: past their end both read as 0
+pub padded-at : (vs : List ℕ) (i : ℕ) → octetAt (padded vs) i ≡ octetAt vs i
+unfolding padded
+padded-at vs i = by (decLt i (length vs))
+  where
+    by : Dec (i < length vs) → octetAt (vs ++ replicate (recordLen - length vs) 0) i ≡ octetAt vs i
+    by (yes l) = List·getD-append vs (replicate (recordLen - length vs) 0) 0 i l
+    by (no n) =
+        let h : length vs ≤ i = omega arith in
+        getD-past vs (replicate (recordLen - length vs) 0) 0 i h ∙ (zero-at (recordLen - length vs) (i - length vs) ∙ sym (List·getD-eq-default vs 0 h))
+      where
+        zero-at : (n i : ℕ) → octetAt (replicate n 0) i ≡ 0
+        zero-at zero i = refl
+        zero-at (suc n) zero = refl
+        zero-at (suc n) (suc i) = zero-at n i
+
+pub padded-long : (vs : List ℕ) → length vs ≤ recordLen → length (padded vs) ≡ recordLen
+unfolding padded
+padded-long vs h = omega (arith, length-append vs (replicate (recordLen - length vs) 0), length-replicate {A = ℕ} (recordLen - length vs) 0)
+
+pub padded-rest : (vs : List ℕ) (at : ℕ) → length vs ≡ at → ZeroFrom (padded vs) at
+unfolding padded
+padded-rest vs at e = drop-at vs (replicate (recordLen - length vs) 0) at e ∙ ap (λ (n : ℕ). replicate (recordLen - n) 0) e
+
+-- the times' record has the octets of the message, but for its state
+pub times-at : (body : List ℕ) (i : ℕ) → 1 ≤ i → octetAt (timesRecord body) i ≡ octetAt body i
+unfolding timesRecord
+times-at body zero h = absurd (omega arith)
+times-at body (suc i) h = let e : 1 + i ≡ suc i = omega arith in padded-at (timesSet ∷ drop 1 body) (suc i) ∙ (getD-drop 1 body i 0 ∙ ap (octetAt body) e)
+
+-- the ready record has the times that are stored, and then the octets of the message
+module _ (old body : List ℕ) (ho : timesEnd old ≤ length old) (hb : 4 ≤ length body) where
+  abbrev front-part : List ℕ
+  front-part = between 1 (timesEnd old) old
+
+  front-long : length front-part ≡ timesEnd old - 1
+  front-long = length-take-le (timesEnd old - 1) (drop 1 old) (simp length-drop (omega arith))
+
+  two-long : length (between 1 3 body) ≡ 2
+  two-long = length-take-le 2 (drop 1 body) (simp length-drop (omega arith))
+
+  pub ready-times : (i : ℕ) → 1 ≤ i → i < timesEnd old → octetAt (readyRecord old body) i ≡ octetAt old i
+  unfolding readyRecord
+  ready-times zero h l = absurd (omega arith)
+  ready-times (suc i) h l =
+      let e : 1 + i ≡ suc i = omega arith in
+      padded-at (ready ∷ (front-part ++ (between 1 3 body ++ drop 4 body))) (suc i)
+      ∙ (List·getD-append front-part (between 1 3 body ++ drop 4 body) 0 i (omega (arith, front-long))
+      ∙ (getD-take (timesEnd old - 1) (drop 1 old) i 0 (omega arith) ∙ (getD-drop 1 old i 0 ∙ ap (octetAt old) e)))
+
+  after : (j : ℕ) → octetAt (readyRecord old body) (timesEnd old + j) ≡ octetAt (between 1 3 body ++ drop 4 body) j
+  unfolding readyRecord
+  after j =
+      let e : timesEnd old + j ≡ suc (length front-part + j) = omega (arith, front-long) in
+      padded-at (ready ∷ (front-part ++ (between 1 3 body ++ drop 4 body))) (timesEnd old + j)
+      ∙ (ap (octetAt (ready ∷ (front-part ++ (between 1 3 body ++ drop 4 body)))) e ∙ getD-append-add front-part (between 1 3 body ++ drop 4 body) j 0)
+
+  pub ready-two : (j : ℕ) → j < 2 → octetAt (readyRecord old body) (timesEnd old + j) ≡ octetAt body (1 + j)
+  ready-two j l =
+      after j ∙ (List·getD-append (between 1 3 body) (drop 4 body) 0 j (omega (arith, two-long)) ∙ (getD-take 2 (drop 1 body) j 0 l ∙ getD-drop 1 body j 0))
+
+  pub ready-rest : (j : ℕ) → octetAt (readyRecord old body) (timesEnd old + (2 + j)) ≡ octetAt body (4 + j)
+  ready-rest j =
+      let e : 2 + j ≡ length (between 1 3 body) + j = omega (arith, two-long) in
+      after (2 + j) ∙ (ap (octetAt (between 1 3 body ++ drop 4 body)) e ∙ (getD-append-add (between 1 3 body) (drop 4 body) j 0 ∙ getD-drop 4 body j 0))
+
+  pub ready-k : kOf (readyRecord old body) ≡ kOf old
+  ready-k = ready-times 1 (omega arith) (omega arith)
+
+-- What is made
+
+pub field-maximum : (n i : ℕ) → i ≡ (n - 1) / 2 → (n - 1) % 2 ≡ 0 → maximumAt i ≡ timesField n
+unfolding timesField
+field-maximum n i e h = rw (eq-eqb ((n - 1) % 2) 0 h, e)
+
+pub field-redman : (n i : ℕ) → i ≡ (n - 1) / 2 → ((n - 1) % 2 ≡ 0 → ⊥) → redManAt i ≡ timesField n
+unfolding timesField
+field-redman n i e h = rw (ne-eqb ((n - 1) % 2) 0 h, e)
+
+module _ (body : List ℕ) {n : ℕ} (en : n ≡ timesDisagree body) where
+  pub times-not : (n ≡ 0 → ⊥) → {f : ℕ} → f ≡ timesField n → notMade refusal.disagree f ≡ timesMade body
+  unfolding timesMade
+  times-not h e = rw (← en, ne-eqb n 0 h, e)
+
+  pub times-is : n ≡ 0 → {rec : List ℕ} → rec ≡ timesRecord body → made rec ≡ timesMade body
+  unfolding timesMade
+  times-is h e = rw (← en, eq-eqb n 0 h, e)
+
+module _ (old body : List ℕ) {s : ℕ} (es : s ≡ standingOf old) where
+  pub ready-unset : s ≡ empty → notMade refusal.notReady planAt ≡ readyMade old body
+  unfolding readyMade
+  ready-unset h = rw (← es, eq-eqb s empty h)
+
+  module _ (hs : s ≡ empty → ⊥) {j k : ℕ} (ej : j ≡ countIn body) (ek : k ≡ kOf old) where
+    pub ready-count : (j ≡ k → ⊥) → notMade refusal.disagree planCountAt ≡ readyMade old body
+    unfolding readyMade
+    ready-count h =
+        let n : countIn body ≡ kOf old → ⊥ = λ z. h (ej ∙ (z ∙ sym ek)) in
+        rw (← es, ne-eqb s empty hs, ne-eqb (countIn body) (kOf old) n)
+
+    module _ (hk : j ≡ k) {n : ℕ} (en : n ≡ planDisagree (readyRecord old body)) where
+      same-count : countIn body ≡ kOf old
+      same-count = sym ej ∙ (hk ∙ ek)
+
+      pub ready-not : (n ≡ 0 → ⊥) → {f : ℕ} → f ≡ planField n → notMade refusal.disagree f ≡ readyMade old body
+      unfolding readyMade
+      ready-not h e = rw (← es, ne-eqb s empty hs, eq-eqb (countIn body) (kOf old) same-count, ← en, ne-eqb n 0 h, e)
+
+      pub ready-is : n ≡ 0 → {rec : List ℕ} → rec ≡ readyRecord old body → made rec ≡ readyMade old body
+      unfolding readyMade
+      ready-is h e = rw (← es, ne-eqb s empty hs, eq-eqb (countIn body) (kOf old) same-count, ← en, eq-eqb n 0 h, e)
+
+-- What is kept
+
+module _ (p : ℕ) (m : Made) (book : List ℕ) where
+  pub kept-not : (m .refusal ≡ refusal.none → ⊥) → {r : Answered} → r ≡ answered (m .refusal) (m .field) → Did (keptAs p m book) r book
+  unfolding keptAs
+  kept-not h e = rw (ne-eqb (m .refusal) refusal.none h) (record { answer = e; book = refl })
+
+  pub kept-is : m .refusal ≡ refusal.none → {r : Answered} → r ≡ answered refusal.none 0 → {l : List ℕ} → l ≡ sets book (startOf p) (m .rec) → Did (keptAs p m book) r l
+  unfolding keptAs
+  kept-is h e el = rw (eq-eqb (m .refusal) refusal.none h) (record { answer = e; book = el })
+
+module _ (code : ℕ) (m : Made) (book info : List ℕ) {f : Answered} (ef : f ≡ frontOf (length book) code info) where
+  pub set-refused : (f .refusal ≡ refusal.none → ⊥) → Did (setOf code m book info) f book
+  unfolding setOf
+  set-refused h = rw (← ef, ne-eqb (f .refusal) refusal.none h) (record { answer = refl; book = refl })
+
+  pub set-kept : f .refusal ≡ refusal.none → {r : Answered} {l : List ℕ} → Did (keptAs (planIn (bodyIn info)) m book) r l → Did (setOf code m book info) r l
+  unfolding setOf
+  set-kept h d = rw (← ef, eq-eqb (f .refusal) refusal.none h) d
+
+-- What a set that is not refused at the front is of
+
+module _ (book info : List ℕ) {f : Answered} {os : List ℕ} (eo : os ≡ bodyIn info) (h : f .refusal ≡ refusal.none) where
+  module _ (ef : f ≡ frontOf (length book) setTimesCode info) where
+    pub times-sound : (length book ≡ bookLen) × Times14 os
+    times-sound =
+        let s = front-sound (length book) setTimesCode info (ap (λ (a : Answered). a .refusal) (sym ef) ∙ h) in
+        (s .0, rw eo (times-body (bodyIn info) (read-times info (s .1) (s .2))))
+
+    pub set-times-kept : {p : ℕ} {m : Made} {r : Answered} {l : List ℕ} → p ≡ octetAt os 0 → m ≡ timesMade os → Did (keptAs p m book) r l
+        → Did (setOf setTimesCode (timesMade (bodyIn info)) book info) r l
+    set-times-kept ep em d = set-kept setTimesCode (timesMade (bodyIn info)) book info ef h (rw (ep, em, eo) at d)
+
+  module _ (ef : f ≡ frontOf (length book) setPlanCode info) where
+    pub plan-sound : (length book ≡ bookLen) × Plan15 os
+    plan-sound =
+        let s = front-sound (length book) setPlanCode info (ap (λ (a : Answered). a .refusal) (sym ef) ∙ h) in
+        (s .0, rw eo (plan-body (bodyIn info) (read-plan info (s .1) (s .2))))
+
+    pub set-plan-kept : {p : ℕ} {m : Made} {old : List ℕ} {r : Answered} {l : List ℕ} → p ≡ octetAt os 0 → old ≡ recordAt book p → m ≡ readyMade old os
+        → Did (keptAs p m book) r l → Did (setOf setPlanCode (readyMade (recordAt book (planIn (bodyIn info))) (bodyIn info)) book info) r l
+    set-plan-kept ep eq em d =
+        set-kept setPlanCode (readyMade (recordAt book (planIn (bodyIn info))) (bodyIn info)) book info ef h (rw (em, eq, ep, eo) at d)

@@ -1,0 +1,330 @@
+-- A 5F 14 is stored exactly when its checks pass.
+use Prim.Native.Nat.{ℕ, zero, suc, _+_, _*_, _-_, _/_, _%_, _≤_, _<_}
+use mathlib.Core.Path.{_≡_, refl, sym, ap, subst, _∙_}
+use mathlib.Core.Bool.{Bool, true, false}
+use mathlib.Core.List.{List, [], _∷_, _++_, append-assoc}
+use native.Mathlib.Decide.{decLt, ℕ-discrete}
+use native.Mathlib.Omega.{arith}
+use borrow.Author.Tests.{eq-eqb, ne-eqb, ltb-true, ltb-false, leb-true, leb-false}
+use lib.Dec.{eqb}
+use lib.ListN.{length, getD, take, drop, length-take, length-drop, length-append, take-append-drop, List·getD-eq-default}
+use lib.Seq.{sets, sets-eq, length-sets, drop-drop, drop-at, take-at, drop-append-le, take-append-le, drop-append-add, getD-drop, length-take-le}
+use Rattle.octets.specs.First.{First, firstOf}
+use Rattle.octets.specs.Octet.{Octets}
+use Rattle.octets.specs.Part.{codeLen}
+use Rattle.octets.specs.Refusal as refusal
+use Rattle.octets.proofs.Laws.{clash}
+use Rattle.message.specs.declared.Read.{Read}
+use Rattle.message.specs.Layouts.{layouts, layoutAt, numberOf, rowsAt, rowsOf, repeated, times}
+use Rattle.message.specs.Reader.{readAs, partOf, kIn, codeIn, bodyIn, readOf}
+use Rattle.message.specs.Promises.{Known, Judged, body, accepted}
+use Rattle.message.proofs.ReadSo.{read-so}
+use Rattle.plan.specs.declared.setting.Answered.{Answered}
+use Rattle.plan.specs.declared.setting.Made.{Made}
+use Rattle.plan.specs.Record.{recordLen, bookLen, plansMost, timesSet, octetAt, wordAt, stateOf, kOf, timesAt, timesEnd, minimumOf, maximumOf, yellowOf, allRedOf, walkFlashOf, redManOf, Within, TimesFit, AllTimesFit, TimesSet}
+use Rattle.plan.specs.Standing.{timesFail, timesChecks, timesDisagree}
+use Rattle.plan.specs.BuiltIn.{padded}
+use Rattle.plan.specs.Reading.{startOf, recordAt}
+use Rattle.plan.specs.Setting.{planIn, Setting, answered, made, notMade, timesRecord, timesField, timesMade, keptAs, frontOf, setOf, setTimesCode, setTimesOf}
+use Rattle.plan.specs.Promises.{Fit14, PhaseAgrees, Disagrees14, maximum, redMan, Stored, SameTimes, Holds14, TimesJudged, TimesStoredExactlyWhen}
+use Rattle.plan.proofs.Fields.{at-one, inside, size-append, size-repeated, Pass, Read1, all-pass, pass-repeated, repeated-pass, phase-in, phase-out}
+use Rattle.plan.proofs.Stands.{phases-at, times-first, check-maximum, check-redman, times-ordered, times-walk, agree-times}
+use Rattle.plan.proofs.Sets.{front-passes, front-read, read-times, times-body, padded-at, padded-long, padded-rest, times-at, field-maximum, field-redman}
+
+-- A record in the book
+
+module _ (book : List ℕ) (p : ℕ) (rec : List ℕ) (hb : length book ≡ bookLen) (hp : 1 ≤ p) (hm : p ≤ plansMost) (hr : length rec ≡ recordLen) where
+  abbrev before : List ℕ
+  before = take (startOf p) book
+
+  abbrev rest : List ℕ
+  rest = drop (startOf p + recordLen) book
+
+  before-long : length before ≡ startOf p
+  before-long = length-take-le (startOf p) book (omega arith)
+
+  split : sets book (startOf p) rec ≡ before ++ rec ++ rest
+  split = sets-eq rec book (startOf p) (omega arith) ∙ ap (λ (n : ℕ). before ++ rec ++ drop (startOf p + n) book) hr
+
+  here : recordAt (sets book (startOf p) rec) p ≡ rec
+  here = rw (split, append-assoc before rec rest, drop-at before (rec ++ rest) (startOf p) before-long) (take-at rec rest recordLen hr)
+
+  module _ (q : ℕ) (hq : 1 ≤ q) where
+    lower : q < p → recordAt (sets book (startOf p) rec) q ≡ recordAt book q
+    lower l =
+        let n : startOf q ≤ length before = omega (arith, before-long) in
+        let m : recordLen ≤ length (drop (startOf q) before) = simp length-drop (omega (arith, before-long)) in
+        rw (split, append-assoc before rec rest, drop-append-le (startOf q) before (rec ++ rest) n, take-append-le recordLen (drop (startOf q) before) (rec ++ rest) m)
+        (sym
+        (ap (λ (l : List ℕ). recordAt l q) (sym (take-append-drop (startOf p) book))
+        ∙ rw (drop-append-le (startOf q) before (drop (startOf p) book) n, take-append-le recordLen (drop (startOf q) before) (drop (startOf p) book) m)))
+
+    higher : p < q → recordAt (sets book (startOf p) rec) q ≡ recordAt book q
+    higher l =
+        let a : ℕ = startOf q - (startOf p + recordLen) in
+        let n : startOf q ≡ length (before ++ rec) + a = omega (arith, length-append before rec, before-long) in
+        let m : startOf p + recordLen + a ≡ startOf q = omega arith in
+        rw (split, n, drop-append-add (before ++ rec) rest a, ← n, drop-drop a (startOf p + recordLen) book, m)
+
+  pub stored-here : Stored book p rec (sets book (startOf p) rec)
+  stored-here =
+      record {
+        long = length-sets book (startOf p) rec ∙ hb;
+        here = here;
+        others = λ q hq l n. by q hq n (decLt q p);
+      }
+    where
+      by : (q : ℕ) → 1 ≤ q → (q ≡ p → ⊥) → Dec (q < p) → recordAt (sets book (startOf p) rec) q ≡ recordAt book q
+      by q hq n (yes l) = lower q hq l
+      by q hq n (no g) = higher q hq (omega arith)
+
+-- What a set comes to, where the book and the code are right
+
+module _ (code : ℕ) (m : Made) (book info : List ℕ) (hb : length book ≡ bookLen) where
+  pub set-read : readOf info .refusal ≡ refusal.none → codeIn info ≡ code → setOf code m book info ≡ keptAs (planIn (bodyIn info)) m book
+  unfolding setOf
+  set-read e c = rw (← front-passes (length book) code info hb refl e refl c)
+
+  pub set-unread : (readOf info .refusal ≡ refusal.none → ⊥) → setOf code m book info ≡ record { answer = answered (readOf info .refusal) (readOf info .field); book = book }
+  unfolding setOf
+  set-unread n = rw (← front-read (length book) code info hb refl n, ne-eqb (readOf info .refusal) refusal.none n)
+
+module _ (p : ℕ) (book : List ℕ) where
+  pub kept-made : (rec : List ℕ) → keptAs p (made rec) book ≡ record { answer = answered refusal.none 0; book = sets book (startOf p) rec }
+  unfolding keptAs
+  kept-made rec = refl
+
+  pub kept-not-made : (n field : ℕ) → (n ≡ refusal.none → ⊥) → keptAs p (notMade n field) book ≡ record { answer = answered n field; book = book }
+  unfolding keptAs notMade
+  kept-not-made n field h = rw (ne-eqb n refusal.none h)
+
+-- a message of which the parts are right is read
+module _ (info : List ℕ) (l k : ℕ) (el : numberOf (codeIn info) ≡ l) (ek : kIn (layoutAt l) (bodyIn info) ≡ k) where
+  pub read-as : codeLen ≤ length info → Known l → Read1 l k (bodyIn info) → readOf info ≡ readAs (partOf l k (bodyIn info))
+  read-as h kn r =
+      let j = accepted kn (r .right) (all-pass (rowsAt l k) (bodyIn info) (r .pass)) in
+      let q : Judged info (readAs (partOf l k (bodyIn info))) = body {r = readAs (partOf l k (bodyIn info))} h (rw (el, ek) j) in
+      sym (read-so info (readAs (partOf l k (bodyIn info))) .0 q)
+
+  pub is-read : codeLen ≤ length info → Known l → Read1 l k (bodyIn info) → readOf info .refusal ≡ refusal.none
+  is-read h kn r = ap (λ (r : Read). r .refusal) (read-as h kn r)
+
+-- The checks of a 5F 14
+
+pub long-enough : (info : List ℕ) (c : ℕ) → codeIn info ≡ c → (c % 256 ≡ 0 → ⊥) → codeLen ≤ length info
+long-enough info c e n = by (decLt (length info) codeLen)
+  where
+    by : Dec (length info < codeLen) → codeLen ≤ length info
+    by (yes l) = absurd (n (omega (arith, List·getD-eq-default info 0 {n = 1} (omega arith))))
+    by (no g) = omega arith
+
+module _ (body : List ℕ) where
+  two-on : drop 1 (drop 1 body) ≡ drop 2 body
+  two-on = drop-drop 1 1 body
+
+  fit-from : Read1 3 (kOf body) body → timesDisagree body ≡ 0 → Fit14 body
+  unfolding rowsAt rowsOf layoutAt layouts
+  fit-from r e =
+      let k = kOf body in
+      let b = times-body body r in
+      let p = pass-repeated times [] k (drop 2 body) (subst (Pass (repeated k times ++ [])) two-on (r .pass .1 .1)) .0 in
+      record {
+        long = b .long;
+        plan = b .plan;
+        times =
+            record {
+              count = b .count;
+              phases = λ i l. phase-in body i (subst (Pass times) (phases-at body i) (p i l)) (times-ordered body e i l) (times-walk body e i l);
+            };
+      }
+
+  fit-agrees : Fit14 body → timesDisagree body ≡ 0
+  fit-agrees f = agree-times body (λ i l. f .times .phases i l .ordered) (λ i l. f .times .phases i l .walk)
+
+  pub fit-read : Fit14 body → Read1 3 (kOf body) body
+  unfolding rowsAt rowsOf layoutAt layouts
+  fit-read f =
+      let k = kOf body in
+      let p : Pass (repeated k times ++ []) (drop 2 body) =
+      repeated-pass times [] k (drop 2 body) (λ i l. subst (Pass times) (sym (phases-at body i)) (phase-out body i (f .times .phases i l))) tt in
+      record {
+        right =
+            record {
+              fewest = f .times .count .least;
+              most = f .times .count .most;
+              octets = f .long ∙ omega (arith, size-append (repeated k times) [], size-repeated times k);
+            };
+        pass = (
+          (f .plan .least, f .plan .most),
+          (inside (at-one body 1 refl) (f .times .count), subst (Pass (repeated k times ++ [])) (sym two-on) p),
+        );
+      }
+
+  -- of the first check that fails
+  agrees-before : (n : ℕ) → First (timesFail body) (timesChecks body) n → (i : ℕ) → 2 * i < n → (j : ℕ) → j < i → PhaseAgrees body j
+  agrees-before n f i h j l =
+      record {
+        ordered = ltb-false (maximumOf body j) (minimumOf body j) (sym (check-maximum body j) ∙ f .before (2 * j) (omega arith));
+        walk = leb-false (minimumOf body j) (walkFlashOf body j + redManOf body j) (sym (check-redman body j) ∙ f .before (2 * j + 1) (omega arith));
+      }
+
+  disagrees : (timesDisagree body ≡ 0 → ⊥) → Disagrees14 body (timesField (timesDisagree body))
+  disagrees h = by (timesDisagree body) (times-first body) h (ℕ-discrete ((timesDisagree body - 1) % 2) 0)
+    where
+      by : (n : ℕ) → First (timesFail body) (timesChecks body) n → (n ≡ 0 → ⊥) → Dec ((n - 1) % 2 ≡ 0) → Disagrees14 body (timesField n)
+      by n f h (yes e) =
+          let i : ℕ = (n - 1) / 2 in
+          let q : 2 * i + 1 ≡ n = omega arith in
+          subst (Disagrees14 body) (field-maximum n i refl e)
+          (maximum i (omega (arith, f .within)) (agrees-before n f i (omega arith)) (ltb-true (maximumOf body i) (minimumOf body i) (sym (check-maximum body i) ∙ f .here (2 * i) q)))
+      by n f h (no ne) =
+          let i : ℕ = (n - 1) / 2 in
+          let q : 2 * i + 1 + 1 ≡ n = omega arith in
+          subst (Disagrees14 body) (field-redman n i refl ne)
+          (redMan i (omega (arith, f .within)) (agrees-before n f i (omega arith))
+          (ltb-false (maximumOf body i) (minimumOf body i) (sym (check-maximum body i) ∙ f .before (2 * i) (omega arith)))
+          (leb-true (minimumOf body i) (walkFlashOf body i + redManOf body i) (sym (check-redman body i) ∙ f .here (2 * i + 1) q)))
+
+-- The record of a 5F 14
+
+module _ (rec os : List ℕ) (i : ℕ) where
+  pub same-times : ((j : ℕ) → timesAt i ≤ j → j < timesAt i + 7 → octetAt rec j ≡ octetAt os j) → SameTimes rec os i
+  same-times s =
+      record {
+        minimum = s (timesAt i) (omega arith) (omega arith);
+        maximum = rw (s (timesAt i + 1) (omega arith) (omega arith), s (timesAt i + 1 + 1) (omega arith) (omega arith));
+        yellow = s (timesAt i + 3) (omega arith) (omega arith);
+        allRed = s (timesAt i + 4) (omega arith) (omega arith);
+        walkFlash = s (timesAt i + 5) (omega arith) (omega arith);
+        redMan = s (timesAt i + 6) (omega arith) (omega arith);
+      }
+
+  pub same-fit : SameTimes rec os i → TimesFit os i → TimesFit rec i
+  same-fit s f =
+      record {
+        minimum = rw (s .minimum) (f .minimum);
+        maximum = rw (s .maximum) (f .maximum);
+        yellow = rw (s .yellow) (f .yellow);
+        allRed = rw (s .allRed) (f .allRed);
+        walkFlash = rw (s .walkFlash) (f .walkFlash);
+        redMan = rw (s .redMan) (f .redMan);
+        ordered = rw (s .minimum, s .maximum) (f .ordered);
+        walk = rw (s .walkFlash, s .redMan, s .minimum) (f .walk);
+      }
+
+module _ (body : List ℕ) (f : Fit14 body) where
+  abbrev rec : List ℕ
+  rec = timesRecord body
+
+  same-k : kOf rec ≡ kOf body
+  same-k = times-at body 1 (omega arith)
+
+  same-phase : (i : ℕ) → SameTimes rec body i
+  same-phase i = same-times rec body i (λ j h l. times-at body j (omega arith))
+
+  pub record-long : length rec ≡ recordLen
+  unfolding timesRecord
+  record-long = padded-long (timesSet ∷ drop 1 body) (omega (arith, length-drop 1 body, f .long, f .times .count .most))
+
+  holds : Holds14 body rec
+  unfolding timesRecord
+  holds =
+      record {
+        stands =
+            record {
+              long = record-long;
+              state = padded-at (timesSet ∷ drop 1 body) 0;
+              times =
+                  record {
+                    count = rw same-k (f .times .count);
+                    phases = λ i l. same-fit rec body i (same-phase i) (f .times .phases i (omega (arith, same-k)));
+                  };
+              rest = padded-rest (timesSet ∷ drop 1 body) (timesEnd rec) (omega (arith, length-drop 1 body, f .long, same-k));
+            };
+        count = same-k;
+        times = λ i l. same-phase i;
+      }
+
+-- Stored exactly when
+
+module _ (book info : List ℕ) (hb : length book ≡ bookLen) (hc : codeIn info ≡ setTimesCode) where
+  abbrev os : List ℕ
+  os = bodyIn info
+
+  pub times-number : numberOf (codeIn info) ≡ 3
+  unfolding numberOf firstOf layoutAt layouts
+  times-number = ap numberOf hc
+
+  pub times-count : kIn (layoutAt 3) os ≡ kOf os
+  unfolding layoutAt layouts
+  times-count = getD-drop 1 os 0 0
+
+  fit-is-read : Fit14 os → readOf info .refusal ≡ refusal.none
+  unfolding layouts
+  fit-is-read f = is-read info 3 (kOf os) times-number times-count (long-enough info setTimesCode hc (λ z. absurd (omega arith))) (record { first = omega arith; last = omega arith }) (fit-read os f)
+
+  -- read, it is stored or not by its agreement
+  read-stored : readOf info .refusal ≡ refusal.none → timesDisagree os ≡ 0
+      → setTimesOf book info ≡ record { answer = answered refusal.none 0; book = sets book (startOf (planIn os)) (timesRecord os) }
+  unfolding timesMade
+  read-stored e z = set-read setTimesCode (timesMade os) book info hb e hc ∙ rw (eq-eqb (timesDisagree os) 0 z) (kept-made (planIn os) book (timesRecord os))
+
+  read-refused : readOf info .refusal ≡ refusal.none → (timesDisagree os ≡ 0 → ⊥)
+      → setTimesOf book info ≡ record { answer = answered refusal.disagree (timesField (timesDisagree os)); book = book }
+  unfolding timesMade
+  read-refused e n =
+      set-read setTimesCode (timesMade os) book info hb e hc
+      ∙ rw (ne-eqb (timesDisagree os) 0 n) (kept-not-made (planIn os) book refusal.disagree (timesField (timesDisagree os)) (λ z. absurd (omega arith)))
+
+  pub fit-stored : Fit14 os → setTimesOf book info ≡ record { answer = answered refusal.none 0; book = sets book (startOf (planIn os)) (timesRecord os) }
+  fit-stored f = read-stored (fit-is-read f) (fit-agrees os f)
+
+  -- what comes of it, way by way
+  data Way : Setting → Type 0 where
+    unread : (readOf info .refusal ≡ refusal.none → ⊥) → Way (record { answer = answered (readOf info .refusal) (readOf info .field); book = book })
+    refused : readOf info .refusal ≡ refusal.none → (timesDisagree os ≡ 0 → ⊥) → Way (record { answer = answered refusal.disagree (timesField (timesDisagree os)); book = book })
+    fits : Fit14 os → Way (record { answer = answered refusal.none 0; book = sets book (startOf (planIn os)) (timesRecord os) })
+
+  way : Way (setTimesOf book info)
+  way = by (ℕ-discrete (readOf info .refusal) refusal.none) (ℕ-discrete (timesDisagree os) 0)
+    where
+      by : Dec (readOf info .refusal ≡ refusal.none) → Dec (timesDisagree os ≡ 0) → Way (setTimesOf book info)
+      by (no n) d = subst Way (sym (set-unread setTimesCode (timesMade os) book info hb n)) (unread n)
+      by (yes e) (no n) = subst Way (sym (read-refused e n)) (refused e n)
+      by (yes e) (yes z) = subst Way (sym (read-stored e z)) (fits (fit-from os (read-times info e hc) z))
+
+  only : {w : Setting} → Way w → w .answer .refusal ≡ refusal.none → Fit14 os
+  only (unread n) e = absurd (n e)
+  only (refused r n) e = absurd (omega arith)
+  only (fits f) e = f
+
+  kept : {w : Setting} → Way w → (w .answer .refusal ≡ refusal.none → ⊥) → w .book ≡ book
+  kept (unread n) h = refl
+  kept (refused r n) h = refl
+  kept (fits f) h = absurd (h refl)
+
+  named : {w : Setting} → Way w → readOf info .refusal ≡ refusal.none → (w .answer .refusal ≡ refusal.none → ⊥)
+      → (w .answer .refusal ≡ refusal.disagree) × Disagrees14 os (w .answer .field)
+  named (unread n) e h = absurd (n e)
+  named (refused r n) e h = (refl, disagrees os n)
+  named (fits f) e h = absurd (h refl)
+
+  pub times-judged : TimesJudged book info
+  times-judged =
+      record {
+        rec = timesRecord os;
+        stored = λ f.
+            subst (λ (w : Setting). Stored book (planIn os) (timesRecord os) (w .book)) (sym (fit-stored f))
+            (stored-here book (planIn os) (timesRecord os) hb (f .plan .least) (f .plan .most) (record-long os f));
+        holds = λ f. holds os f;
+        accepted = λ f. ap (λ (w : Setting). w .answer .refusal) (fit-stored f);
+        only = only way;
+        kept = kept way;
+        unread = λ n.
+            let e = set-unread setTimesCode (timesMade os) book info hb n in
+            (ap (λ (w : Setting). w .answer .refusal) e, ap (λ (w : Setting). w .answer .field) e);
+        named = named way;
+      }
+
+pub times-stored-exactly-when : TimesStoredExactlyWhen
+times-stored-exactly-when book info hb hc = times-judged book info hb hc

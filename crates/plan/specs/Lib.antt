@@ -1,0 +1,8 @@
+pub mod Record
+pub mod Standing
+pub mod BuiltIn
+pub mod Reading
+pub mod Setting
+pub mod Reporting
+pub mod Promises
+pub mod Cases

@@ -1,0 +1,53 @@
+-- 01, "Plan book": reading a plan.
+--
+-- "Reading a plan is lent the book and an 80-octet copy of the built-in record, and gives back a part of the plan book or of the
+-- built-in record. It refuses with an empty part: 8 if either length is wrong, then 12 for a plan over 48, then 13 for an empty
+-- plan, or for plan 0 where the copy differs from the built-in record."
+use Prim.Native.Nat.{ℕ, _+_, _*_, _-_, _≤_}
+use mathlib.Core.Path.{_≡_}
+use mathlib.Core.Bool.{Bool, true, false}
+use mathlib.Core.List.{List, [], _∷_}
+use lib.Dec.{eqb, leb}
+use lib.ListN.{length, take, drop}
+use denote.Ref.{RefT, now}
+use Rattle.octets.specs.Choice.{pick, both}
+use Rattle.octets.specs.Part.{PartOf}
+use Rattle.octets.specs.Refusal as refusal
+use Rattle.plan.specs.Record.{recordLen, plansMost, bookLen, empty}
+use Rattle.plan.specs.Standing.{standingOf}
+use Rattle.plan.specs.BuiltIn.{builtIn}
+
+-- "Plan p, 1 to 48, has 80 octets from 80(p-1)"
+abbrev pub startOf : ℕ → ℕ
+startOf p = recordLen * (p - 1)
+
+abbrev pub recordAt : List ℕ → ℕ → List ℕ
+recordAt book p = take recordLen (drop (startOf p) book)
+
+-- are the octets the same?
+unfoldable pub same : List ℕ → List ℕ → Bool
+same [] [] = true
+same [] (y ∷ ys) = false
+same (x ∷ xs) [] = false
+same (x ∷ xs) (y ∷ ys) = both (eqb x y) (same xs ys)
+
+unfoldable pub readRefusal : List ℕ → List ℕ → ℕ → ℕ
+readRefusal book own p =
+    pick (both (eqb (length book) bookLen) (eqb (length own) recordLen))
+    (pick (leb p plansMost)
+    (pick (eqb p 0)
+    (pick (same own builtIn) refusal.none refusal.notReady)
+    (pick (eqb (standingOf (recordAt book p)) empty) refusal.notReady refusal.none))
+    refusal.outOfRange)
+    refusal.bookWrong
+
+-- r is the part read: all of the copy for plan 0, the plan's record in the book for any other, an empty part where it is refused
+abbrev pub PartRead : RefT (List ℕ) → RefT (List ℕ) → ℕ → RefT (List ℕ) → Type 0
+PartRead book own p r =
+    pick (eqb (readRefusal (now book) (now own) p) refusal.none)
+    (pick (eqb p 0) (PartOf own 0 recordLen r) (PartOf book (startOf p) recordLen r))
+    (PartOf own 0 0 r)
+
+pub record PlanRead (book own : RefT (List ℕ)) (p : ℕ) (r : RefT (List ℕ)) (why : ℕ) : Type 0 where
+  pub part : PartRead book own p r
+  pub refusal : why ≡ readRefusal (now book) (now own) p

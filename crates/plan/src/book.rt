@@ -1,0 +1,111 @@
+// 01, "Plan book": plan 0, and reading a plan.
+ghost use mathlib.Core.Path.{_≡_};
+ghost use Prim.Native.Nat.{_≤_};
+ghost use lib.ListN.{length};
+ghost use Rattle.plan.specs.Record.{recordLen, bookLen, plansMost};
+ghost use Rattle.plan.specs.BuiltIn.{builtIn};
+ghost use Rattle.plan.specs.Reading.{startOf, recordAt, same, readRefusal, PartRead, PlanRead};
+ghost use Rattle.plan.specs.Standing.{standingOf};
+use crate::record::BOOK_LEN;
+use crate::record::PLANS_MOST;
+use crate::record::RECORD_LEN;
+use crate::standing;
+use octets::refusal;
+
+// Plan 0: how many phases, the times of each, and direct, order, both greens, cycle, offset.
+const BUILT_IN_K: u8 = 2;
+
+const BUILT_IN_TIMES: [u8; 7] = [10, 0, 90, 3, 2, 5, 2];
+
+const BUILT_IN_PLAN: [u8; 10] = [0, 0, 0, 25, 0, 25, 0, 60, 0, 0];
+
+// The built-in record.
+pub fn built_in() -> [u8; RECORD_LEN]
+    ensures { λ r. ⌜ r ≡ builtIn ⌝ }
+{
+    let mut rec = [0u8; RECORD_LEN];
+    rec[0] = standing::READY;
+    rec[1] = BUILT_IN_K;
+    octets::put(&BUILT_IN_TIMES, &mut rec, 2);
+    octets::put(&BUILT_IN_TIMES, &mut rec, 9);
+    octets::put(&BUILT_IN_PLAN, &mut rec, 16);
+    rec
+}
+
+// Where the record of a plan starts in the book.
+pub(crate) fn start(plan: u8) -> usize
+    requires { ⌜ (1 ≤ plan) × (plan ≤ plansMost) ⌝ }
+    ensures { λ r. ⌜ (r ≡ startOf plan) × (r ≤ 3760) ⌝ }
+{
+    RECORD_LEN * (plan as usize - 1)
+}
+
+// The record of a plan: all of the copy of the built-in record for plan 0, the plan's part of the book for any other. Where
+// that is refused, `why` says it and the part is empty.
+pub fn read_plan<'a>(book: &'a [u8], own: &'a [u8], plan: u8, why: &mut u8) -> &'a [u8]
+    ensures { λ r. ⌜ PlanRead (book .entry) (own .entry) plan r (now (why .exit)) ⌝ }
+{
+    *why = read_refusal(book, own, plan);
+    part_read(book, own, plan)
+}
+
+fn part_read<'a>(book: &'a [u8], own: &'a [u8], plan: u8) -> &'a [u8]
+    ensures { λ r. ⌜ PartRead (book .entry) (own .entry) plan r ⌝ }
+{
+    if read_refusal(book, own, plan) != refusal::NONE {
+        return &own[0..0];
+    }
+    if plan == 0 {
+        return own;
+    }
+    let at = start(plan);
+    let end = at + RECORD_LEN;
+    &book[at..end]
+}
+
+fn read_refusal(book: &[u8], own: &[u8], plan: u8) -> u8
+    ensures { λ r. ⌜ r ≡ readRefusal (now (book .entry)) (now (own .entry)) plan ⌝ }
+{
+    if book.len() != BOOK_LEN {
+        return refusal::BOOK_WRONG;
+    }
+    if own.len() != RECORD_LEN {
+        return refusal::BOOK_WRONG;
+    }
+    if PLANS_MOST < plan {
+        return refusal::OUT_OF_RANGE;
+    }
+    if plan == 0 {
+        if is_built_in(own) {
+            return refusal::NONE;
+        }
+        return refusal::NOT_READY;
+    }
+    if standing_of(book, plan) == standing::EMPTY {
+        return refusal::NOT_READY;
+    }
+    refusal::NONE
+}
+
+// How the record of a plan of the book stands.
+pub(crate) fn standing_of(book: &[u8], plan: u8) -> u8
+    requires { ⌜ (length (now book) ≡ bookLen) × (1 ≤ plan) × (plan ≤ plansMost) ⌝ }
+    ensures { λ r. ⌜ r ≡ standingOf (recordAt (now (book .entry)) plan) ⌝ }
+{
+    let at = start(plan);
+    let end = at + RECORD_LEN;
+    standing::standing(&book[at..end])
+}
+
+fn is_built_in(own: &[u8]) -> bool
+    requires { ⌜ length (now own) ≡ recordLen ⌝ }
+    ensures { λ r. ⌜ r ≡ same (now (own .entry)) builtIn ⌝ }
+{
+    let rec = built_in();
+    for i in 0..RECORD_LEN {
+        if own[i] != rec[i] {
+            return false;
+        }
+    }
+    true
+}
