@@ -10,7 +10,7 @@ use Rattle.diagram.specs.Table.{phasesOf}
 use Rattle.message.specs.declared.Message.{Message}
 use Rattle.message.specs.Names.{planAt, maximumAt, redManAt, planCountAt, greenAt, cycleAt, offsetAt}
 use Rattle.message.specs.Reader.{codeIn, bodyIn, readOf}
-use Rattle.plan.specs.Record.{recordLen, bookLen, plansMost, octetAt, wordAt, kOf, minimumOf, maximumOf, yellowOf, allRedOf, walkFlashOf, redManOf, directOf, orderOf, greenOf, cycleOf, offsetOf, Within, AllTimesFit, Empty, TimesSet, Ready}
+use Rattle.plan.specs.Record.{bookLen, plansMost, octetAt, wordAt, kOf, minimumOf, maximumOf, yellowOf, allRedOf, walkFlashOf, redManOf, directOf, orderOf, greenOf, cycleOf, offsetOf, Within, AllTimesFit, Empty, TimesSet, Ready}
 use Rattle.plan.specs.Reading.{recordAt, readRefusal}
 use Rattle.plan.specs.Reporting.{reportTimesCode, reportPlanCode, reportRunningCode, reportTimesOf, reportPlanOf}
 use Rattle.plan.specs.Setting.{planIn, countIn, setTimesCode, setPlanCode, setTimesOf, setPlanOf}

@@ -23,12 +23,12 @@ hex8 x = digits 16 8 x
 abbrev pub hex16 : ℕ → List ℕ
 hex16 x = digits 16 16 x
 
--- how many digits n has in decimal: one, and one for each division by ten before it is below ten, of at most f
+-- how many digits n has in decimal, where f divisions by ten leave less than ten of it
 unfoldable pub placesWithin : ℕ → ℕ → ℕ
 placesWithin zero n = 1
 placesWithin (suc f) n = pick (ltb n 10) 1 (1 + placesWithin f (n / 10))
 
--- a number is below ten after as many divisions as it counts, and long before
+-- as many divisions as n counts are always enough
 unfoldable pub places : ℕ → ℕ
 places n = placesWithin n n
 

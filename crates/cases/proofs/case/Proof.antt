@@ -1,0 +1,35 @@
+-- `cases::case` is safe and ends: each turn goes on to the next tab.
+use Prim.Native.Nat.{_-_, _≤_}
+use borrow.Author.Needs.{needs}
+use lib.ListN.{length}
+use Rattle.cases.proofs.case.Statement.{statement}
+use Rattle.cases.proofs.case.Tie as tie
+
+abbrev Inv-loop : tie.InvT-loop
+Inv-loop s out₀ c₀ end₀ t6 out c end = end ≤ length s
+
+abbrev μ-loop : tie.MeasureT-loop
+μ-loop s out₀ c₀ end₀ t6 out c end = length s - end
+
+pub case-spec : {M : Type 1} → statement M
+case-spec =
+    tie.close
+    (tie.spec
+    Inv-loop
+    μ-loop
+    (λ c κs. search needs)
+    (λ c κs. search needs)
+    (λ c κs. search needs)
+    (λ c κs. search needs)
+    (λ c. search needs)
+    (λ c. search needs)
+    (λ c κs. search needs)
+    (λ c. search needs)
+    (λ c. search needs)
+    (λ c. search needs)
+    (λ c κs. search needs)
+    (λ c. search needs)
+    (λ c. search needs)
+    (λ c. search needs)
+    (λ c κs. search needs)
+    (λ c. search needs))

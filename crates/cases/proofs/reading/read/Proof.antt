@@ -1,0 +1,28 @@
+-- `cases::reading::read` is safe and ends: it stays within the octets given.
+use Prim.Native.Nat.{_-_, _≤_}
+use borrow.Author.Needs.{needs}
+use lib.ListN.{length}
+use Rattle.cases.proofs.reading.read.Statement.{statement}
+use Rattle.cases.proofs.reading.read.Tie as tie
+
+abbrev Inv-loop : tie.InvT-loop
+Inv-loop s e₀ i₀ i-end e i = i ≤ length s
+
+abbrev μ-loop : tie.MeasureT-loop
+μ-loop s e₀ i₀ i-end e i = length s - i
+
+pub read-spec : {M : Type 1} → statement M
+read-spec =
+    tie.close
+    (tie.spec
+    Inv-loop
+    μ-loop
+    (λ c. search needs)
+    (λ c. search needs)
+    (λ c. search needs)
+    (λ c κs. search needs)
+    (λ c. search needs)
+    (λ c. search needs)
+    (λ c. search needs)
+    (λ c κs. search needs)
+    (λ c. search needs))
