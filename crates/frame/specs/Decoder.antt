@@ -106,17 +106,21 @@ afterAa d b f =
     (pick (eqb b 0xEE) (opened d Nak f)
     (foundAt d Idle f))))
 
-abbrev pub seqOctet : Decoder → ℕ → Taken
-seqOctet d b = let h = d .head in moved d (headOf AddrHigh (h .kind) b (h .err) (h .addr) (h .len) (h .got))
+-- SEQ, ADDR and LEN come in octet by octet, high octet first; ERR is one
+abbrev pub withSeq : Head → ℕ → Head
+withSeq h b = headOf AddrHigh (h .kind) b (h .err) (h .addr) (h .len) (h .got)
 
-abbrev pub addrHighOctet : Decoder → ℕ → Taken
-addrHighOctet d b = let h = d .head in moved d (headOf AddrLow (h .kind) (h .seq) (h .err) b (h .len) (h .got))
+abbrev pub withAddrHigh : Head → ℕ → Head
+withAddrHigh h b = headOf AddrLow (h .kind) (h .seq) (h .err) b (h .len) (h .got)
 
-abbrev pub addrLowOctet : Decoder → ℕ → Taken
-addrLowOctet d b = let h = d .head in moved d (headOf LenHigh (h .kind) (h .seq) (h .err) (wordOf (lowOf (h .addr)) b) (h .len) (h .got))
+abbrev pub withAddr : Head → ℕ → Head
+withAddr h addr = headOf LenHigh (h .kind) (h .seq) (h .err) addr (h .len) (h .got)
 
-abbrev pub lenHighOctet : Decoder → ℕ → Taken
-lenHighOctet d b = let h = d .head in moved d (headOf LenLow (h .kind) (h .seq) (h .err) (h .addr) b (h .got))
+abbrev pub withLenHigh : Head → ℕ → Head
+withLenHigh h b = headOf LenLow (h .kind) (h .seq) (h .err) (h .addr) b (h .got)
+
+abbrev pub withErr : Head → ℕ → Head
+withErr h b = headOf Cks (h .kind) (h .seq) b (h .addr) (h .len) (h .got)
 
 -- what follows LEN
 abbrev pub afterLen : Kind → Place
@@ -162,9 +166,6 @@ closeAaOctet d b = pick (eqb b 0xAA) (foundAt d CloseCc found.Nothing) (foundAt 
 abbrev pub closeCcOctet : Decoder → ℕ → Taken
 closeCcOctet d b = pick (eqb b 0xCC) (foundAt d Cks found.Nothing) (afterAa d b (refusedBy (d .head) refusal.closingWrong))
 
-abbrev pub errOctet : Decoder → ℕ → Taken
-errOctet d b = let h = d .head in moved d (headOf Cks (h .kind) (h .seq) b (h .addr) (h .len) (h .got))
-
 -- the octets that are kept of the open frame: to LEN, and from there to CKS before doubling
 unfoldable pub frontIn : Head → List ℕ
 frontIn h = front (h .kind) (h .seq) (h .addr) (h .len)
@@ -193,16 +194,16 @@ cksOctet d b = pick (eqb (cksIn d) b) (foundAt d Idle (soundBy (d .head))) (foun
 abbrev pub stepAt : Place → Decoder → ℕ → Taken
 stepAt Idle d b = idleOctet d b
 stepAt LoneAa d b = afterAa d b found.Nothing
-stepAt Seq d b = seqOctet d b
-stepAt AddrHigh d b = addrHighOctet d b
-stepAt AddrLow d b = addrLowOctet d b
-stepAt LenHigh d b = lenHighOctet d b
+stepAt Seq d b = moved d (withSeq (d .head) b)
+stepAt AddrHigh d b = moved d (withAddrHigh (d .head) b)
+stepAt AddrLow d b = moved d (withAddr (d .head) (wordOf (lowOf (d .head .addr)) b))
+stepAt LenHigh d b = moved d (withLenHigh (d .head) b)
 stepAt LenLow d b = lenJudged d (wordOf (lowOf (d .head .len)) b)
 stepAt Info d b = infoOctet d b
 stepAt InfoAa d b = infoAaOctet d b
 stepAt CloseAa d b = closeAaOctet d b
 stepAt CloseCc d b = closeCcOctet d b
-stepAt Err d b = errOctet d b
+stepAt Err d b = moved d (withErr (d .head) b)
 stepAt Cks d b = cksOctet d b
 
 unfoldable pub stepOf : Decoder → ℕ → Taken

@@ -3,7 +3,7 @@ ghost use mathlib.Core.Path.{_≡_};
 ghost use lib.ListN.{take};
 ghost use Rattle.octets.specs.ExclusiveOr.{exclusiveOr};
 ghost use Rattle.frame.specs.Frame.{lenFits};
-ghost use Rattle.frame.specs.Decoder.{freshDecoder, infoDue, infoWhole, errDue, cksDue, possibleOf, moved, foundAt, opened, refusedBy, idleOctet, afterAa, afterLen, lenJudged, kept, stored, infoOctet, infoAaOctet, closeAaOctet, closeCcOctet, cksIn, soundBy, cksOctet, stepOf, takenOf, idledOf};
+ghost use Rattle.frame.specs.Decoder.{freshDecoder, infoDue, infoWhole, errDue, cksDue, possibleOf, moved, foundAt, opened, refusedBy, idleOctet, afterAa, afterLen, lenJudged, kept, stored, infoOctet, infoAaOctet, closeAaOctet, closeCcOctet, cksIn, soundBy, cksOctet, withSeq, withAddrHigh, withAddr, withLenHigh, withErr, stepOf, takenOf, idledOf};
 use crate::AA;
 use crate::ACK_LEN;
 use crate::BB;
@@ -455,6 +455,57 @@ fn cks_octet(d: Decoder, b: u8) -> Taken
     }
 }
 
+// SEQ, ADDR and LEN come in octet by octet, high octet first; ERR is one.
+fn with_seq(h: Head, b: u8) -> Head
+    ensures { λ r. ⌜ r ≡ withSeq h b ⌝ }
+{
+    Head {
+        place: Place::AddrHigh,
+        seq: b,
+        ..h
+    }
+}
+
+fn with_addr_high(h: Head, b: u8) -> Head
+    ensures { λ r. ⌜ r ≡ withAddrHigh h b ⌝ }
+{
+    Head {
+        place: Place::AddrLow,
+        addr: b as u16,
+        ..h
+    }
+}
+
+fn with_addr(h: Head, addr: u16) -> Head
+    ensures { λ r. ⌜ r ≡ withAddr h addr ⌝ }
+{
+    Head {
+        place: Place::LenHigh,
+        addr,
+        ..h
+    }
+}
+
+fn with_len_high(h: Head, b: u8) -> Head
+    ensures { λ r. ⌜ r ≡ withLenHigh h b ⌝ }
+{
+    Head {
+        place: Place::LenLow,
+        len: b as u16,
+        ..h
+    }
+}
+
+fn with_err(h: Head, b: u8) -> Head
+    ensures { λ r. ⌜ r ≡ withErr h b ⌝ }
+{
+    Head {
+        place: Place::Cks,
+        err: b,
+        ..h
+    }
+}
+
 // One octet to a possible decoder.
 fn step(d: Decoder, b: u8) -> Taken
     ensures { λ r. ⌜ r ≡ stepOf d b ⌝ }
@@ -464,51 +515,16 @@ fn step(d: Decoder, b: u8) -> Taken
     match p {
         Place::Idle => idle_octet(d, b),
         Place::LoneAa => after_aa(d, b, Found::Nothing),
-        Place::Seq => moved(
-            d,
-            Head {
-                place: Place::AddrHigh,
-                seq: b,
-                ..h
-            },
-        ),
-        Place::AddrHigh => moved(
-            d,
-            Head {
-                place: Place::AddrLow,
-                addr: b as u16,
-                ..h
-            },
-        ),
-        Place::AddrLow => moved(
-            d,
-            Head {
-                place: Place::LenHigh,
-                addr: octets::word(octets::low(h.addr), b),
-                ..h
-            },
-        ),
-        Place::LenHigh => moved(
-            d,
-            Head {
-                place: Place::LenLow,
-                len: b as u16,
-                ..h
-            },
-        ),
+        Place::Seq => moved(d, with_seq(h, b)),
+        Place::AddrHigh => moved(d, with_addr_high(h, b)),
+        Place::AddrLow => moved(d, with_addr(h, octets::word(octets::low(h.addr), b))),
+        Place::LenHigh => moved(d, with_len_high(h, b)),
         Place::LenLow => len_judged(d, octets::word(octets::low(h.len), b)),
         Place::Info => info_octet(d, b),
         Place::InfoAa => info_aa_octet(d, b),
         Place::CloseAa => close_aa_octet(d, b),
         Place::CloseCc => close_cc_octet(d, b),
-        Place::Err => moved(
-            d,
-            Head {
-                place: Place::Cks,
-                err: b,
-                ..h
-            },
-        ),
+        Place::Err => moved(d, with_err(h, b)),
         Place::Cks => cks_octet(d, b),
     }
 }

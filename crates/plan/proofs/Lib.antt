@@ -9,3 +9,4 @@ pub mod Cases
 pub mod Keeping
 pub mod Telling
 pub mod Only
+pub mod PlansRead

@@ -11,16 +11,16 @@ returns-2 : tie.Need-returns-2
 returns-2 c = let a = c .before .before .before .before .args in rw (step-at (a .d) (a .b) (c .before .enum-told2 .given .1)) (c .after-aa .ensures)
 
 returns-3 : tie.Need-returns-3
-returns-3 c = let a = c .before .before .before .before .args in rw (step-at (a .d) (a .b) (c .before .enum-told3 .given .1)) (c .moved .ensures)
+returns-3 c = let a = c .before .before .before .before .before .args in rw (step-at (a .d) (a .b) (c .before .before .enum-told3 .given .1), c .moved .ensures, c .before .with-seq .ensures)
 
 returns-4 : tie.Need-returns-4
-returns-4 c = let a = c .before .before .before .before .args in rw (step-at (a .d) (a .b) (c .before .enum-told4 .given .1)) (c .moved2 .ensures)
+returns-4 c = let a = c .before .before .before .before .before .args in rw (step-at (a .d) (a .b) (c .before .before .enum-told4 .given .1), c .moved2 .ensures, c .before .with-addr-high .ensures)
 
 returns-5 : tie.Need-returns-5
-returns-5 c = let a = c .before .before .before .before .before .before .args in rw (step-at (a .d) (a .b) (c .before .before .before .enum-told5 .given .1), c .moved3 .ensures, c .before .word .ensures, c .before .before .low .ensures)
+returns-5 c = let a = c .before .before .before .before .before .before .before .args in rw (step-at (a .d) (a .b) (c .before .before .before .before .enum-told5 .given .1), c .moved3 .ensures, c .before .with-addr .ensures, c .before .before .word .ensures, c .before .before .before .low .ensures)
 
 returns-6 : tie.Need-returns-6
-returns-6 c = let a = c .before .before .before .before .args in rw (step-at (a .d) (a .b) (c .before .enum-told6 .given .1)) (c .moved4 .ensures)
+returns-6 c = let a = c .before .before .before .before .before .args in rw (step-at (a .d) (a .b) (c .before .before .enum-told6 .given .1), c .moved4 .ensures, c .before .with-len-high .ensures)
 
 returns-7 : tie.Need-returns-7
 returns-7 c = let a = c .before .before .before .before .before .before .args in rw (step-at (a .d) (a .b) (c .before .before .before .enum-told7 .given .1), c .len-judged .ensures, c .before .word2 .ensures, c .before .before .low2 .ensures)
@@ -38,7 +38,7 @@ returns-11 : tie.Need-returns-11
 returns-11 c = let a = c .before .before .before .before .args in rw (step-at (a .d) (a .b) (c .before .enum-told11 .given .1)) (c .close-cc-octet .ensures)
 
 returns-12 : tie.Need-returns-12
-returns-12 c = let a = c .before .before .before .before .args in rw (step-at (a .d) (a .b) (c .before .enum-told12 .given .1)) (c .moved5 .ensures)
+returns-12 c = let a = c .before .before .before .before .before .args in rw (step-at (a .d) (a .b) (c .before .before .enum-told12 .given .1), c .moved5 .ensures, c .before .with-err .ensures)
 
 returns-13 : tie.Need-returns-13
 returns-13 c = let a = c .before .before .before .before .args in rw (step-at (a .d) (a .b) (c .before .enum-told13 .given .1)) (c .cks-octet .ensures)
@@ -53,19 +53,21 @@ step-spec =
     (λ c κs. search needs)
     (λ c. search needs)
     (λ c κs. search needs)
-    (λ c. search needs)
     (λ c κs. search needs)
     (λ c. search needs)
     (λ c κs. search needs)
-    (λ c κs. search needs)
-    (λ c κs. search needs)
-    (λ c. search needs)
     (λ c κs. search needs)
     (λ c. search needs)
     (λ c κs. search needs)
     (λ c κs. search needs)
     (λ c κs. search needs)
+    (λ c κs. search needs)
     (λ c. search needs)
+    (λ c κs. search needs)
+    (λ c κs. search needs)
+    (λ c. search needs)
+    (λ c κs. search needs)
+    (λ c κs. search needs)
     (λ c κs. search needs)
     (λ c. search needs)
     (λ c κs. search needs)
@@ -74,6 +76,9 @@ step-spec =
     (λ c. search needs)
     (λ c κs. search needs)
     (λ c. search needs)
+    (λ c κs. search needs)
+    (λ c. search needs)
+    (λ c κs. search needs)
     (λ c κs. search needs)
     (λ c. search needs)
     (λ c κs. search needs)
