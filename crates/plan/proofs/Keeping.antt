@@ -1,7 +1,7 @@
 -- A set leaves every other plan as it was, and a well-formed book well formed.
 use Prim.Native.Nat.{ℕ, _≤_, _<_}
-use mathlib.Core.Path.{_≡_, refl, sym, subst, _∙_}
-use mathlib.Core.Logic.{inl, inr}
+use mathlib.Core.Path.{_≡_, refl, sym, ap, subst, _∙_}
+use mathlib.Core.Logic.{_⊎_, inl, inr}
 use mathlib.Core.List.{List}
 use native.Mathlib.Decide.{decLt, ℕ-discrete}
 use native.Mathlib.Omega.{arith}
@@ -11,7 +11,7 @@ use Rattle.octets.specs.Octet.{Octets}
 use Rattle.octets.specs.Refusal as refusal
 use Rattle.message.specs.Reader.{codeIn, bodyIn}
 use Rattle.plan.specs.declared.setting.Made.{Made}
-use Rattle.plan.specs.Record.{bookLen, plansMost}
+use Rattle.plan.specs.Record.{bookLen, plansMost, Empty, TimesSet, Ready}
 use Rattle.plan.specs.Reading.{recordAt, readRefusal}
 use Rattle.plan.specs.Setting.{planIn, frontOf, setOf, timesMade, readyMade, setTimesCode, setPlanCode, setTimesOf, setPlanOf}
 use Rattle.plan.specs.Promises.{Stored, OthersRead, SetsLeaveOthers, WellFormed, BookWellFormed, SetsKeepForm}

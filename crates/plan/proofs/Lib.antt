@@ -9,4 +9,3 @@ pub mod Cases
 pub mod Keeping
 pub mod Telling
 pub mod Only
-pub mod PlansRead

@@ -1,32 +1,35 @@
 -- A 5F 15 is stored exactly when its checks pass.
 use Prim.Native.Nat.{ℕ, zero, suc, _+_, _*_, _-_, _≤_, _<_}
 use mathlib.Core.Path.{_≡_, refl, sym, ap, subst, _∙_}
-use mathlib.Core.Logic.{inl, inr}
-use mathlib.Core.List.{List, _∷_, _++_}
+use mathlib.Core.Bool.{Bool, true, false, not}
+use mathlib.Core.Logic.{_⊎_, inl, inr}
+use mathlib.Core.List.{List, [], _∷_, _++_}
 use native.Mathlib.Decide.{decLt, ℕ-discrete}
 use native.Mathlib.Omega.{arith}
-use borrow.Author.Tests.{eq-eqb, ne-eqb, eqb-true, eqb-false, leb-true, not-true, not-false}
-use lib.Dec.{eqb}
-use lib.ListN.{length, drop, length-drop, length-append}
-use lib.Seq.{sets, drop-drop, getD-drop}
+use borrow.Author.Tests.{eq-eqb, ne-eqb, eqb-true, eqb-false, leb-true, leb-false, not-true, not-false}
+use lib.Dec.{eqb, leb}
+use lib.ListN.{length, getD, take, drop, length-drop, length-append}
+use lib.Seq.{sets, drop-drop, getD-drop, length-take-le}
 use Rattle.octets.specs.First.{First, firstOf}
 use Rattle.octets.specs.Octet.{Octets}
 use Rattle.octets.specs.Refusal as refusal
+use Rattle.octets.specs.Word.{wordOf}
 use Rattle.octets.proofs.Laws.{clash}
 use Rattle.diagram.specs.Table.{phasesOf}
 use Rattle.message.specs.Layouts.{layouts, layoutAt, numberOf, rowsAt, rowsOf, repeated, greens, cycleOffset}
-use Rattle.message.specs.Names.{planAt, planCountAt}
+use Rattle.message.specs.Names.{planAt, planCountAt, offsetAt}
 use Rattle.message.specs.Reader.{kIn, codeIn, bodyIn, readOf}
+use Rattle.plan.specs.declared.setting.Answered.{Answered}
 use Rattle.plan.specs.declared.setting.Made.{Made}
-use Rattle.plan.specs.Record.{recordLen, bookLen, empty, timesSet, ready, octetAt, wordAt, kOf, timesAt, timesEnd, greensAt, readyEnd, minimumOf, maximumOf, directOf, orderOf, greenOf, cycleOf, offsetOf, sumOf, Within, AllTimesFit, Ready}
-use Rattle.plan.specs.Standing.{between, planFails, planChecks, planDisagree, standingOf, Stands}
+use Rattle.plan.specs.Record.{recordLen, bookLen, plansMost, empty, timesSet, ready, octetAt, wordAt, stateOf, kOf, timesAt, timesEnd, greensAt, readyEnd, minimumOf, maximumOf, yellowOf, allRedOf, directOf, orderOf, greenOf, cycleOf, offsetOf, sumOf, Within, TimesFit, AllTimesFit, TimesSet, Ready}
+use Rattle.plan.specs.Standing.{between, greenFails, planFails, planChecks, planDisagree, standingOf, Stands}
 use Rattle.plan.specs.Reading.{startOf, recordAt}
-use Rattle.plan.specs.Setting.{planIn, countIn, Setting, answered, readyRecord, planField, readyMade, setPlanCode, setPlanOf}
+use Rattle.plan.specs.Setting.{planIn, countIn, Setting, answered, made, notMade, readyRecord, planField, readyMade, keptAs, setOf, setPlanCode, setPlanOf}
 use Rattle.plan.specs.Promises.{directIn, orderIn, greenIn, cycleIn, offsetIn, sumIn, Ranges15, HasTimes, CountAgrees, GreenAgrees, Fit15, Disagrees15, count, green, cycle, offset, Stored, SameTimes, Holds15, PlanJudged, PlanStoredExactlyWhen}
 use Rattle.plan.proofs.Laws.{octets-part}
 use Rattle.plan.proofs.Fields.{at-one, within, inside, size-append, size-repeated, Pass, Read1, greens-in, greens-out}
 use Rattle.plan.proofs.Stands.{PlanAgrees, plan-first, plan-agrees, agrees-plan, green-within, within-green, check-green, check-cycle, check-offset, stands-as-it-is}
-use Rattle.plan.proofs.Sets.{read-plan, plan-body, padded-at, padded-long, padded-rest, front-long, two-long, ready-times, ready-two, ready-rest, ready-k}
+use Rattle.plan.proofs.Sets.{read-plan, plan-body, padded-at, padded-long, padded-rest, ready-times, ready-two, ready-rest, ready-k}
 use Rattle.plan.proofs.Storing.{stored-here, set-read, set-unread, kept-made, kept-not-made, is-read, long-enough, same-times, same-fit}
 
 -- The ranges
@@ -182,9 +185,15 @@ module _ (old body : List ℕ) (h : HasTimes old) (r : Ranges15 body) (e : count
           offset = rw (m-offset, m-cycle) f;
         }
 
+    front-len : length (between 1 (timesEnd old) old) ≡ timesEnd old - 1
+    front-len = length-take-le (timesEnd old - 1) (drop 1 old) (simp length-drop (omega (arith, long-old)))
+
+    two-len : length (between 1 3 body) ≡ 2
+    two-len = length-take-le 2 (drop 1 body) (simp length-drop (omega (arith, long-body)))
+
     m-len : length (ready ∷ (between 1 (timesEnd old) old ++ (between 1 3 body ++ drop 4 body))) ≡ timesEnd old + 2 + (length body - 4)
     m-len =
-        omega (arith, length-append (between 1 (timesEnd old) old) (between 1 3 body ++ drop 4 body), length-append (between 1 3 body) (drop 4 body), front-long old body long-old long-body, two-long old body long-old long-body, length-drop 4 body)
+        omega (arith, length-append (between 1 (timesEnd old) old) (between 1 3 body ++ drop 4 body), length-append (between 1 3 body) (drop 4 body), front-len, two-len, length-drop 4 body)
 
     pub m-long : length m ≡ recordLen
     unfolding readyRecord
@@ -278,7 +287,7 @@ module _ (old body : List ℕ) (h : HasTimes old) (r : Ranges15 body) (e : count
               (cycle (counted n f (omega arith)) (λ j l. greened n f j (omega (arith, m-k, e)) (omega (arith, e))) (λ y. x (m-cycle ∙ (y ∙ sym m-total))))
           go (no z) (yes d) (no c) =
               let n3 : n ≡ kOf m + 3 = omega (arith, f .within) in
-              let q : 6 + countIn body ≡ planField n = omega (arith, m-k, e) in
+              let q : offsetAt (countIn body) ≡ planField n = omega (arith, m-k, e) in
               let x = leb-true (cycleOf m) (offsetOf m) (sym (check-offset m) ∙ f .here (kOf m + 2) (omega arith)) in
               subst (Disagrees15 old body) q
               (offset (counted n f (omega arith)) (λ j l. greened n f j (omega (arith, m-k, e)) (omega (arith, e))) (summed n f (omega arith))

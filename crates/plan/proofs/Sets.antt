@@ -1,6 +1,6 @@
 -- What follows from the definitions of a set: one law for each way, and what a message that is read tells.
 use Prim.Native.Nat.{ℕ, zero, suc, _+_, _*_, _-_, _/_, _%_, _≤_, _<_}
-use mathlib.Core.Path.{_≡_, refl, sym, ap, _∙_}
+use mathlib.Core.Path.{_≡_, refl, sym, ap, subst, _∙_}
 use mathlib.Core.Bool.{Bool, true, false}
 use mathlib.Core.List.{List, [], _∷_, _++_}
 use native.Mathlib.Nat.{zero-add}
@@ -8,27 +8,28 @@ use native.Mathlib.Decide.{decLt}
 use native.Mathlib.Omega.{arith}
 use borrow.Author.Tests.{eq-eqb, ne-eqb, eqb-true, eqb-false}
 use lib.Dec.{eqb}
-use lib.ListN.{length, drop, set, replicate, length-append, length-drop, length-replicate, List·getD-append, List·getD-eq-default}
+use lib.ListN.{length, getD, take, drop, set, replicate, length-append, length-take, length-drop, length-replicate, List·getD-append, List·getD-eq-default}
 use lib.Seq.{sets, sets-eq, getD-drop, getD-take, getD-append-add, drop-at, length-take-le}
 use Rattle.octets.specs.Choice.{pick}
-use Rattle.octets.specs.First.{firstOf}
+use Rattle.octets.specs.First.{First, firstOf}
 use Rattle.octets.specs.Put.{Put, Stored}
 use Rattle.octets.specs.Refusal as refusal
 use Rattle.octets.proofs.Laws.{put-stored, stored-then, part-to-end}
 use Rattle.message.specs.declared.Read.{Read}
 use Rattle.message.specs.Fields as field
 use Rattle.message.specs.Layouts.{layouts, layoutAt, numberOf, rowsAt, rowsOf, repeated, times, greens, cycleOffset}
+use Rattle.message.specs.Values.{sizeOf, valuesOf}
 use Rattle.message.specs.Reader.{kIn, codeIn, bodyIn, readOf}
-use Rattle.message.specs.Names.{planAt, planCountAt}
+use Rattle.message.specs.Names.{planAt, planCountAt, maximumAt, redManAt}
 use Rattle.message.proofs.Search.{getD-past}
-use Rattle.message.proofs.ReadSo.{accepted-in}
+use Rattle.message.proofs.Accepted.{Accepted, accepted-in}
 use Rattle.plan.specs.declared.setting.Answered.{Answered}
 use Rattle.plan.specs.declared.setting.Made.{Made}
-use Rattle.plan.specs.Record.{recordLen, bookLen, empty, timesSet, ready, octetAt, wordAt, kOf, timesEnd, ZeroFrom}
+use Rattle.plan.specs.Record.{recordLen, bookLen, empty, timesSet, ready, octetAt, wordAt, kOf, timesEnd, Within, ZeroFrom}
 use Rattle.plan.specs.Standing.{between, timesDisagree, planDisagree, standingOf}
 use Rattle.plan.specs.BuiltIn.{padded}
 use Rattle.plan.specs.Reading.{startOf, recordAt}
-use Rattle.plan.specs.Setting.{planIn, countIn, Times14, Plan15, timesRecord, readyRecord, made, notMade, timesField, planField, timesMade, readyMade, Did, answered, keptAs, setTimesCode, setPlanCode, frontOf, setOf}
+use Rattle.plan.specs.Setting.{planIn, countIn, Times14, Plan15, timesRecord, readyRecord, made, notMade, timesField, planField, timesMade, readyMade, Setting, Did, answered, keptAs, setTimesCode, setPlanCode, frontOf, setOf}
 use Rattle.plan.proofs.Fields.{size-append, size-repeated, Read1, pass-all}
 
 -- What any set refuses
@@ -181,10 +182,10 @@ module _ (old body : List ℕ) (ho : timesEnd old ≤ length old) (hb : 4 ≤ le
   abbrev front-part : List ℕ
   front-part = between 1 (timesEnd old) old
 
-  pub front-long : length front-part ≡ timesEnd old - 1
+  front-long : length front-part ≡ timesEnd old - 1
   front-long = length-take-le (timesEnd old - 1) (drop 1 old) (simp length-drop (omega arith))
 
-  pub two-long : length (between 1 3 body) ≡ 2
+  two-long : length (between 1 3 body) ≡ 2
   two-long = length-take-le 2 (drop 1 body) (simp length-drop (omega arith))
 
   pub ready-times : (i : ℕ) → 1 ≤ i → i < timesEnd old → octetAt (readyRecord old body) i ≡ octetAt old i
@@ -217,11 +218,11 @@ module _ (old body : List ℕ) (ho : timesEnd old ≤ length old) (hb : 4 ≤ le
 
 -- What is made
 
-pub field-maximum : (n i : ℕ) → i ≡ (n - 1) / 2 → (n - 1) % 2 ≡ 0 → 4 + 6 * i ≡ timesField n
+pub field-maximum : (n i : ℕ) → i ≡ (n - 1) / 2 → (n - 1) % 2 ≡ 0 → maximumAt i ≡ timesField n
 unfolding timesField
 field-maximum n i e h = rw (eq-eqb ((n - 1) % 2) 0 h, e)
 
-pub field-redman : (n i : ℕ) → i ≡ (n - 1) / 2 → ((n - 1) % 2 ≡ 0 → ⊥) → 8 + 6 * i ≡ timesField n
+pub field-redman : (n i : ℕ) → i ≡ (n - 1) / 2 → ((n - 1) % 2 ≡ 0 → ⊥) → redManAt i ≡ timesField n
 unfolding timesField
 field-redman n i e h = rw (ne-eqb ((n - 1) % 2) 0 h, e)
 

@@ -1,28 +1,30 @@
 -- What was set is what is reported: the INFO of the report is that of the set, but for its code.
-use Prim.Native.Nat.{ℕ, _+_, _-_, _≤_}
-use mathlib.Core.Path.{_≡_, refl, sym, ap, _∙_}
+use Prim.Native.Nat.{ℕ, _+_, _*_, _-_, _≤_, _<_}
+use mathlib.Core.Path.{_≡_, refl, sym, ap, subst, _∙_}
 use mathlib.Core.Logic.{_⊎_, inl, inr}
-use mathlib.Core.List.{List, _∷_, _++_, append-assoc}
+use mathlib.Core.List.{List, [], _∷_, _++_, append-assoc}
 use native.Mathlib.Omega.{arith}
 use borrow.Author.Tests.{le-leb}
-use lib.ListN.{length, take, drop, replicate, length-append, length-drop}
-use lib.Seq.{take-at, drop-at, getD-drop}
+use lib.ListN.{length, getD, take, drop, replicate, length-append, length-drop}
+use lib.Seq.{take-at, drop-at, getD-drop, length-take-le}
 use Rattle.octets.specs.First.{firstOf}
+use Rattle.octets.specs.Octet.{Octets}
 use Rattle.octets.specs.Refusal as refusal
 use Rattle.octets.specs.Word.{highOf, lowOf}
 use Rattle.octets.proofs.Laws.{drop-next}
+use Rattle.message.specs.declared.Message.{Message}
 use Rattle.message.specs.declared.Read.{Read}
 use Rattle.message.specs.Layouts.{layouts, layoutAt, numberOf, rowsAt, rowsOf}
-use Rattle.message.specs.Reader.{readAs, partOf, bodyIn, readOf}
-use Rattle.plan.specs.Record.{recordLen, timesSet, ready, kOf, timesEnd, greensAt, readyEnd, directOf, orderOf}
+use Rattle.message.specs.Reader.{readAs, partOf, kIn, codeIn, bodyIn, readOf}
+use Rattle.plan.specs.Record.{recordLen, bookLen, timesSet, ready, kOf, timesEnd, greensAt, readyEnd, directOf, orderOf}
 use Rattle.plan.specs.Standing.{between}
 use Rattle.plan.specs.BuiltIn.{padded}
-use Rattle.plan.specs.Reading.{recordAt}
+use Rattle.plan.specs.Reading.{startOf, recordAt}
 use Rattle.plan.specs.Setting.{planIn, countIn, Setting, timesRecord, readyRecord, setTimesCode, setPlanCode, setTimesOf, setPlanOf}
 use Rattle.plan.specs.Reporting.{reportTimesCode, reportPlanCode, reportRunningCode, timesInfo, planInfo, reportTimesOf, reportPlanOf}
 use Rattle.plan.specs.Promises.{Fit14, directIn, orderIn, Fit15, Holds15, Reports, TimesReported, PlanReported}
 use Rattle.plan.proofs.Fields.{Read1}
-use Rattle.plan.proofs.Sets.{times-at, front-long, two-long}
+use Rattle.plan.proofs.Sets.{times-at}
 use Rattle.plan.proofs.Storing.{stored-here, read-as, long-enough, fit-read, fit-stored, record-long, times-number, times-count}
 use Rattle.plan.proofs.Readying.{ranges-to, has-long, has-fit, m-holds, m-long, fit-done, plan-number, plan-count}
 
@@ -102,8 +104,9 @@ module _ (old body : List ℕ) (f : Fit15 old body) where
 
   front-len : length front ≡ greensAt m
   front-len =
-      let b : 4 ≤ length body = omega (arith, f .ranges .long) in
-      omega (arith, length-append (between 1 (timesEnd old) old) (between 1 3 body), front-long old body long-old b, two-long old body long-old b, holds .count)
+      let a : length (between 1 (timesEnd old) old) ≡ timesEnd old - 1 = length-take-le (timesEnd old - 1) (drop 1 old) (simp length-drop (omega (arith, long-old))) in
+      let b : length (between 1 3 body) ≡ 2 = length-take-le 2 (drop 1 body) (simp length-drop (omega (arith, f .ranges .long))) in
+      omega (arith, length-append (between 1 (timesEnd old) old) (between 1 3 body), holds .count)
 
   rest-again : between (greensAt m) (readyEnd m) m ≡ drop 4 body
   unfolding readyRecord padded

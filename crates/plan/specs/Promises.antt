@@ -11,7 +11,6 @@ use Rattle.message.specs.declared.Message.{Message}
 use Rattle.message.specs.Names.{planAt, maximumAt, redManAt, planCountAt, greenAt, cycleAt, offsetAt}
 use Rattle.message.specs.Reader.{codeIn, bodyIn, readOf}
 use Rattle.plan.specs.Record.{recordLen, bookLen, plansMost, octetAt, wordAt, kOf, minimumOf, maximumOf, yellowOf, allRedOf, walkFlashOf, redManOf, directOf, orderOf, greenOf, cycleOf, offsetOf, Within, AllTimesFit, Empty, TimesSet, Ready}
-use Rattle.plan.specs.BuiltIn.{builtIn}
 use Rattle.plan.specs.Reading.{recordAt, readRefusal}
 use Rattle.plan.specs.Reporting.{reportTimesCode, reportPlanCode, reportRunningCode, reportTimesOf, reportPlanOf}
 use Rattle.plan.specs.Setting.{planIn, countIn, setTimesCode, setPlanCode, setTimesOf, setPlanOf}
@@ -178,25 +177,6 @@ pub record PlanJudged (book info old : List ℕ) : Type 0 where
 abbrev pub PlanStoredExactlyWhen : Type 0
 PlanStoredExactlyWhen =
     (book info : List ℕ) → length book ≡ bookLen → Octets book → codeIn info ≡ setPlanCode → PlanJudged book info (recordAt book (planIn (bodyIn info)))
-
--- Reading
-
--- What reading a plan comes to, and why: "8 if either length is wrong, then 12 for a plan over 48, then 13 for an empty plan, or
--- for plan 0 where the copy differs from the built-in record"
-pub record Lengths (book own : List ℕ) : Type 0 where
-  pub inBook : length book ≡ bookLen
-  pub inCopy : length own ≡ recordLen
-
-pub data ReadJudged (book own : List ℕ) (p : ℕ) : ℕ → Type 0 where
-  wrongLength : (Lengths book own → ⊥) → ReadJudged book own p refusal.bookWrong
-  outOfRange : Lengths book own → plansMost < p → ReadJudged book own p refusal.outOfRange
-  notBuiltIn : Lengths book own → p ≡ 0 → (own ≡ builtIn → ⊥) → ReadJudged book own p refusal.notReady
-  notSet : Lengths book own → 1 ≤ p → p ≤ plansMost → (HasTimes (recordAt book p) → ⊥) → ReadJudged book own p refusal.notReady
-  isBuiltIn : Lengths book own → p ≡ 0 → own ≡ builtIn → ReadJudged book own p refusal.none
-  isSet : Lengths book own → 1 ≤ p → p ≤ plansMost → HasTimes (recordAt book p) → ReadJudged book own p refusal.none
-
-abbrev pub PlansReadSo : Type 0
-PlansReadSo = (book own : List ℕ) (p : ℕ) → Octets book → ReadJudged book own p (readRefusal book own p)
 
 -- Other plans
 

@@ -4,7 +4,7 @@ ghost use Prim.Native.Nat.{_+_, _*_, _≤_};
 ghost use lib.ListN.{length};
 ghost use lib.Seq.{sets};
 ghost use Rattle.plan.specs.Reading.{startOf};
-ghost use Rattle.plan.specs.Record.{recordLen, bookLen, plansMost, kOf};
+ghost use Rattle.plan.specs.Record.{recordLen, bookLen, plansMost, kOf, timesEnd};
 ghost use Rattle.plan.specs.Setting.{Times14, Plan15, timesRecord, readyRecord, notMade, timesField, timesMade, readyMade, answered, Did, keptAs, frontOf, setTimesOf, setPlanOf};
 use crate::book;
 use crate::record;

@@ -1,6 +1,6 @@
 -- `plan::book::built_in` meets its contract: the three runs of octets, stored behind state and k, are the definition's list.
 use mathlib.Core.Path.{ap, _∙_}
-use mathlib.Core.List.{List}
+use mathlib.Core.List.{List, [], _∷_}
 use Prim.Native.Nat.{ℕ}
 use native.Mathlib.Omega.{arith}
 use borrow.Author.Needs.{needs}

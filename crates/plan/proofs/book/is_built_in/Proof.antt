@@ -1,6 +1,9 @@
 -- `plan::book::is_built_in` meets its contract: what is left is the same exactly where the whole is.
 use Prim.Native.Nat.{_≤_, _-_}
 use mathlib.Core.Path.{_≡_, refl, ap, _∙_}
+use mathlib.Core.List.{List}
+use Prim.Native.Nat.{ℕ}
+use native.Mathlib.Omega.{arith}
 use borrow.Author.Needs.{needs}
 use lib.ListN.{length, drop}
 use Rattle.plan.specs.Record.{recordLen}

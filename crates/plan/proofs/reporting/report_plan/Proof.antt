@@ -1,4 +1,5 @@
 -- `plan::reporting::report_plan` meets its contract: one law for each way.
+use native.Mathlib.Omega.{arith}
 use borrow.Author.Needs.{needs}
 use Rattle.plan.proofs.Reports.{plan-short, plan-over, plan-told}
 use Rattle.plan.proofs.reporting.report_plan.Statement.{statement}

@@ -1,4 +1,5 @@
 -- `plan::reporting::report_times` meets its contract: one law for each way.
+use native.Mathlib.Omega.{arith}
 use borrow.Author.Needs.{needs}
 use Rattle.plan.proofs.Reports.{times-short, times-over, times-told}
 use Rattle.plan.proofs.reporting.report_times.Statement.{statement}

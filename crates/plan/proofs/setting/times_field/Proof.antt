@@ -1,6 +1,9 @@
 -- `plan::setting::times_field` meets its contract: a phase has six fields.
+use Prim.Native.Nat.{ℕ, _+_, _*_, _-_, _/_}
+use native.Mathlib.Omega.{arith}
 use borrow.Author.Needs.{needs}
-use mathlib.Core.Path.{refl}
+use mathlib.Core.Path.{_≡_, refl, _∙_}
+use Rattle.message.specs.Names.{maximumAt, redManAt}
 use Rattle.plan.proofs.Sets.{field-maximum, field-redman}
 use Rattle.plan.proofs.setting.times_field.Statement.{statement}
 use Rattle.plan.proofs.setting.times_field.Tie as tie
@@ -14,8 +17,8 @@ times-field-spec =
     (λ c. search needs)
     (λ c. search needs)
     (λ c. search needs)
-    (λ c. field-maximum (c .before .args .n) _ refl (c .if1 .taken))
+    (λ c. let i : ℕ = (c .before .args .n - 1) / 2 in let e : 4 + 6 * i ≡ maximumAt i = omega arith in e ∙ field-maximum (c .before .args .n) i refl (c .if1 .taken))
     (λ c. search needs)
     (λ c. search needs)
     (λ c. search needs)
-    (λ c. field-redman (c .before .args .n) _ refl (c .if1 .left)))
+    (λ c. let i : ℕ = (c .before .args .n - 1) / 2 in let e : 8 + 6 * i ≡ redManAt i = omega arith in e ∙ field-redman (c .before .args .n) i refl (c .if1 .left)))

@@ -1,6 +1,9 @@
 -- `plan::standing::plan_fails` meets its contract: the tests are the definition's.
-use mathlib.Core.Path.{ap, _∙_}
+use Prim.Native.Nat.{_+_, _≤_}
+use mathlib.Core.Path.{_≡_, sym, ap, _∙_}
+use native.Mathlib.Omega.{arith}
 use borrow.Author.Needs.{needs}
+use borrow.Author.Tests.{eq-eqb, ne-eqb, le-leb, lt-leb}
 use Rattle.diagram.specs.Table.{phasesOf}
 use Rattle.plan.proofs.Laws.{fails-count, fails-green, fails-cycle, fails-offset}
 use Rattle.plan.proofs.standing.plan_fails.Statement.{statement}

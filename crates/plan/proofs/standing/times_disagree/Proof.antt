@@ -1,6 +1,6 @@
 -- `plan::standing::times_disagree` meets its contract: what is left of the search gives what the whole gives.
 use Prim.Native.Nat.{_*_, _≤_, _-_}
-use mathlib.Core.Path.{_≡_, sym, ap, _∙_}
+use mathlib.Core.Path.{_≡_, refl, sym, ap, _∙_}
 use native.Mathlib.Omega.{arith}
 use borrow.Author.Needs.{needs}
 use Rattle.octets.specs.First.{firstOf}

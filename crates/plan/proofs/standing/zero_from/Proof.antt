@@ -1,5 +1,5 @@
 -- `plan::standing::zero_from` meets its contract: what is left is all zero exactly where the whole is.
-use Prim.Native.Nat.{_-_}
+use Prim.Native.Nat.{_≤_, _-_}
 use mathlib.Core.Path.{_≡_, refl, _∙_}
 use borrow.Author.Needs.{needs}
 use lib.ListN.{length, drop}
