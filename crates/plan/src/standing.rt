@@ -15,11 +15,6 @@ pub const TIMES_SET: u8 = 1;
 
 pub const READY: u8 = 2;
 
-// The message layer's layouts of the stored parts.
-const STORED_TIMES: usize = 12;
-
-const STORED_PLAN: usize = 13;
-
 // How the octets stand: empty, times set or ready.
 pub fn standing(rec: &[u8]) -> u8
     ensures { λ r. ⌜ r ≡ standingOf (now (rec .entry)) ⌝ }
@@ -74,7 +69,12 @@ fn zero_from(rec: &[u8], at: usize) -> bool
 fn times_stand(rec: &[u8]) -> bool
     ensures { λ r. ⌜ r ≡ timesStand (now (rec .entry)) ⌝ }
 {
-    if !ranged(STORED_TIMES, rec, record::HEAD_LEN, record::times_end(rec)) {
+    if !ranged(
+        message::STORED_TIMES,
+        rec,
+        record::HEAD_LEN,
+        record::times_end(rec),
+    ) {
         return false;
     }
     times_disagree(rec) == 0
@@ -85,7 +85,7 @@ fn plan_stands(rec: &[u8]) -> bool
     ensures { λ r. ⌜ r ≡ planStands (now (rec .entry)) ⌝ }
 {
     if !ranged(
-        STORED_PLAN,
+        message::STORED_PLAN,
         rec,
         record::times_end(rec),
         record::ready_end(rec),
