@@ -24,6 +24,13 @@ fn hex2(b: u8) {
     text(&t);
 }
 
+// A lamp word in eight digits; in the base no lamp has a number over 32.
+pub(crate) fn word(x: u64) {
+    let mut t = [0u8; 8];
+    text::put_hex8((x % 4_294_967_296) as u32, &mut t, 0);
+    text(&t);
+}
+
 // Octets parted by blanks, as an action has them.
 pub(crate) fn octets(s: &[u8]) {
     let mut i = 0;

@@ -1,8 +1,11 @@
-// Frames written aloud: what is to be written, and the octets that were or the refusal.
+// Frames and messages written aloud: what is to be written, and the octets that were or the refusal.
+ghost use Prim.Native.Nat.{_≤_};
 use crate::say;
 use crate::script;
 use frame::Kind;
 use frame::writer;
+use message::FIELDS_MOST;
+use message::Message;
 use octets::Written;
 use octets::refusal;
 
@@ -12,6 +15,10 @@ const OWN: u16 = 0x0001;
 pub(crate) fn write(k: Kind, o: &[u8], out: &mut [u8], at: usize) -> usize {
     say_frame(k, o);
     let w = written(k, o, &mut *out, at);
+    say_written(w, out, at)
+}
+
+fn say_written(w: Written, out: &[u8], at: usize) -> usize {
     if w.refusal == refusal::NONE {
         say::text(b"\twritten ");
         say::decimal(w.count);
@@ -21,6 +28,40 @@ pub(crate) fn write(k: Kind, o: &[u8], out: &mut [u8], at: usize) -> usize {
         say::call_refused(w.refusal);
     }
     w.count
+}
+
+// The message writer, given a code and its fields' values, two octets each.
+pub(crate) fn compose(o: &[u8], out: &mut [u8], at: usize) -> usize {
+    say::text(b"\tcompose ");
+    say::octets(o);
+    let w = message::writer::write(message_in(o), &mut *out, at);
+    say_written(w, out, at)
+}
+
+fn message_in(o: &[u8]) -> Message {
+    let mut values = [0u16; FIELDS_MOST];
+    for i in 0..FIELDS_MOST {
+        values[i] = word_at(o, 2 + 2 * i);
+    }
+    Message {
+        code: word_at(o, 0),
+        fields: fields_in(o.len()),
+        values,
+    }
+}
+
+fn word_at(o: &[u8], i: usize) -> u16
+    requires { ⌜ i ≤ 1000 ⌝ }
+{
+    octets::word(script::at(o, i), script::at(o, i + 1))
+}
+
+// How many fields so many octets hold, after the code.
+fn fields_in(n: usize) -> usize {
+    if n < 2 {
+        return 0;
+    }
+    (n - 2) / 2
 }
 
 fn say_frame(k: Kind, o: &[u8]) {

@@ -31,27 +31,27 @@ const PLAN_SET: Field = Field::Octet(1, 48);
 
 const PLAN: Field = Field::Octet(0, 48);
 
-const COUNT: Field = Field::Octet(K_FEWEST as u16, K_MOST as u16);
+pub const COUNT: Field = Field::Octet(K_FEWEST as u16, K_MOST as u16);
 
-const MINIMUM: Field = Field::Octet(5, 254);
+pub const MINIMUM: Field = Field::Octet(5, 254);
 
-const MAXIMUM: Field = Field::Two(5, 900);
+pub const MAXIMUM: Field = Field::Two(5, 900);
 
-const YELLOW: Field = Field::Octet(3, 9);
+pub const YELLOW: Field = Field::Octet(3, 9);
 
-const ALL_RED: Field = Field::Octet(1, 9);
+pub const ALL_RED: Field = Field::Octet(1, 9);
 
-const WALK_FLASH: Field = Field::Octet(0, 90);
+pub const WALK_FLASH: Field = Field::Octet(0, 90);
 
-const RED_MAN: Field = Field::Octet(0, 9);
+pub const RED_MAN: Field = Field::Octet(0, 9);
 
-const DIRECT: Field = Field::Octet(0, 7);
+pub const DIRECT: Field = Field::Octet(0, 7);
 
 const ORDER: Field = Field::Order;
 
 const GREEN: Field = Field::Two(1, 900);
 
-const CYCLE: Field = Field::Two(1, 900);
+pub const CYCLE: Field = Field::Two(1, 900);
 
 const OFFSET: Field = Field::Two(0, 899);
 
@@ -284,7 +284,7 @@ pub(crate) fn size(l: usize, k: usize) -> usize
 }
 
 // Is the value in its field's range?
-fn passes(f: Field, v: u16) -> bool
+pub fn passes(f: Field, v: u16) -> bool
     ensures { λ r. ⌜ r ≡ passes f v ⌝ }
 {
     match f {

@@ -1,5 +1,5 @@
 // 01, "Messages": every code of its table, read and written by one reader and one writer over layouts.
-mod layout;
+pub mod layout;
 pub mod reader;
 pub mod writer;
 
@@ -25,11 +25,6 @@ pub const QUERY_TIMES: u16 = 0x5F44;
 pub const QUERY_PLAN: u16 = 0x5F45;
 
 pub const QUERY_RUNNING: u16 = 0x5F48;
-
-// The layouts of a record's parts, by number: "the 7k octets of 5F 14", and "direct, order, 2k green octets, cycle, offset".
-pub const STORED_TIMES: usize = 12;
-
-pub const STORED_PLAN: usize = 13;
 
 // The most fields that a message has: 5F 14 and 5F C4 with eight phases.
 pub const FIELDS_MOST: usize = 50;

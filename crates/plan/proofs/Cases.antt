@@ -25,7 +25,7 @@ pub plan-cases : PlanCases
 unfolding firstOf find directory diagramOf layouts layoutAt known numberOf rowsAt rowsOf zeros placed firstOut noMessage refusedAs partOf rangedOf readPartOf readOf timesDisagree planDisagree ranged timesStand planStands readyStands allZero standingOf padded notMade timesRecord readyRecord timesField timesMade readyMade keptAs frontOf setOf answers dueAnswers stands dueStands
 plan-cases = (refl, refl)
 
-built-in-stands : standingOf builtIn ≡ ready
+pub built-in-stands : standingOf builtIn ≡ ready
 unfolding firstOf find directory diagramOf layouts layoutAt known rowsAt rowsOf zeros placed firstOut noMessage refusedAs partOf rangedOf readPartOf timesDisagree planDisagree ranged timesStand planStands readyStands allZero standingOf padded builtIn
 built-in-stands = refl
 

@@ -3,21 +3,19 @@ use Prim.Native.Nat.{ℕ, zero, suc, _+_, _*_, _-_, _≤_, _<_}
 use mathlib.Core.Path.{_≡_, refl, sym, ap, _∙_}
 use mathlib.Core.Bool.{Bool, true, false, not}
 use mathlib.Core.List.{List, [], _∷_}
+use native.Mathlib.Numerals.{add-one}
 use native.Mathlib.Omega.{arith}
 use borrow.Author.Tests.{eq-eqb, ne-eqb, le-leb, lt-leb, eqb-true, leb-true}
 use lib.Dec.{eqb, leb}
 use lib.ListN.{length, take, drop, getD, drop-of-length-le, length-drop}
-use lib.Seq.{length-take-le}
+use lib.Seq.{length-take-le, drop-cons}
 use Rattle.octets.specs.Choice.{pick, both}
 use Rattle.octets.specs.Octet.{Octets}
 use Rattle.octets.specs.Refusal as refusal
-use Rattle.octets.proofs.Laws.{drop-next}
+use Rattle.octets.proofs.Laws.{both-left, both-right, clash, drop-next}
 use Rattle.diagram.specs.Table.{phasesOf}
-use Rattle.message.specs.declared.Read.{Read}
-use Rattle.message.specs.Layouts.{storedTimes, storedPlan}
-use Rattle.message.specs.Reader.{readPartOf}
 use Rattle.plan.specs.Record.{recordLen, plansMost, bookLen, empty, timesSet, ready, stateOf, kOf, timesEnd, readyEnd, orderOf, cycleOf, offsetOf, sumOf}
-use Rattle.plan.specs.Standing.{headLen, between, greenFails, planFails, ranged, timesStand, timesDisagree, planStands, planDisagree, readyStands, allZero, standingOf}
+use Rattle.plan.specs.Standing.{greenFails, planFails, timesStand, planStands, readyStands, allZero, every, standingOf}
 use Rattle.plan.specs.BuiltIn.{padded, builtIn}
 use Rattle.plan.specs.Reading.{startOf, recordAt, same, readRefusal}
 
@@ -46,6 +44,16 @@ module _ (rec : List ℕ) (c : ℕ) {k : ℕ} (ek : k ≡ kOf rec) where
   pub fails-offset : k < c → (c ≡ k + 1 → ⊥) → {a b : ℕ} → a ≡ cycleOf rec → b ≡ offsetOf rec → leb a b ≡ planFails rec c
   fails-offset l n ea eb = let z : c ≡ 0 → ⊥ = λ z. omega arith in rw (ne-eqb c 0 z, ea, eb, ← ek, lt-leb c k l, ne-eqb c (k + 1) n)
 
+-- Every octet is looked at: what was found so far, and what the rest says
+
+pub both-none : (a : Bool) → both a false ≡ false
+both-none true = refl
+both-none false = refl
+
+pub both-all : (a : Bool) → both a true ≡ a
+both-all true = refl
+both-all false = refl
+
 -- The rest of a record
 
 module _ (rec : List ℕ) (i : ℕ) where
@@ -61,40 +69,24 @@ module _ (rec : List ℕ) (i : ℕ) where
   unfolding allZero
   zero-ends h = rw (drop-of-length-le rec h)
 
+-- All checks
+
+module _ (bs : List Bool) (i : ℕ) where
+  pub every-stops : i < length bs → getD bs i false ≡ false → false ≡ every (drop i bs)
+  unfolding every
+  every-stops h e = rw (drop-cons bs i false h, e)
+
+  pub every-goes : i < length bs → getD bs i false ≡ true → every (drop (i + 1) bs) ≡ every (drop i bs)
+  unfolding every
+  every-goes h e = rw (add-one i, drop-cons bs i false h, e)
+
+  pub every-ends : length bs ≤ i → true ≡ every (drop i bs)
+  unfolding every
+  every-ends h = rw (drop-of-length-le bs h)
+
 -- The parts of a record
 
-module _ (layout from end : ℕ) (rec : List ℕ) where
-  pub ranged-short : length rec < end → false ≡ ranged layout from end rec
-  unfolding ranged
-  ranged-short h = rw (lt-leb end (length rec) h)
-
-  pub ranged-read : end ≤ length rec → {k : ℕ} → k ≡ kOf rec → {r : Read} → r ≡ readPartOf layout k (between from end rec)
-      → eqb (r .refusal) refusal.none ≡ ranged layout from end rec
-  unfolding ranged
-  ranged-read h ek e = rw (le-leb end (length rec) h, e, ek)
-
 module _ (rec : List ℕ) where
-  module _ {end : ℕ} {t : Bool} (ee : end ≡ timesEnd rec) (et : t ≡ ranged storedTimes headLen end rec) where
-    pub times-out : t ≡ false → false ≡ timesStand rec
-    unfolding timesStand
-    times-out f = rw (← (et ∙ ap (λ (e : ℕ). ranged storedTimes headLen e rec) ee), f)
-
-    pub times-judged : t ≡ true → {n : ℕ} → n ≡ timesDisagree rec → eqb n 0 ≡ timesStand rec
-    unfolding timesStand
-    times-judged f e = rw (← (et ∙ ap (λ (e : ℕ). ranged storedTimes headLen e rec) ee), f, e)
-
-  module _ {from end : ℕ} {t : Bool} (ef : from ≡ timesEnd rec) (ee : end ≡ readyEnd rec) (et : t ≡ ranged storedPlan from end rec) where
-    here : t ≡ ranged storedPlan (timesEnd rec) (readyEnd rec) rec
-    here = et ∙ (ap (λ (f : ℕ). ranged storedPlan f end rec) ef ∙ ap (λ (e : ℕ). ranged storedPlan (timesEnd rec) e rec) ee)
-
-    pub plan-out : t ≡ false → false ≡ planStands rec
-    unfolding planStands
-    plan-out f = rw (← here, f)
-
-    pub plan-judged : t ≡ true → {n : ℕ} → n ≡ planDisagree rec → eqb n 0 ≡ planStands rec
-    unfolding planStands
-    plan-judged f e = rw (← here, f, e)
-
   module _ {t : Bool} (et : t ≡ planStands rec) where
     pub ready-out : t ≡ false → false ≡ readyStands rec
     unfolding readyStands
@@ -146,6 +138,27 @@ module _ (xs ys : List ℕ) (i : ℕ) (hx : i < length xs) (hy : i < length ys) 
 pub same-ends : (xs ys : List ℕ) (i : ℕ) → length xs ≤ i → length ys ≤ i → true ≡ same (drop i xs) (drop i ys)
 unfolding same
 same-ends xs ys i hx hy = rw (drop-of-length-le xs hx, drop-of-length-le ys hy)
+
+-- octets are the same exactly where they are equal
+pub same-is : (xs ys : List ℕ) → same xs ys ≡ true → xs ≡ ys
+unfolding same
+same-is [] [] h = refl
+same-is [] (y ∷ ys) h = absurd (clash refl h)
+same-is (x ∷ xs) [] h = absurd (clash refl h)
+same-is (x ∷ xs) (y ∷ ys) h =
+    ap (λ (z : ℕ). z ∷ xs) (eqb-true x y (both-left (eqb x y) (same xs ys) h)) ∙ ap (λ (zs : List ℕ). y ∷ zs) (same-is xs ys (both-right (eqb x y) (same xs ys) h))
+
+pub is-same : (xs : List ℕ) → same xs xs ≡ true
+unfolding same
+is-same [] = refl
+is-same (x ∷ xs) = rw (eq-eqb x x refl) (is-same xs)
+
+pub same-not : (xs ys : List ℕ) → (length xs ≡ length ys → ⊥) → false ≡ same xs ys
+same-not xs ys n = by (same xs ys) refl
+  where
+    by : (t : Bool) → same xs ys ≡ t → false ≡ t
+    by true e = absurd (n (ap length (same-is xs ys e)))
+    by false e = refl
 
 pub length-built-in : length builtIn ≡ recordLen
 unfolding builtIn padded

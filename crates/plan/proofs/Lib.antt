@@ -1,6 +1,7 @@
 pub mod Laws
 pub mod Fields
 pub mod Stands
+pub mod Judging
 pub mod Sets
 pub mod Storing
 pub mod Readying
@@ -8,4 +9,5 @@ pub mod Reports
 pub mod Cases
 pub mod Keeping
 pub mod Telling
+pub mod Reportable
 pub mod Only

@@ -26,6 +26,7 @@ use Rattle.plan.proofs.record.cycle.Reads as cycle
 use Rattle.plan.proofs.record.offset.Reads as offset
 use Rattle.plan.proofs.standing.standing.Reads as standing
 use Rattle.plan.proofs.book.built_in.Reads as built-in
+use Rattle.plan.proofs.book.is_built_in.Reads as is-built-in
 use Rattle.plan.proofs.reporting.report_times.Reads as report-times
 use Rattle.plan.proofs.reporting.report_plan.Reads as report-plan
 use Rattle.plan.proofs.setting.set_times.Reads as set-times
@@ -79,6 +80,9 @@ only-standing κs a r s x y p q = p ∙ sym q
 
 only-built-in : (κs : _) (a : _) (r s : _) (x y : _) → built-in.Post κs a r x → built-in.Post κs a s y → r ≡ s
 only-built-in κs a r s x y p q = p ∙ sym q
+
+only-is-built-in : (κs : _) (a : _) (r s : _) (x y : _) → is-built-in.Post κs a r x → is-built-in.Post κs a s y → r ≡ s
+only-is-built-in κs a r s x y p q = p ∙ sym q
 
 only-report-times : (κs : _) (a : _) (r s : _) (x y : _) → report-times.Post κs a r x → report-times.Post κs a s y → r ≡ s
 only-report-times κs a r s x y p q = p ∙ sym q

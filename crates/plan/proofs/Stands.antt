@@ -21,7 +21,7 @@ use Rattle.message.specs.Fields.{valueOf}
 use Rattle.message.specs.Layouts.{layouts, layoutAt, rowsAt, rowsOf, repeated, times, greens, cycleOffset, storedTimes, storedPlan}
 use Rattle.message.specs.Values.{sizeOf}
 use Rattle.message.specs.Reader.{readPartOf}
-use Rattle.message.specs.Promises.{Known}
+use Rattle.message.specs.Promises.{Known, InRange}
 use Rattle.message.proofs.Search.{search-first}
 use Rattle.plan.specs.Record.{recordLen, empty, timesSet, ready, stateOf, kOf, timesAt, timesEnd, readyEnd, greensAt, minimumOf, maximumOf, walkFlashOf, redManOf, directOf, orderOf, greenOf, cycleOf, offsetOf, sumOf, Within, TimesFit, AllTimesFit, ZeroFrom, GreensFit, TimesSet, Ready}
 use Rattle.plan.specs.Standing.{headLen, between, timesFail, timesChecks, timesDisagree, greenFails, planFails, planChecks, planDisagree, ranged, timesStand, planStands, readyStands, allZero, standingOf, Stands, StandsAsItIs}
@@ -129,6 +129,9 @@ module _ (rec : List ℕ) where
 pub both-true : {a b : Bool} → a ≡ true → b ≡ true → both a b ≡ true
 both-true e f = rw (e, f)
 
+pub part-long : (from end : ℕ) (rec : List ℕ) → from ≤ end → end ≤ length rec → length (between from end rec) ≡ end - from
+part-long from end rec h l = length-take-le (end - from) (drop from rec) (simp length-drop (omega arith))
+
 module _ (layout from end : ℕ) (rec : List ℕ) where
   part-read : ranged layout from end rec ≡ true → Read1 layout (kOf rec) (between from end rec)
   unfolding ranged
@@ -142,9 +145,6 @@ module _ (layout from end : ℕ) (rec : List ℕ) where
       let n = readPartOf layout (kOf rec) (between from end rec) .refusal in
       both-true (le-leb end (length rec) l) (eq-eqb n refusal.none (pass-read kn h))
 
-  part-long : from ≤ end → end ≤ length rec → length (between from end rec) ≡ end - from
-  part-long h l = length-take-le (end - from) (drop from rec) (simp length-drop (omega arith))
-
 module _ (rec : List ℕ) where
   abbrev k : ℕ
   k = kOf rec
@@ -156,17 +156,23 @@ module _ (rec : List ℕ) where
   unfolding rowsAt rowsOf layoutAt layouts
   times-size = omega (arith, size-append (repeated k times) [], size-repeated times k)
 
+  times-read : timesStand rec ≡ true → Read1 storedTimes k (between headLen (timesEnd rec) rec)
+  unfolding timesStand
+  times-read h = part-read storedTimes headLen (timesEnd rec) rec (both-left (ranged storedTimes headLen (timesEnd rec) rec) (eqb (timesDisagree rec) 0) h)
+
+  -- each field passes in the record itself
+  pub times-pass : timesStand rec ≡ true → Pass (repeated k times ++ []) (drop 2 rec)
+  unfolding rowsAt rowsOf layoutAt layouts
+  times-pass h = pass-whole (repeated k times ++ []) (timesEnd rec - 2) (drop 2 rec) (omega (arith, times-size)) (times-read h .pass)
+
   pub times-fit : timesStand rec ≡ true → AllTimesFit rec
-  unfolding timesStand rowsAt rowsOf layoutAt layouts
+  unfolding timesStand layoutAt layouts
   times-fit h =
-      let a = both-left (ranged storedTimes headLen (timesEnd rec) rec) (eqb (timesDisagree rec) 0) h in
       let d = eqb-true (timesDisagree rec) 0 (both-right (ranged storedTimes headLen (timesEnd rec) rec) (eqb (timesDisagree rec) 0) h) in
-      let r = part-read storedTimes headLen (timesEnd rec) rec a in
-      let p = pass-whole (repeated k times ++ []) (timesEnd rec - 2) (drop 2 rec) (omega (arith, times-size)) (r .pass) in
+      let p = pass-repeated times [] k (drop 2 rec) (times-pass h) .0 in
       record {
-        count = record { least = r .right .fewest; most = r .right .most };
-        phases = λ i l.
-            phase-in rec i (subst (Pass times) (phases-at i) (pass-repeated times [] k (drop 2 rec) p .0 i l)) (times-ordered rec d i l) (times-walk rec d i l);
+        count = record { least = times-read h .right .fewest; most = times-read h .right .most };
+        phases = λ i l. phase-in rec i (subst (Pass times) (phases-at i) (p i l)) (times-ordered rec d i l) (times-walk rec d i l);
       }
 
   pub fit-times : length rec ≡ recordLen → AllTimesFit rec → timesStand rec ≡ true
@@ -178,7 +184,7 @@ module _ (rec : List ℕ) where
       both-true
       (read-part storedTimes headLen (timesEnd rec) rec (record { first = omega arith; last = omega arith }) l
       (record {
-        right = record { fewest = f .count .least; most = f .count .most; octets = part-long storedTimes headLen (timesEnd rec) rec (omega arith) l ∙ omega (arith, times-size) };
+        right = record { fewest = f .count .least; most = f .count .most; octets = part-long headLen (timesEnd rec) rec (omega arith) l ∙ omega (arith, times-size) };
         pass = pass-part (repeated k times ++ []) (timesEnd rec - 2) (drop 2 rec) (omega (arith, times-size)) p;
       }))
       (eq-eqb (timesDisagree rec) 0 (agree-times rec (λ i h. f .phases i h .ordered) (λ i h. f .phases i h .walk)))
@@ -200,16 +206,23 @@ module _ (rec : List ℕ) where
       let e : timesEnd rec + 1 + 1 ≡ greensAt rec = omega arith in
       ap (drop 1) (drop-drop 1 (timesEnd rec) rec) ∙ (drop-drop 1 (timesEnd rec + 1) rec ∙ ap (λ (n : ℕ). drop n rec) e)
 
-  pub plan-fits : planStands rec ≡ true → GreensFit rec
+  -- each field passes at its place in the record
+  pub plan-pass : planStands rec ≡ true
+      → InRange field.direct (directOf rec) × InRange field.order (orderOf rec) × Pass (repeated k greens ++ cycleOffset) (drop (greensAt rec) rec)
   unfolding planStands rowsAt rowsOf layoutAt layouts
-  plan-fits h =
-      let a = both-left (ranged storedPlan (timesEnd rec) (readyEnd rec) rec) (eqb (planDisagree rec) 0) h in
-      let d = plan-agrees rec (eqb-true (planDisagree rec) 0 (both-right (ranged storedPlan (timesEnd rec) (readyEnd rec) rec) (eqb (planDisagree rec) 0) h)) in
-      let r = part-read storedPlan (timesEnd rec) (readyEnd rec) rec a in
+  plan-pass h =
+      let r = part-read storedPlan (timesEnd rec) (readyEnd rec) rec (both-left (ranged storedPlan (timesEnd rec) (readyEnd rec) rec) (eqb (planDisagree rec) 0) h) in
       let p = pass-whole planRows (readyEnd rec - timesEnd rec) (drop (timesEnd rec) rec) (omega (arith, plan-size)) (r .pass) in
-      let g = greens-in rec (greensAt rec) k (subst (Pass (repeated k greens ++ cycleOffset)) greens-at (p .1 .1)) in
+      (subst (InRange field.direct) direct-at (p .0), subst (InRange field.order) order-at (p .1 .0), subst (Pass (repeated k greens ++ cycleOffset)) greens-at (p .1 .1))
+
+  pub plan-fits : planStands rec ≡ true → GreensFit rec
+  unfolding planStands
+  plan-fits h =
+      let d = plan-agrees rec (eqb-true (planDisagree rec) 0 (both-right (ranged storedPlan (timesEnd rec) (readyEnd rec) rec) (eqb (planDisagree rec) 0) h)) in
+      let p = plan-pass h in
+      let g = greens-in rec (greensAt rec) k (p .2) in
       record {
-        direct = within direct-at (p .0);
+        direct = within refl (p .0);
         count = d .count;
         green = d .green;
         cycle = d .cycle;
@@ -217,11 +230,10 @@ module _ (rec : List ℕ) where
         offset = d .offset;
       }
 
-  pub fits-plan : length rec ≡ recordLen → Octets rec → AllTimesFit rec → GreensFit rec → planStands rec ≡ true
+  pub fits-plan : length rec ≡ recordLen → orderOf rec < 256 → AllTimesFit rec → GreensFit rec → planStands rec ≡ true
   unfolding planStands rowsAt rowsOf layoutAt layouts
-  fits-plan e o t f =
+  fits-plan e at-order t f =
       let l : readyEnd rec ≤ length rec = omega (arith, t .count .most) in
-      let at-order : orderOf rec < 256 = octet-below rec (timesEnd rec + 1) o in
       let some : 1 ≤ phasesOf (orderOf rec) = omega (arith, t .count .least, f .count) in
       let p : Pass planRows (drop (timesEnd rec) rec) = (
         inside direct-at (f .direct),
@@ -240,7 +252,7 @@ module _ (rec : List ℕ) where
       both-true
       (read-part storedPlan (timesEnd rec) (readyEnd rec) rec (record { first = omega arith; last = omega arith }) l
       (record {
-        right = record { fewest = t .count .least; most = t .count .most; octets = part-long storedPlan (timesEnd rec) (readyEnd rec) rec (omega arith) l ∙ omega (arith, plan-size) };
+        right = record { fewest = t .count .least; most = t .count .most; octets = part-long (timesEnd rec) (readyEnd rec) rec (omega arith) l ∙ omega (arith, plan-size) };
         pass = pass-part planRows (readyEnd rec - timesEnd rec) (drop (timesEnd rec) rec) (omega (arith, plan-size)) p;
       }))
       (eq-eqb (planDisagree rec) 0 (agrees-plan rec (record { count = f .count; green = f .green; cycle = f .cycle; offset = f .offset })))
@@ -272,6 +284,11 @@ module _ (rec : List ℕ) (at : ℕ) where
 
 standAs : Bool → Bool → Bool → Bool → Bool → ℕ
 standAs a b c d e = pick a (pick b (pick c timesSet empty) (pick d (pick e ready empty) empty)) empty
+
+as-some : (a b c d e : Bool) → (standAs a b c d e ≡ empty → ⊥) → a ≡ true
+unfolding standAs
+as-some true b c d e n = refl
+as-some false b c d e n = absurd (n refl)
 
 as-ready : (a b c d e : Bool) → standAs a b c d e ≡ ready → (a ≡ true) × (d ≡ true) × (e ≡ true)
 unfolding standAs
@@ -322,16 +339,32 @@ module _ (rec : List ℕ) where
   is : length rec ≡ recordLen → AllTimesFit rec → a ≡ true
   is e f = both-true (eq-eqb (length rec) recordLen e) (fit-times rec e f)
 
+  -- what is not empty
+  module _ (n : standingOf rec ≡ empty → ⊥) where
+    some : a ≡ true
+    unfolding standingOf standAs
+    some = as-some a b c d (readyStands rec) n
+
+    pub some-long : length rec ≡ recordLen
+    some-long = long some
+
+    pub some-times : timesStand rec ≡ true
+    some-times = both-right (eqb (length rec) recordLen) (timesStand rec) some
+
+  -- what is ready
+  pub ready-plan : standingOf rec ≡ ready → planStands rec ≡ true
+  unfolding standingOf standAs readyStands
+  ready-plan h = both-left (planStands rec) (allZero (drop (readyEnd rec) rec)) (as-ready a b c d (readyStands rec) h .2)
+
   ready-from : standingOf rec ≡ ready → Ready rec
   unfolding standingOf standAs readyStands
   ready-from h =
       let s = as-ready a b c d (readyStands rec) h in
-      let p = both-left (planStands rec) (allZero (drop (readyEnd rec) rec)) (s .2) in
       record {
         long = long (s .0);
         state = eqb-true (stateOf rec) ready (s .1);
         times = fit (s .0);
-        greens = plan-fits rec p;
+        greens = plan-fits rec (ready-plan h);
         rest = rest-zero rec (readyEnd rec) (long (s .0)) (both-right (planStands rec) (allZero (drop (readyEnd rec) rec)) (s .2));
       }
 
@@ -343,7 +376,7 @@ module _ (rec : List ℕ) where
         is (r .long) (r .times),
         ne-eqb (stateOf rec) timesSet n,
         eq-eqb (stateOf rec) ready (r .state),
-        fits-plan rec (r .long) o (r .times) (r .greens),
+        fits-plan rec (r .long) (octet-below rec (timesEnd rec + 1) o) (r .times) (r .greens),
         zero-rest rec (readyEnd rec) (r .rest),
       )
 
@@ -365,6 +398,14 @@ module _ (rec : List ℕ) where
   most : standingOf rec ≤ ready
   unfolding standingOf standAs
   most = as-most a b c d (readyStands rec)
+
+  -- what is not empty stands as its state says
+  pub some-state : (standingOf rec ≡ empty → ⊥) → stateOf rec ≡ standingOf rec
+  some-state n = by (ℕ-discrete (standingOf rec) ready)
+    where
+      by : Dec (standingOf rec ≡ ready) → stateOf rec ≡ standingOf rec
+      by (yes e) = ready-from e .state ∙ sym e
+      by (no z) = let e : standingOf rec ≡ timesSet = omega (arith, most) in times-from e .state ∙ sym e
 
 pub stands-as-it-is : StandsAsItIs
 stands-as-it-is rec o =

@@ -10,9 +10,10 @@ use Rattle.diagram.specs.Table.{phasesOf}
 use Rattle.message.specs.declared.Message.{Message}
 use Rattle.message.specs.Names.{planAt, maximumAt, redManAt, planCountAt, greenAt, cycleAt, offsetAt}
 use Rattle.message.specs.Reader.{codeIn, bodyIn, readOf}
-use Rattle.plan.specs.Record.{recordLen, bookLen, plansMost, octetAt, wordAt, kOf, minimumOf, maximumOf, yellowOf, allRedOf, walkFlashOf, redManOf, directOf, orderOf, greenOf, cycleOf, offsetOf, Within, AllTimesFit, Empty, TimesSet, Ready}
+use Rattle.plan.specs.Record.{recordLen, bookLen, plansMost, empty, ready, octetAt, wordAt, kOf, minimumOf, maximumOf, yellowOf, allRedOf, walkFlashOf, redManOf, directOf, orderOf, greenOf, cycleOf, offsetOf, Within, AllTimesFit, Empty, TimesSet, Ready}
+use Rattle.plan.specs.Standing.{standingOf}
 use Rattle.plan.specs.Reading.{recordAt, readRefusal}
-use Rattle.plan.specs.Reporting.{reportTimesCode, reportPlanCode, reportRunningCode, reportTimesOf, reportPlanOf}
+use Rattle.plan.specs.Reporting.{reportTimesCode, reportPlanCode, reportRunningCode, timesInfo, planInfo, reportTimesOf, reportPlanOf}
 use Rattle.plan.specs.Setting.{planIn, countIn, setTimesCode, setPlanCode, setTimesOf, setPlanOf}
 
 -- The checks of a message
@@ -222,3 +223,13 @@ PlanReported =
     (book info : List ℕ) (code : ℕ) → length book ≡ bookLen → Octets book → codeIn info ≡ setPlanCode → Fit15 (recordAt book (planIn (bodyIn info))) (bodyIn info)
     → (code ≡ reportPlanCode) ⊎ (code ≡ reportRunningCode)
     → Reports (reportPlanOf (recordAt (setPlanOf book info .book) (planIn (bodyIn info))) (planIn (bodyIn info)) code) code (readOf info .message)
+
+-- the reader reads the report's octets, nothing refused, and the report is the message that it reads
+pub record ReportRead (rec : List ℕ) (p : ℕ) : Type 0 where
+  pub times : (standingOf rec ≡ empty → ⊥) → (readOf (timesInfo rec p) .refusal ≡ refusal.none) × (reportTimesOf rec p ≡ readOf (timesInfo rec p) .message)
+  pub plan : (code : ℕ) → standingOf rec ≡ ready → (code ≡ reportPlanCode) ⊎ (code ≡ reportRunningCode)
+      → (readOf (planInfo rec p code) .refusal ≡ refusal.none) × (reportPlanOf rec p code ≡ readOf (planInfo rec p code) .message)
+
+-- Every plan that is not empty has a 5F C4, every ready one a 5F C5 and a 5F C8: the report's octets are read as a message, nothing refused.
+abbrev pub ReportsRead : Type 0
+ReportsRead = (rec : List ℕ) (p : ℕ) → p ≤ plansMost → ReportRead rec p

@@ -125,11 +125,15 @@ pub record AllTimesFit (rec : List ℕ) : Type 0 where
 abbrev pub ZeroFrom : List ℕ → ℕ → Type 0
 ZeroFrom rec at = drop at rec ≡ replicate (recordLen - at) 0
 
+-- "each green within its phase's bounds"
+abbrev pub GreensWithin : List ℕ → Type 0
+GreensWithin rec = (i : ℕ) → i < kOf rec → Within (minimumOf rec i) (greenOf rec i) (maximumOf rec i)
+
 -- direct, order, greens, cycle and offset: the ranges of 5F 15 and its agreement with the times and with the diagram
 pub record GreensFit (rec : List ℕ) : Type 0 where
   pub direct : Within 0 (directOf rec) 7
   pub count : kOf rec ≡ phasesOf (orderOf rec)
-  pub green : (i : ℕ) → i < kOf rec → Within (minimumOf rec i) (greenOf rec i) (maximumOf rec i)
+  pub green : GreensWithin rec
   pub cycle : cycleOf rec ≡ sumOf rec (kOf rec)
   pub most : cycleOf rec ≤ 900
   pub offset : offsetOf rec < cycleOf rec

@@ -45,14 +45,16 @@ pub(crate) fn start(plan: u8) -> usize
 pub fn read_plan<'a>(book: &'a [u8], own: &'a [u8], plan: u8, why: &mut u8) -> &'a [u8]
     ensures { λ r. ⌜ PlanRead (book .entry) (own .entry) plan r (now (why .exit)) ⌝ }
 {
-    *why = read_refusal(book, own, plan);
-    part_read(book, own, plan)
+    let n = read_refusal(book, own, plan);
+    *why = n;
+    part_read(book, own, plan, n)
 }
 
-fn part_read<'a>(book: &'a [u8], own: &'a [u8], plan: u8) -> &'a [u8]
+fn part_read<'a>(book: &'a [u8], own: &'a [u8], plan: u8, n: u8) -> &'a [u8]
+    requires { ⌜ n ≡ readRefusal (now book) (now own) plan ⌝ }
     ensures { λ r. ⌜ PartRead (book .entry) (own .entry) plan r ⌝ }
 {
-    if read_refusal(book, own, plan) != refusal::NONE {
+    if n != refusal::NONE {
         return &own[0..0];
     }
     if plan == 0 {
@@ -97,15 +99,27 @@ pub(crate) fn standing_of(book: &[u8], plan: u8) -> u8
     standing::standing(&book[at..end])
 }
 
-fn is_built_in(own: &[u8]) -> bool
+// Are the octets the built-in record?
+pub fn is_built_in(rec: &[u8]) -> bool
+    ensures { λ r. ⌜ r ≡ same (now (rec .entry)) builtIn ⌝ }
+{
+    if rec.len() != RECORD_LEN {
+        return false;
+    }
+    matches(rec)
+}
+
+// Every octet is compared, also past the first that differs: so the compiler compares many at once.
+fn matches(own: &[u8]) -> bool
     requires { ⌜ length (now own) ≡ recordLen ⌝ }
     ensures { λ r. ⌜ r ≡ same (now (own .entry)) builtIn ⌝ }
 {
     let rec = built_in();
+    let mut alike = true;
     for i in 0..RECORD_LEN {
         if own[i] != rec[i] {
-            return false;
+            alike = false;
         }
     }
-    true
+    alike
 }

@@ -1,12 +1,12 @@
 // 01, "Plan book": how a record stands. "Octets that are not such a record, checks included, read as empty."
 ghost use mathlib.Core.Path.{_≡_};
-ghost use Prim.Native.Nat.{_+_, _*_, _<_, _≤_};
-ghost use lib.ListN.{drop};
+ghost use Prim.Native.Nat.{_<_};
+ghost use lib.ListN.{length, drop};
 ghost use Rattle.octets.specs.Choice.{pick};
-ghost use Rattle.plan.specs.Record.{kOf, sumOf, phaseSeconds, empty};
-ghost use Rattle.plan.specs.Standing.{timesFail, timesDisagree, greenFails, planFails, planDisagree, ranged, timesStand, planStands, readyStands, allZero, standingOf};
+ghost use Rattle.plan.specs.Record.{recordLen, kOf, sumOf, phaseSeconds, empty, TimesFit, AllTimesFit, GreensWithin};
+ghost use Rattle.plan.specs.Standing.{timesFail, timesDisagree, greenFails, planFails, planDisagree, timesStand, planStands, readyStands, allZero, every, Tells, standingOf};
 use crate::record;
-use octets::refusal;
+use message::layout;
 
 // The states of a record; octets that are none read as empty.
 pub const EMPTY: u8 = 0;
@@ -43,6 +43,7 @@ fn stands_if(ok: bool, state: u8) -> u8
 
 // "if ready direct, order, 2k green octets, cycle, offset; the rest zero"
 fn ready_stands(rec: &[u8]) -> bool
+    requires { ⌜ (length (now rec) ≡ recordLen) × AllTimesFit (now rec) ⌝ }
     ensures { λ r. ⌜ r ≡ readyStands (now (rec .entry)) ⌝ }
 {
     if !plan_stands(rec) {
@@ -51,61 +52,98 @@ fn ready_stands(rec: &[u8]) -> bool
     zero_from(rec, record::ready_end(rec))
 }
 
-// "the rest zero"
+// "the rest zero". Every octet is looked at, as in `book::matches`.
 fn zero_from(rec: &[u8], at: usize) -> bool
     ensures { λ r. ⌜ r ≡ allZero (drop at (now (rec .entry))) ⌝ }
 {
+    let mut zero = true;
     let mut i = at;
     while i < rec.len() {
         if rec[i] != 0 {
-            return false;
+            zero = false;
         }
         i += 1;
+    }
+    zero
+}
+
+// "k, the 7k octets of 5F 14": in their ranges, and in agreement
+fn times_stand(rec: &[u8]) -> bool
+    requires { ⌜ length (now rec) ≡ recordLen ⌝ }
+    ensures { λ r. ⌜ r ≡ timesStand (now (rec .entry)) ⌝ }
+{
+    let k = record::count(rec);
+    if !layout::passes(layout::COUNT, k as u16) {
+        return false;
+    }
+    for i in 0..k {
+        if !phase_stands(rec, i) {
+            return false;
+        }
     }
     true
 }
 
-// "the 7k octets of 5F 14": in their ranges, and in agreement
-fn times_stand(rec: &[u8]) -> bool
-    ensures { λ r. ⌜ r ≡ timesStand (now (rec .entry)) ⌝ }
+fn phase_stands(rec: &[u8], i: u8) -> bool
+    ensures { λ r. ⌜ Tells r (TimesFit (now (rec .entry)) i) ⌝ }
 {
-    if !ranged(
-        message::STORED_TIMES,
-        rec,
-        record::HEAD_LEN,
-        record::times_end(rec),
-    ) {
-        return false;
-    }
-    times_disagree(rec) == 0
+    let minimum = record::minimum(rec, i) as u16;
+    let maximum = record::maximum(rec, i);
+    let flash = record::walk_flash(rec, i) as u16;
+    let man = record::red_man(rec, i) as u16;
+    let checks = [
+        layout::passes(layout::MINIMUM, minimum),
+        layout::passes(layout::MAXIMUM, maximum),
+        layout::passes(layout::YELLOW, record::yellow(rec, i) as u16),
+        layout::passes(layout::ALL_RED, record::all_red(rec, i) as u16),
+        layout::passes(layout::WALK_FLASH, flash),
+        layout::passes(layout::RED_MAN, man),
+        minimum <= maximum,
+        flash + man < minimum,
+    ];
+    every(&checks)
 }
 
-// "direct, order, 2k green octets, cycle, offset": in their ranges, and in agreement
+// "direct, order, 2k green octets, cycle, offset": in their ranges, and in agreement. The order has phases, a green is within its
+// phase's bounds and the offset below the cycle, so these are in their ranges too.
 fn plan_stands(rec: &[u8]) -> bool
+    requires { ⌜ (length (now rec) ≡ recordLen) × AllTimesFit (now rec) ⌝ }
     ensures { λ r. ⌜ r ≡ planStands (now (rec .entry)) ⌝ }
 {
-    if !ranged(
-        message::STORED_PLAN,
-        rec,
-        record::times_end(rec),
-        record::ready_end(rec),
-    ) {
-        return false;
-    }
-    plan_disagree(rec) == 0
+    let cycle = record::cycle(rec);
+    let checks = [
+        layout::passes(layout::DIRECT, record::direct(rec) as u16),
+        record::count(rec) == diagram::phases(record::order(rec)),
+        greens_stand(rec),
+        layout::passes(layout::CYCLE, cycle),
+        cycle as u32 == sum(rec),
+        record::offset(rec) < cycle,
+    ];
+    every(&checks)
 }
 
-// Is each field of the part in its range? The message layer's search says it.
-fn ranged(layout: usize, rec: &[u8], from: usize, end: usize) -> bool
-    requires { ⌜ from ≤ end ⌝ }
-    ensures { λ r. ⌜ r ≡ ranged layout from end (now (rec .entry)) ⌝ }
+// "each green within its phase's bounds"
+fn greens_stand(rec: &[u8]) -> bool
+    ensures { λ r. ⌜ Tells r (GreensWithin (now (rec .entry))) ⌝ }
 {
-    if rec.len() < end {
-        return false;
-    }
     let k = record::count(rec);
-    let r = message::reader::read_part(layout, k as usize, &rec[from..end]);
-    r.refusal == refusal::NONE
+    for i in 0..k {
+        if green_fails(rec, i) {
+            return false;
+        }
+    }
+    true
+}
+
+fn every(checks: &[bool]) -> bool
+    ensures { λ r. ⌜ r ≡ every (now (checks .entry)) ⌝ }
+{
+    for i in 0..checks.len() {
+        if !checks[i] {
+            return false;
+        }
+    }
+    true
 }
 
 // The first check of the times that fails, from 1; 0 where none does.

@@ -1,15 +1,16 @@
 -- `cases::case` is safe and ends: each turn goes on to the next tab.
 use Prim.Native.Nat.{_-_, _≤_}
+use mathlib.Core.Path.{_≡_}
 use borrow.Author.Needs.{needs}
 use lib.ListN.{length}
 use Rattle.cases.proofs.case.Statement.{statement}
 use Rattle.cases.proofs.case.Tie as tie
 
 abbrev Inv-loop : tie.InvT-loop
-Inv-loop s out₀ c₀ end₀ t6 out c end = end ≤ length s
+Inv-loop s out₀ book₀ c₀ p₀ end₀ t8 out book c p end = (end ≤ length s) × (length out ≡ 544) × (length book ≡ 3841)
 
 abbrev μ-loop : tie.MeasureT-loop
-μ-loop s out₀ c₀ end₀ t6 out c end = length s - end
+μ-loop s out₀ book₀ c₀ p₀ end₀ t8 out book c p end = length s - end
 
 pub case-spec : {M : Type 1} → statement M
 case-spec =
@@ -21,9 +22,17 @@ case-spec =
     (λ c κs. search needs)
     (λ c κs. search needs)
     (λ c κs. search needs)
+    (λ c κs. search needs)
     (λ c. search needs)
     (λ c. search needs)
     (λ c κs. search needs)
+    (λ c. search needs)
+    (λ c. search needs)
+    (λ c. search needs)
+    (λ c. search needs)
+    (λ c κs. search needs)
+    (λ c. search needs)
+    (λ c. search needs)
     (λ c. search needs)
     (λ c. search needs)
     (λ c. search needs)

@@ -1,8 +1,9 @@
 -- `plan::standing::standing` meets its contract: one law for each way.
-use mathlib.Core.Path.{_∙_}
+use mathlib.Core.Path.{sym, _∙_}
 use borrow.Author.Needs.{needs}
 use borrow.Author.Tests.{not-true, not-false}
 use Rattle.plan.proofs.Laws.{stands-long, stands-not, stands-times, stands-ready, stands-else}
+use Rattle.plan.proofs.Stands.{times-fit}
 use Rattle.plan.proofs.standing.standing.Statement.{statement}
 use Rattle.plan.proofs.standing.standing.Tie as tie
 
@@ -24,6 +25,14 @@ returns-3 c =
     (c .before .before .before .if3 .taken)
     (c .before .before .times-end .ensures)
     (c .before .zero-from .ensures)
+
+ready-stands-requires : tie.Need-ready-stands-requires
+ready-stands-requires c κs =
+    let o = c .before .before in
+    let d = o .before .before in (
+      d .before .if1 .left,
+      times-fit (d .before .before .before .args .rec .now) (sym (d .times-stand .ensures) ∙ not-false (d .times-stand .result) (o .before .if2 .left)),
+    )
 
 returns-4 : tie.Need-returns-4
 returns-4 c =
@@ -56,7 +65,7 @@ standing-spec =
     (λ c κs. search needs)
     (λ c κs. search needs)
     returns-3
-    (λ c κs. search needs)
+    ready-stands-requires
     (λ c κs. search needs)
     returns-4
     returns-5)

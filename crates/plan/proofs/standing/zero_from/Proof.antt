@@ -1,31 +1,35 @@
--- `plan::standing::zero_from` meets its contract: what is left is all zero exactly where the whole is.
-use Prim.Native.Nat.{_≤_, _-_}
-use mathlib.Core.Path.{_≡_, refl, _∙_}
+-- `plan::standing::zero_from` meets its contract: the octets so far and what is left are all zero exactly where the whole is.
+use Prim.Native.Nat.{_-_}
+use mathlib.Core.Path.{_≡_, refl, sym, ap, _∙_}
+use mathlib.Core.Logic.{⊎-elim}
 use borrow.Author.Needs.{needs}
 use lib.ListN.{length, drop}
+use Rattle.octets.specs.Choice.{both}
 use Rattle.plan.specs.Standing.{allZero}
-use Rattle.plan.proofs.Laws.{zero-stops, zero-goes, zero-ends}
+use Rattle.plan.proofs.Laws.{both-none, both-all, zero-stops, zero-goes, zero-ends}
 use Rattle.plan.proofs.standing.zero_from.Statement.{statement}
 use Rattle.plan.proofs.standing.zero_from.Tie as tie
 
 abbrev Inv-loop : tie.InvT-loop
-Inv-loop rec at i₀ i = allZero (drop i rec) ≡ allZero (drop at rec)
+Inv-loop rec at zero₀ i₀ zero i = both zero (allZero (drop i rec)) ≡ allZero (drop at rec)
 
 abbrev μ-loop : tie.MeasureT-loop
-μ-loop rec at i₀ i = length rec - i
-
-returns : tie.Need-returns Inv-loop μ-loop
-returns c =
-    let v = c .before .before .before .loop in
-    zero-stops (c .before .before .before .before .args .rec .now) (v .i) (search needs) (c .if1 .taken) ∙ v .inv
+μ-loop rec at zero₀ i₀ zero i = length rec - i
 
 loop-again : tie.Need-loop-again Inv-loop μ-loop
 loop-again c =
-    let v = c .before .before .before .loop in
-    zero-goes (c .before .before .before .before .args .rec .now) (v .i) (search needs) (c .if1 .left) ∙ v .inv
+    let d = c .before .before .before in
+    let v = d .loop in
+    let rec = d .before .args .rec .now in
+    ⊎-elim
+    (λ w. rw (w .1) (sym (both-none (v .zero)) ∙ (ap (both (v .zero)) (zero-stops rec (v .i) (search needs) (w .0 .taken)) ∙ v .inv)))
+    (λ w. rw (w .1, zero-goes rec (v .i) (search needs) (w .0 .left)) (v .inv))
+    (c .if1 .came)
 
-returns-2 : tie.Need-returns-2 Inv-loop μ-loop
-returns-2 c = let v = c .before .loop in zero-ends (c .before .before .args .rec .now) (v .i) (search needs) ∙ v .inv
+returns : tie.Need-returns Inv-loop μ-loop
+returns c =
+    let v = c .before .loop in
+    sym (both-all (v .zero)) ∙ (ap (both (v .zero)) (zero-ends (c .before .before .args .rec .now) (v .i) (search needs)) ∙ v .inv)
 
 pub zero-from-spec : {M : Type 1} → statement M
 zero-from-spec =
@@ -35,8 +39,7 @@ zero-from-spec =
     μ-loop
     (λ c. refl)
     (λ c. search needs)
-    returns
     (λ c. search needs)
     (λ c. search needs)
     loop-again
-    returns-2)
+    returns)

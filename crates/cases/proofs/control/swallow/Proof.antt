@@ -1,0 +1,29 @@
+-- `cases::control::swallow` is safe and ends: it stays within the octets given.
+use Prim.Native.Nat.{_-_, _≤_}
+use mathlib.Core.Path.{_≡_}
+use borrow.Author.Needs.{needs}
+use lib.ListN.{length}
+use Rattle.cases.proofs.control.swallow.Statement.{statement}
+use Rattle.cases.proofs.control.swallow.Tie as tie
+
+abbrev Inv-loop : tie.InvT-loop
+Inv-loop o book₀ out₀ t₀ i₀ i-end book out t i = (i ≤ length o) × (length book ≡ length book₀) × (length out ≡ length out₀)
+
+abbrev μ-loop : tie.MeasureT-loop
+μ-loop o book₀ out₀ t₀ i₀ i-end book out t i = length o - i
+
+pub swallow-spec : {M : Type 1} → statement M
+swallow-spec =
+    tie.close
+    (tie.spec
+    Inv-loop
+    μ-loop
+    (λ c. search needs)
+    (λ c. search needs)
+    (λ c κs. search needs)
+    (λ c. search needs)
+    (λ c. search needs)
+    (λ c. search needs)
+    (λ c. search needs)
+    (λ c. search needs)
+    (λ c. search needs))

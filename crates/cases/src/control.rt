@@ -1,0 +1,225 @@
+// The controller's calls made aloud: what was handed in, and what came back.
+ghost use Prim.Native.Nat.{_≤_};
+use crate::say;
+use crate::script;
+use controller::Event;
+use controller::OUTPUT_LEN;
+use controller::State;
+use frame::writer;
+use lamps::Row;
+use octets::refusal;
+use plan::record::BOOK_LEN;
+
+// The controller's own address at first.
+const OWN: u16 = 0x0001;
+
+// How often a message is sent before SEQ comes round.
+const SILENT: usize = 255;
+
+// The controller's state, and how much of book and output it is lent.
+pub(crate) struct Post {
+    state: State,
+    book: usize,
+    output: usize,
+}
+
+pub(crate) fn start() -> Post {
+    let f = controller::fresh(OWN);
+    let state = f.state;
+    Post {
+        state,
+        book: BOOK_LEN,
+        output: OUTPUT_LEN,
+    }
+}
+
+pub(crate) fn done(p: Post, word: u8, o: &[u8], book: &mut [u8], out: &mut [u8]) -> Post {
+    if word == b'l' {
+        return lent(p, o);
+    }
+    let b = least(p.book, book.len());
+    let n = least(p.output, out.len());
+    let s = p.state;
+    let state = called(s, word, o, &mut book[..b], &mut out[..n]);
+    Post { state, ..p }
+}
+
+// Book and output are from now on so long, two octets each.
+fn lent(p: Post, o: &[u8]) -> Post {
+    let book = octets::word(script::at(o, 0), script::at(o, 1));
+    let output = octets::word(script::at(o, 2), script::at(o, 3));
+    say::text(b"\tlent a book of ");
+    say::decimal(book as usize);
+    say::text(b" and an output of ");
+    say::decimal(output as usize);
+    Post {
+        book: book as usize,
+        output: output as usize,
+        ..p
+    }
+}
+
+fn least(a: usize, b: usize) -> usize
+    ensures { λ r. ⌜ (r ≤ a) × (r ≤ b) ⌝ }
+{
+    if a < b { a } else { b }
+}
+
+fn called(s: State, word: u8, o: &[u8], book: &mut [u8], out: &mut [u8]) -> State {
+    let own = s.own;
+    match word {
+        b'f' => fresh(octets::word(script::at(o, 0), script::at(o, 1))),
+        b't' => taken(s, o, book, out),
+        b's' => send(s, own, o, book, out),
+        b'b' => send(s, controller::ALL, o, book, out),
+        b'k' => keep(s, o, book, out),
+        b'w' => wait(s, o.len(), book),
+        b'q' => line_idle(s),
+        _ => s,
+    }
+}
+
+// A fresh start with this own address.
+fn fresh(own: u16) -> State {
+    say::text(b"\tfresh ");
+    say::octets(&[octets::high(own), octets::low(own)]);
+    let f = controller::fresh(own);
+    if f.refusal != refusal::NONE {
+        say::call_refused(f.refusal);
+    }
+    f.state
+}
+
+fn taken(s: State, o: &[u8], book: &mut [u8], out: &mut [u8]) -> State {
+    say::text(b"\ttake ");
+    say::octets(o);
+    take(s, o, book, out)
+}
+
+// Hands the octets over one by one.
+fn take(s: State, o: &[u8], book: &mut [u8], out: &mut [u8]) -> State {
+    let mut t = s;
+    for i in 0..o.len() {
+        let b = o[i];
+        t = octet(t, b, i + 1, &mut *book, &mut *out);
+    }
+    t
+}
+
+// A message frame to this address: the octets given are its SEQ and its INFO.
+fn send(s: State, addr: u16, o: &[u8], book: &mut [u8], out: &mut [u8]) -> State {
+    let mut frame = [0u8; OUTPUT_LEN];
+    say::text(b"\tsend ");
+    say::octets(&[octets::high(addr), octets::low(addr)]);
+    say::text(b": ");
+    say::octets(o);
+    let w = writer::write_message(script::at(o, 0), addr, script::rest(o, 1), &mut frame, 0);
+    take(s, script::first(&frame, w.count), book, out)
+}
+
+// The same message frame 255 times, in silence, and once more.
+fn keep(s: State, o: &[u8], book: &mut [u8], out: &mut [u8]) -> State {
+    let mut frame = [0u8; OUTPUT_LEN];
+    let own = s.own;
+    let w = writer::write_message(script::at(o, 0), own, script::rest(o, 1), &mut frame, 0);
+    let mut t = s;
+    for _ in 0..SILENT {
+        t = swallow(t, script::first(&frame, w.count), &mut *book, &mut *out);
+    }
+    say::text(b"\t255 times in silence, then");
+    send(t, own, o, book, out)
+}
+
+fn swallow(s: State, o: &[u8], book: &mut [u8], out: &mut [u8]) -> State {
+    let mut t = s;
+    for i in 0..o.len() {
+        let a = controller::octet(t, &mut *book, &mut *out, o[i]);
+        t = a.state;
+    }
+    t
+}
+
+// The octet call with octet b, which is number n of those given.
+fn octet(s: State, b: u8, n: usize, book: &mut [u8], out: &mut [u8]) -> State {
+    let a = controller::octet(s, book, &mut *out, b);
+    if a.refusal != refusal::NONE {
+        say_refusal(n, a.refusal, a.parameter);
+    }
+    let e = a.event;
+    say_event(e);
+    if a.count != 0 {
+        say::text(b"\treply ");
+        say::octets(script::first(out, a.count));
+    }
+    a.state
+}
+
+fn say_refusal(n: usize, r: u8, parameter: u8) {
+    say::text(b"\toctet ");
+    say::decimal(n);
+    say::text(b": refusal ");
+    say::decimal(r as usize);
+    if parameter != 0 {
+        say::text(b", parameter ");
+        say::decimal(parameter as usize);
+    }
+}
+
+fn say_event(e: Event) {
+    match e {
+        Event::Nothing => {}
+        Event::Ack(seq) => {
+            say::text(b"\tevent ACK ");
+            say::octets(&[seq]);
+        }
+        Event::Nak(seq, err) => {
+            say::text(b"\tevent NAK ");
+            say::octets(&[seq, err]);
+        }
+    }
+}
+
+fn line_idle(s: State) -> State {
+    say::text(b"\tline-idle call");
+    let a = controller::line_idle(s);
+    if a.refusal != refusal::NONE {
+        say::call_refused(a.refusal);
+    }
+    a.state
+}
+
+// So many seconds; what the last of them shows is said.
+fn wait(s: State, n: usize, book: &[u8]) -> State {
+    say::text(b"\twait ");
+    say::decimal(n);
+    let mut t = s;
+    for i in 0..n {
+        t = second(t, i + 1 == n, book);
+    }
+    t
+}
+
+fn second(s: State, last: bool, book: &[u8]) -> State {
+    let w = controller::second(s, book);
+    if last {
+        if w.refusal == refusal::NONE {
+            say_second(w.plan, w.row);
+        } else {
+            say::call_refused(w.refusal);
+        }
+    }
+    w.state
+}
+
+fn say_second(plan: u8, row: Row) {
+    say::text(b": plan ");
+    say::decimal(plan as usize);
+    say::text(b", step ");
+    say::decimal(row.step as usize);
+    say::text(b", left ");
+    say::decimal(row.left as usize);
+    say::text(b", ");
+    say::word(row.steady);
+    say::text(b" ");
+    say::word(row.flashing);
+}

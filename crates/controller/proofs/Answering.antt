@@ -1,0 +1,343 @@
+-- Demand 1, but that soundness is kept: which states are sound, what each call refuses, and what is left alone.
+use Prim.Native.Nat.{ℕ, _≤_, _<_}
+use mathlib.Core.Path.{_≡_, refl, sym, ap, subst, _∙_}
+use mathlib.Core.Bool.{Bool, true, false}
+use mathlib.Core.Logic.{_⊎_, inl, inr}
+use mathlib.Core.List.{List, [], _++_}
+use native.Mathlib.Decide.{decLt, ℕ-discrete}
+use native.Mathlib.Nat.{zero-add}
+use native.Mathlib.Omega.{arith}
+use borrow.Author.Tests.{eq-eqb, ne-eqb}
+use lib.Dec.{eqb}
+use lib.ListN.{length, take, drop}
+use lib.Seq.{sets, sets-eq, length-sets, take-at, drop-at}
+use Rattle.octets.specs.Choice.{pick}
+use Rattle.octets.specs.Refusal as refusal
+use Rattle.octets.proofs.Laws.{pick-by}
+use Rattle.frame.specs.declared.Kind.{Kind}
+use Rattle.frame.specs.declared.Kind.the-variants.{Message, Ack, Nak}
+use Rattle.frame.specs.declared.decoder.Found.{Found}
+use Rattle.frame.specs.declared.decoder.Found.the-variants as found
+use Rattle.frame.specs.Frame.{Frame}
+use Rattle.frame.specs.Decoder.{takenOf}
+use Rattle.frame.proofs.Laws.{idled-done}
+use Rattle.message.specs.declared.Read.{Read}
+use Rattle.message.specs.Reader as reader
+use Rattle.message.specs.Names.{planAt}
+use Rattle.message.specs.Reader.{codeIn, bodyIn, readOf}
+use Rattle.message.specs.Writer.{infoOf}
+use Rattle.message.specs.Promises.{Judged, short, body, unknown, wrongLength, outOfRange, accepted}
+use Rattle.message.proofs.ReadSo.{read-so}
+use Rattle.plan.specs.declared.setting.Answered.{Answered}
+use Rattle.plan.specs.Record.{bookLen, empty, kOf}
+use Rattle.plan.specs.Standing.{timesDisagree, planDisagree, standingOf, Stands}
+use Rattle.plan.specs.Reading.{recordAt}
+use Rattle.plan.specs.Setting.{Setting, setTimesCode, setPlanCode, planIn, countIn, notMade, readyRecord, timesMade, readyMade, keptAs, frontOf, setOf, setTimesOf, setPlanOf}
+use Rattle.plan.proofs.Stands.{stands-as-it-is}
+use Rattle.controller.specs.declared.Running.{Running}
+use Rattle.controller.specs.declared.State.{State}
+use Rattle.controller.specs.declared.Event.{Event}
+use Rattle.controller.specs.declared.Event.the-variants as event
+use Rattle.controller.specs.declared.handling.Handled.{Handled}
+use Rattle.controller.specs.State.{all, outputLen, planRecord, readyIn, freshOf, soundOf, withDecoder}
+use Rattle.controller.specs.Handling as handling
+use Rattle.controller.specs.Handling.{Handling, setAs, unlessUnread, runAs, queryTimesAs, queryPlanAs, queryRunningAs, handlingOf}
+use Rattle.controller.specs.Calls.{Call, sent, callOf, refusedCall, errOf, naks, acks, forUs, isAnswer, repliesOf, repliedOf, messageOf, eventFor, broughtOf, doneOf, startedOf, octetOf, secondOf, noSecond}
+use Rattle.controller.specs.Demand1.{Sound, SoundAsItIs, OctetRefused, InDone, OctetsAnswered, SecondRefused, SecondsAnswered, IdlesAnswered, StartsAnswered, RefusedLeavesBook, OutputsLeft}
+use Rattle.controller.proofs.Laws.{octet-7, octet-8, octet-9, octet-done, idle-7, idle-done, second-7, second-8, second-done}
+use Rattle.controller.proofs.Judging.{RunningParts, SoundParts, sound-parts, parts-sound}
+use Rattle.controller.proofs.Keeping.{fresh-sound}
+use Rattle.controller.proofs.Replying.{CanBring, can-bring, handling-by, reply-fits, nak-fits, ack-fits, sent-most}
+
+-- Which states are sound
+
+pub sound-as-it-is : SoundAsItIs
+sound-as-it-is s o = record { from = λ h. from (sound-parts s h); to = λ h. parts-sound s (to h) }
+  where
+    stands : Stands (s .running .copy)
+    stands = stands-as-it-is (s .running .copy) o
+
+    from : SoundParts s → Sound s
+    from p =
+        let u = p .running in
+        record {
+          own = p .own;
+          requested = p .requested;
+          decoder = p .decoder;
+          running = record { position = u .position; plan = u .plan; checks = stands .readyFrom (u .checks); zero = u .zero };
+        }
+
+    to : Sound s → SoundParts s
+    to p =
+        let u = p .running in
+        record {
+          own = p .own;
+          requested = p .requested;
+          decoder = p .decoder;
+          running = record { position = u .position; plan = u .plan; checks = stands .readyTo (u .checks); zero = u .zero };
+        }
+
+-- The fresh start
+
+pub starts-answered : StartsAnswered
+unfolding startedOf soundOf freshOf
+starts-answered own =
+    record {
+      state = refl;
+      refused = λ e. (rw (eq-eqb own all e), rw (eq-eqb own all e));
+      done = λ n. (rw (ne-eqb own all n), fresh-sound own n);
+    }
+
+-- The line-idle call
+
+pub idles-answered : IdlesAnswered
+idles-answered s =
+    record {
+      refused = idle-7 s;
+      done = λ h. rw (idle-done s h);
+      idle = λ h. rw (idle-done s h, idled-done (s .decoder) (sound-parts s h .decoder));
+      rest = λ h. rw (idle-done s h);
+    }
+
+-- The second call
+
+pub seconds-answered : SecondsAnswered
+seconds-answered s book = record { refused = λ n r. refused r; done = λ h n. rw (second-done s book h n); either = by (soundOf s) refl (ℕ-discrete (length book) bookLen) }
+  where
+    refused : {n : ℕ} → SecondRefused s book n → secondOf s book ≡ noSecond s n
+    refused (SecondRefused.unsound h) = second-7 s book h
+    refused (SecondRefused.book h n) = second-8 s book h n
+
+    by : (t : Bool) → soundOf s ≡ t → Dec (length book ≡ bookLen) → ((n : ℕ) × SecondRefused s book n) ⊎ ((soundOf s ≡ true) × (length book ≡ bookLen))
+    by false h d = inl (refusal.stateUnsound, SecondRefused.unsound h)
+    by true h (no n) = inl (refusal.bookWrong, SecondRefused.book h n)
+    by true h (yes e) = inr (h, e)
+
+-- What a message may be refused by
+
+pub read-in-done : (info : List ℕ) → InDone (readOf info .refusal)
+unfolding reader.refusedAs
+read-in-done info = by (read-so info (readOf info) .1 refl)
+  where
+    by : {r : Read} → Judged info r → InDone (r .refusal)
+    by (short h) = inr (omega arith, omega arith)
+    by (body h (unknown n)) = inr (omega arith, omega arith)
+    by (body h (wrongLength kn n)) = inr (omega arith, omega arith)
+    by (body h (outOfRange n kn r w)) = inr (omega arith, omega arith)
+    by (body h (accepted kn r a)) = inl (omega arith)
+
+-- a set answers by its front, or by what is made, and one that is refused leaves the book
+module _ (code : ℕ) (m : _) (book info : List ℕ) {w : Setting} (e : w ≡ setOf code m book info) where
+  set-in-done : length book ≡ bookLen → InDone (m .refusal) → InDone (w .answer .refusal)
+  unfolding setOf frontOf keptAs
+  set-in-done hb h =
+      rw e
+      (pick-by (λ (w : Setting). InDone (w .answer .refusal)) (eqb (frontOf (length book) code info .refusal) refusal.none)
+      (λ _. pick-by (λ (w : Setting). InDone (w .answer .refusal)) (eqb (m .refusal) refusal.none) (λ _. inl (omega arith)) (λ _. h))
+      (λ _. rw (eq-eqb (length book) bookLen hb)
+      (pick-by (λ (a : Answered). InDone (a .refusal)) (eqb (readOf info .refusal) refusal.none)
+      (λ _. pick-by (λ (a : Answered). InDone (a .refusal)) (eqb (codeIn info) code) (λ _. inl (omega arith)) (λ _. inr (omega arith, omega arith)))
+      (λ _. read-in-done info))))
+
+  set-refused-leaves : (w .answer .refusal ≡ refusal.none → ⊥) → w .book ≡ book
+  unfolding setOf keptAs
+  set-refused-leaves =
+      let P : Setting → Type 0 = λ w. (w .answer .refusal ≡ refusal.none → ⊥) → w .book ≡ book in
+      subst P (sym e)
+      (pick-by P (eqb (frontOf (length book) code info .refusal) refusal.none)
+      (λ _. pick-by P (eqb (m .refusal) refusal.none) (λ _ n. absurd (n refl)) (λ _ _. refl))
+      (λ _ _. refl))
+
+times-in-done : (os : List ℕ) → InDone (timesMade os .refusal)
+unfolding timesMade notMade
+times-in-done os = by (eqb (timesDisagree os) 0) refl
+  where
+    by : (t : Bool) → eqb (timesDisagree os) 0 ≡ t → InDone (timesMade os .refusal)
+    by true e = rw e (inl (omega arith))
+    by false e = rw e (inr (omega arith, omega arith))
+
+ready-in-done : (old os : List ℕ) → InDone (readyMade old os .refusal)
+unfolding readyMade notMade
+ready-in-done old os = by (eqb (standingOf old) empty) refl (eqb (countIn os) (kOf old)) refl (eqb (planDisagree (readyRecord old os)) 0) refl
+  where
+    by : (a : Bool) → eqb (standingOf old) empty ≡ a → (b : Bool) → eqb (countIn os) (kOf old) ≡ b → (c : Bool) → eqb (planDisagree (readyRecord old os)) 0 ≡ c
+        → InDone (readyMade old os .refusal)
+    by true e b f c g = rw e (inr (omega arith, omega arith))
+    by false e false f c g = rw (e, f) (inr (omega arith, omega arith))
+    by false e true f false g = rw (e, f, g) (inr (omega arith, omega arith))
+    by false e true f true g = rw (e, f, g) (inl (omega arith))
+
+module _ (u : Running) (requested : ℕ) (book info : List ℕ) where
+  abbrev code : ℕ
+  code = codeIn info
+
+  abbrev p : ℕ
+  p = planIn (bodyIn info)
+
+  as-in-done : (a : Answered) → InDone (a .refusal) → InDone (setAs code requested a .refusal)
+  unfolding setAs
+  as-in-done a h = pick-by (λ (h : Handled). InDone (h .refusal)) (eqb (a .refusal) refusal.none) (λ _. inl (omega arith)) (λ _. h)
+
+  as-leaves : (a : Answered) → (setAs code requested a .refusal ≡ refusal.none → ⊥) → a .refusal ≡ refusal.none → ⊥
+  unfolding setAs
+  as-leaves a n e = n (rw (eq-eqb (a .refusal) refusal.none e))
+
+  read-or-done : (h : Handled) → InDone (h .refusal) → InDone (unlessUnread code requested info h .refusal)
+  read-or-done h d = pick-by (λ (h : Handled). InDone (h .refusal)) (eqb (readOf info .refusal) refusal.none) (λ _. d) (λ _. read-in-done info)
+
+  -- of what holds or is refused 13
+  or-not-ready : (t : Bool) (h : Handled) → InDone (h .refusal) → InDone (pick t h (handling.refusedAs code requested refusal.notReady planAt) .refusal)
+  or-not-ready true h d = d
+  or-not-ready false h d = inr (omega arith, omega arith)
+
+  pub handled-in-done : length book ≡ bookLen → InDone (handlingOf u requested book info .handled .refusal)
+  unfolding runAs queryTimesAs queryPlanAs queryRunningAs
+  handled-in-done hb =
+      handling-by (λ h. InDone (h .handled .refusal)) u requested book info
+      (as-in-done (setTimesOf book info .answer) (set-in-done setTimesCode (timesMade (bodyIn info)) book info refl hb (times-in-done (bodyIn info))))
+      (as-in-done (setPlanOf book info .answer) (set-in-done setPlanCode (readyMade (recordAt book p) (bodyIn info)) book info refl hb (ready-in-done (recordAt book p) (bodyIn info))))
+      (read-or-done _ (or-not-ready (readyIn book p) _ (inl (omega arith))))
+      (read-or-done _
+      (pick-by (λ (h : Handled). InDone (h .refusal)) (eqb (standingOf (planRecord book p)) empty) (λ _. inr (omega arith, omega arith)) (λ _. inl (omega arith))))
+      (read-or-done _ (or-not-ready (readyIn book p) _ (inl (omega arith))))
+      (read-or-done _ (inl (omega arith)))
+      (inr (omega arith, omega arith))
+
+  pub handled-leaves : (handlingOf u requested book info .handled .refusal ≡ refusal.none → ⊥) → handlingOf u requested book info .book ≡ book
+  handled-leaves =
+      handling-by (λ h. (h .handled .refusal ≡ refusal.none → ⊥) → h .book ≡ book) u requested book info
+      (λ n. set-refused-leaves setTimesCode (timesMade (bodyIn info)) book info refl (as-leaves (setTimesOf book info .answer) n))
+      (λ n. set-refused-leaves setPlanCode (readyMade (recordAt book p) (bodyIn info)) book info refl (as-leaves (setPlanOf book info .answer) n))
+      (λ _. refl) (λ _. refl) (λ _. refl) (λ _. refl) (λ _. refl)
+
+-- The octet call
+
+-- a call that leaves the state t and what a message brought
+abbrev handledCall : State → Handling → List Frame → List ℕ → Call
+handledCall t h fs out = callOf t (h .handled .refusal) (h .handled .parameter) event.Nothing fs (h .book) out
+
+-- what a call that is done comes to: a frame refused or dropped, an ACK, an event; or a message handled
+data Done (u : Running) (requested : ℕ) (book out : List ℕ) : Call → Type 0 where
+  told : (t : State) (n : ℕ) (e : Event) (fs : List Frame) → n ≤ refusal.lenWrong → length (sent fs) ≤ outputLen → Done u requested book out (callOf t n 0 e fs book out)
+  handled : (t : State) (info : List ℕ) (fs : List Frame) → length (sent fs) ≤ outputLen
+      → Done u requested book out (handledCall t (handlingOf u requested book info) fs out)
+
+abbrev FramesFit : List Frame → Type 0
+FramesFit fs = length (sent fs) ≤ outputLen
+
+none-fit : FramesFit []
+none-fit = omega arith
+
+naks-fit : (k : Kind) (own n seq addr : ℕ) → FramesFit (naks k own n seq addr)
+naks-fit Message own n seq addr = pick-by FramesFit (eqb addr own) (λ _. nak-fits seq own (errOf n)) (λ _. none-fit)
+naks-fit Ack own n seq addr = none-fit
+naks-fit Nak own n seq addr = none-fit
+
+acks-fit : (own seq addr : ℕ) → FramesFit (acks own seq addr)
+acks-fit own seq addr = pick-by FramesFit (eqb addr own) (λ _. ack-fits seq own) (λ _. none-fit)
+
+module _ (s : State) (book out : List ℕ) (u : RunningParts (s .running)) (hb : length book ≡ bookLen) where
+  abbrev D : Call → Type 0
+  D = Done (s .running) (s .requested) book out
+
+  message-done : (seq addr : ℕ) (info : List ℕ) → D (messageOf s seq addr info book out)
+  unfolding messageOf repliedOf
+  message-done seq addr info =
+      let reply = infoOf (handlingOf (s .running) (s .requested) book info .handled .reply) in
+      pick-by D (forUs (s .own) addr)
+      (λ _. pick-by D (isAnswer (codeIn info)) (λ _. told s refusal.none event.Nothing (acks (s .own) seq addr) (omega arith) (acks-fit (s .own) seq addr))
+      (λ _. pick-by D (eqb addr (s .own))
+      (λ _. handled _ info (repliesOf seq (s .seq) (s .own) reply) (sent-most seq (s .seq) (s .own) reply (reply-fits (s .running) (s .requested) book info (u .checks) (u .plan) hb)))
+      (λ _. handled _ info [] none-fit)))
+      (λ _. told s refusal.none event.Nothing [] (omega arith) none-fit)
+
+  brought-done : (f : Found) → CanBring f → D (broughtOf f s book out)
+  brought-done found.Nothing c = told s refusal.none event.Nothing [] (omega arith) none-fit
+  brought-done (found.Refused n k seq addr) c = told s n event.Nothing (naks k (s .own) n seq addr) c (naks-fit k (s .own) n seq addr)
+  brought-done (found.Message seq addr n) c = message-done seq addr (take n (s .decoder .info))
+  brought-done (found.Ack seq addr) c = told s refusal.none (eventFor (s .own) addr (event.Ack seq)) [] (omega arith) none-fit
+  brought-done (found.Nak seq addr err) c = told s refusal.none (eventFor (s .own) addr (event.Nak seq err)) [] (omega arith) none-fit
+
+octet-is-done : (s : State) (book out : List ℕ) (b : ℕ) → soundOf s ≡ true → length book ≡ bookLen → outputLen ≤ length out
+    → Done (s .running) (s .requested) book out (octetOf s book out b)
+unfolding doneOf
+octet-is-done s book out b h hb ho =
+    let p = sound-parts s h in
+    let t = takenOf (s .decoder) b in
+    rw (octet-done s book out b h hb ho) (brought-done (withDecoder s (t .decoder)) book out (p .running) hb (t .found) (can-bring (s .decoder) b (p .decoder)))
+
+pub octets-answered : OctetsAnswered
+octets-answered s book out b =
+    record {
+      refused = λ n r. refused r;
+      done = λ h hb ho. in-done hb (octet-is-done s book out b h hb ho);
+      either = by (soundOf s) refl (ℕ-discrete (length book) bookLen) (decLt (length out) outputLen);
+    }
+  where
+    refused : {n : ℕ} → OctetRefused s book out n → octetOf s book out b ≡ refusedCall s n book out
+    refused (OctetRefused.unsound h) = octet-7 s book out b h
+    refused (OctetRefused.book h n) = octet-8 s book out b h n
+    refused (OctetRefused.output h e l) = octet-9 s book out b h e l
+
+    in-done : length book ≡ bookLen → {w : Call} → Done (s .running) (s .requested) book out w → InDone (w .answer .refusal)
+    in-done hb (told t n e fs l f) = inl l
+    in-done hb (handled t info fs f) = handled-in-done (s .running) (s .requested) book info hb
+
+    by : (t : Bool) → soundOf s ≡ t → Dec (length book ≡ bookLen) → Dec (length out < outputLen)
+        → ((n : ℕ) × OctetRefused s book out n) ⊎ ((soundOf s ≡ true) × (length book ≡ bookLen) × (outputLen ≤ length out))
+    by false h d d′ = inl (refusal.stateUnsound, OctetRefused.unsound h)
+    by true h (no n) d′ = inl (refusal.bookWrong, OctetRefused.book h n)
+    by true h (yes e) (yes l) = inl (refusal.outputShort, OctetRefused.output h e l)
+    by true h (yes e) (no g) = inr (h, e, omega arith)
+
+-- what holds of every refused call and of every call that is done holds of every octet call
+octet-by : (P : Call → Type 0) (s : State) (book out : List ℕ) (b : ℕ) → ((n : ℕ) → P (refusedCall s n book out))
+    → (outputLen ≤ length out → (w : Call) → Done (s .running) (s .requested) book out w → P w) → P (octetOf s book out b)
+octet-by P s book out b r d = by (octets-answered s book out b .either)
+  where
+    by : ((n : ℕ) × OctetRefused s book out n) ⊎ ((soundOf s ≡ true) × (length book ≡ bookLen) × (outputLen ≤ length out)) → P (octetOf s book out b)
+    by (inl x) = rw (octets-answered s book out b .refused (x .0) (x .1)) (r (x .0))
+    by (inr x) = d (x .2) (octetOf s book out b) (octet-is-done s book out b (x .0) (x .1) (x .2))
+
+-- What is left alone
+
+pub refused-leaves-book : RefusedLeavesBook
+refused-leaves-book s book out b = octet-by (λ w. (w .answer .refusal ≡ refusal.none → ⊥) → w .book ≡ book) s book out b (λ n _. refl) (λ _ w d. leaves d)
+  where
+    leaves : {w : Call} → Done (s .running) (s .requested) book out w → (w .answer .refusal ≡ refusal.none → ⊥) → w .book ≡ book
+    leaves (told t n e fs l f) h = refl
+    leaves (handled t info fs f) h = handled-leaves (s .running) (s .requested) book info h
+
+-- the frames stand at the front of the output, and the rest of it stays
+module _ (vs out : List ℕ) (h : length vs ≤ length out) where
+  pub written-front : sets out 0 vs ≡ vs ++ drop (length vs) out
+  written-front = sets-eq vs out 0 (omega arith) ∙ ap (λ (n : ℕ). vs ++ drop n out) (zero-add (length vs))
+
+  pub written-take : take (length vs) (sets out 0 vs) ≡ vs
+  written-take = rw written-front (take-at vs (drop (length vs) out) (length vs) refl)
+
+  pub written-drop : drop (length vs) (sets out 0 vs) ≡ drop (length vs) out
+  written-drop = rw written-front (drop-at vs (drop (length vs) out) (length vs) refl)
+
+record Leaves (out : List ℕ) (w : Call) : Type 0 where
+  beyond : drop (w .answer .count) (w .out) ≡ drop (w .answer .count) out
+  long : length (w .out) ≡ length out
+  within : w .answer .count ≤ length out
+  most : w .answer .count ≤ outputLen
+
+pub outputs-left : OutputsLeft
+outputs-left s book out b =
+    let l = octet-by (Leaves out) s book out b (λ n. none) (λ ho w d. leaves ho d) in
+    record { beyond = l .beyond; long = l .long; within = l .within; most = l .most }
+  where
+    none : {t : State} {n m : ℕ} {e : Event} {book : List ℕ} → Leaves out (callOf t n m e [] book out)
+    none = record { beyond = refl; long = refl; within = omega arith; most = omega arith }
+
+    some : {t : State} {n m : ℕ} {e : Event} {book : List ℕ} (fs : List Frame) → FramesFit fs → outputLen ≤ length out → Leaves out (callOf t n m e fs book out)
+    some fs f ho =
+        let h : length (sent fs) ≤ length out = omega arith in
+        record { beyond = written-drop (sent fs) out h; long = length-sets out 0 (sent fs); within = h; most = f }
+
+    leaves : outputLen ≤ length out → {w : Call} → Done (s .running) (s .requested) book out w → Leaves out w
+    leaves ho (told t n e fs l f) = some fs f ho
+    leaves ho (handled t info fs f) = some fs f ho

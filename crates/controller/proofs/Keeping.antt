@@ -1,0 +1,303 @@
+-- What each call leaves of the state, and that a sound state stays sound.
+use Prim.Native.Nat.{ℕ, _+_, _≤_, _<_}
+use mathlib.Core.Path.{_≡_, refl, sym, _∙_}
+use mathlib.Core.Bool.{Bool, true, false}
+use mathlib.Core.List.{List}
+use native.Mathlib.Decide.{decLt}
+use native.Mathlib.Omega.{arith}
+use borrow.Author.Tests.{eq-eqb, ne-eqb, eqb-true, eqb-false, leb-true}
+use lib.Dec.{eqb, leb}
+use lib.ListN.{length, take}
+use Rattle.octets.specs.Choice.{pick, both}
+use Rattle.octets.specs.Refusal as refusal
+use Rattle.octets.proofs.Laws.{pick-by, clash}
+use Rattle.frame.specs.declared.decoder.Decoder.{Decoder}
+use Rattle.frame.specs.declared.decoder.Found.{Found}
+use Rattle.frame.specs.declared.decoder.Found.the-variants as found
+use Rattle.frame.specs.declared.decoder.Taken.{Taken}
+use Rattle.frame.specs.Frame.{message, ack, nak}
+use Rattle.frame.specs.Decoder.{takenOf, idledOf}
+use Rattle.frame.specs.Run.{Outcome, nothing, refused, sound, told, outcomeOf}
+use Rattle.frame.proofs.Possible.{possible-kept}
+use Rattle.message.specs.Reader.{codeIn, bodyIn, readOf}
+use Rattle.plan.specs.declared.setting.Answered.{Answered}
+use Rattle.plan.specs.Record.{plansMost, bookLen, empty, ready, cycleOf}
+use Rattle.plan.specs.Standing.{standingOf}
+use Rattle.plan.specs.BuiltIn.{builtIn}
+use Rattle.plan.specs.Reading.{recordAt, same}
+use Rattle.plan.specs.Setting.{setTimesCode, setPlanCode, planIn}
+use Rattle.plan.proofs.Stands.{plan-fits, ready-plan}
+use Rattle.plan.proofs.Cases.{built-in-stands}
+use Rattle.plan.proofs.Reportable.{standing-past}
+use Rattle.controller.specs.declared.Running.{Running}
+use Rattle.controller.specs.declared.State.{State}
+use Rattle.controller.specs.declared.handling.Handled.{Handled}
+use Rattle.controller.specs.State.{all, outputLen, freshOf, soundOf, readyIn, planRecord, startedAt, withDecoder, withRunning}
+use Rattle.controller.specs.Handling.{Handling, unlessUnread, runCode, queryTimesCode, queryPlanCode, queryRunningCode, setAs, runAs, queryTimesAs, queryPlanAs, queryRunningAs, handlingOf}
+use Rattle.controller.specs.Calls.{Call, refusedCall, forUs, isAnswer, repliedOf, messageOf, broughtOf, doneOf, octetOf, lineIdleOf, pickedOf, movedOn, secondShown, noSecond, secondOf}
+use Rattle.controller.specs.declared.Answer.{Answer}
+use Rattle.controller.specs.declared.Shown.{Shown}
+use Rattle.controller.specs.Demand1.{SoundKept}
+use Rattle.controller.specs.Demand3.{runIn, latestAfter}
+use Rattle.controller.proofs.Judging.{four, RunningParts, sound-parts, parts-sound}
+use Rattle.controller.proofs.Laws.{octet-done, idle-done, moved-within, moved-ends}
+
+-- The octet call
+
+-- a state with this own address and this running plan, where the decoder and the requested plan are so
+pub record Left (address : ℕ) (u : Running) (d : Decoder) (p : ℕ) (t : State) : Type 0 where
+  pub own : t .own ≡ address
+  pub running : t .running ≡ u
+  pub decoder : t .decoder ≡ d
+  pub requested : t .requested ≡ p
+
+-- what a message leaves requested: the plan of a 5F 18 that is not refused, else what was
+module _ (u : Running) (requested : ℕ) (book info : List ℕ) where
+  abbrev code : ℕ
+  code = codeIn info
+
+  abbrev asked : ℕ
+  asked = planIn (bodyIn info)
+
+  abbrev runs : Bool
+  runs = both (eqb code runCode) (both (eqb (readOf info .refusal) refusal.none) (readyIn book asked))
+
+  abbrev Leaves : Handled → Type 0
+  Leaves h = h .requested ≡ pick runs asked requested
+
+  other-leaves : {p : ℕ} → p ≡ requested → (code ≡ runCode → ⊥) → p ≡ pick runs asked requested
+  other-leaves e n = rw (ne-eqb code runCode n) e
+
+  is-other : (n : ℕ) → eqb code n ≡ true → (n ≡ runCode → ⊥) → code ≡ runCode → ⊥
+  is-other n t d e = d (sym (eqb-true code n t) ∙ e)
+
+  set-leaves : (a : Answered) → setAs code requested a .requested ≡ requested
+  unfolding setAs
+  set-leaves a = pick-by (λ (h : Handled). h .requested ≡ requested) (eqb (a .refusal) refusal.none) (λ _. refl) (λ _. refl)
+
+  run-leaves : eqb code runCode ≡ true → Leaves (runAs code requested book info)
+  unfolding runAs
+  run-leaves t =
+      pick-by Leaves (eqb (readOf info .refusal) refusal.none)
+      (λ r. pick-by Leaves (readyIn book asked) (λ q. rw (t, r, q)) (λ q. rw (t, r, q)))
+      (λ r. rw (t, r))
+
+  read-leaves : (h : Handled) → h .requested ≡ requested → unlessUnread code requested info h .requested ≡ requested
+  read-leaves h e = pick-by (λ (h : Handled). h .requested ≡ requested) (eqb (readOf info .refusal) refusal.none) (λ _. e) (λ _. refl)
+
+  times-leaves : queryTimesAs code requested book info .requested ≡ requested
+  unfolding queryTimesAs
+  times-leaves = read-leaves _ (pick-by (λ (h : Handled). h .requested ≡ requested) (eqb (standingOf (planRecord book asked)) empty) (λ _. refl) (λ _. refl))
+
+  plan-leaves : queryPlanAs code requested book info .requested ≡ requested
+  unfolding queryPlanAs
+  plan-leaves = read-leaves _ (pick-by (λ (h : Handled). h .requested ≡ requested) (readyIn book asked) (λ _. refl) (λ _. refl))
+
+  running-leaves : queryRunningAs code requested u info .requested ≡ requested
+  unfolding queryRunningAs
+  running-leaves = read-leaves _ refl
+
+  pub handled-leaves : Leaves (handlingOf u requested book info .handled)
+  unfolding handlingOf
+  handled-leaves =
+      let P : Handling → Type 0 = λ w. Leaves (w .handled) in
+      pick-by P (eqb code setTimesCode) (λ t. other-leaves (set-leaves _) (is-other setTimesCode t (λ e. omega arith)))
+      (λ _. pick-by P (eqb code setPlanCode) (λ t. other-leaves (set-leaves _) (is-other setPlanCode t (λ e. omega arith)))
+      (λ _. pick-by P (eqb code runCode) run-leaves
+      (λ n. let d = eqb-false code runCode n in
+      pick-by P (eqb code queryTimesCode) (λ _. other-leaves times-leaves d)
+      (λ _. pick-by P (eqb code queryPlanCode) (λ _. other-leaves plan-leaves d)
+      (λ _. pick-by P (eqb code queryRunningCode) (λ _. other-leaves running-leaves d) (λ _. other-leaves refl d))))))
+
+module _ (s : State) where
+  abbrev After : List ℕ → Outcome → Call → Type 0
+  After book o w = Left (s .own) (s .running) (s .decoder) (latestAfter (s .own) book (s .requested) o) (w .answer .state)
+
+  message-left : (seq addr : ℕ) (info book out : List ℕ) → After book (sound (message seq addr info)) (messageOf s seq addr info book out)
+  unfolding messageOf repliedOf
+  message-left seq addr info book out =
+      let P : Call → Type 0 = After book (sound (message seq addr info)) in
+      pick-by P (forUs (s .own) addr)
+      (λ f. pick-by P (isAnswer (codeIn info))
+      (λ a. record { own = refl; running = refl; decoder = refl; requested = rw (f, ne-eqb (codeIn info) runCode (answers a)) })
+      (λ _. pick-by P (eqb addr (s .own))
+      (λ _. record { own = refl; running = refl; decoder = refl; requested = rw f (handled-leaves (s .running) (s .requested) book info) })
+      (λ _. record { own = refl; running = refl; decoder = refl; requested = rw f (handled-leaves (s .running) (s .requested) book info) })))
+      (λ f. record { own = refl; running = refl; decoder = refl; requested = rw f })
+    where
+      answers : isAnswer (codeIn info) ≡ true → codeIn info ≡ runCode → ⊥
+      answers a e = clash refl (rw e at a)
+
+  brought-left : (f : Found) (book out : List ℕ) → After book (told f (s .decoder .info)) (broughtOf f s book out)
+  brought-left found.Nothing book out = record { own = refl; running = refl; decoder = refl; requested = refl }
+  brought-left (found.Refused n k seq addr) book out = record { own = refl; running = refl; decoder = refl; requested = refl }
+  brought-left (found.Message seq addr n) book out = message-left seq addr (take n (s .decoder .info)) book out
+  brought-left (found.Ack seq addr) book out = record { own = refl; running = refl; decoder = refl; requested = refl }
+  brought-left (found.Nak seq addr err) book out = record { own = refl; running = refl; decoder = refl; requested = refl }
+
+-- a call that is done: the decoder has taken the octet, and the latest run message carried out is requested
+pub done-left : (s : State) (t : Taken) (book out : List ℕ)
+    → Left (s .own) (s .running) (t .decoder) (latestAfter (s .own) book (s .requested) (outcomeOf t)) (doneOf s t book out .answer .state)
+unfolding doneOf
+done-left s t book out = brought-left (withDecoder s (t .decoder)) (t .found) book out
+
+module _ (s : State) (book out : List ℕ) (b : ℕ) where
+  -- was the octet taken? Where not, the state is as it was
+  abbrev takes : Bool
+  takes = both (soundOf s) (both (eqb (length book) bookLen) (leb outputLen (length out)))
+
+  pub by-octet : (P : Bool → State → Type 0) → P false s
+      → (soundOf s ≡ true → length book ≡ bookLen → outputLen ≤ length out → P true (doneOf s (takenOf (s .decoder) b) book out .answer .state))
+      → P takes (octetOf s book out b .answer .state)
+  unfolding octetOf
+  by-octet P same done = by (soundOf s) refl (eqb (length book) bookLen) refl (leb outputLen (length out)) refl
+    where
+      by : (h : Bool) → soundOf s ≡ h → (n : Bool) → eqb (length book) bookLen ≡ n → (l : Bool) → leb outputLen (length out) ≡ l
+          → P (both h (both n l)) (pick h (pick n (pick l (doneOf s (takenOf (s .decoder) b) book out) (refusedCall s refusal.outputShort book out))
+          (refusedCall s refusal.bookWrong book out)) (refusedCall s refusal.stateUnsound book out) .answer .state)
+      by true h true n true l = done h (eqb-true (length book) bookLen n) (leb-true outputLen (length out) l)
+      by true h true n false l = same
+      by true h false n l _ = same
+      by false h n _ l _ = same
+
+  pub octet-own : octetOf s book out b .answer .state .own ≡ s .own
+  octet-own = by-octet (λ _ t. t .own ≡ s .own) refl (λ _ _ _. done-left s (takenOf (s .decoder) b) book out .own)
+
+  pub octet-running : octetOf s book out b .answer .state .running ≡ s .running
+  octet-running = by-octet (λ _ t. t .running ≡ s .running) refl (λ _ _ _. done-left s (takenOf (s .decoder) b) book out .running)
+
+-- the octet call that is done
+pub octet-left : (s : State) (book out : List ℕ) (b : ℕ) → soundOf s ≡ true → length book ≡ bookLen → outputLen ≤ length out
+    → Left (s .own) (s .running) (takenOf (s .decoder) b .decoder) (latestAfter (s .own) book (s .requested) (outcomeOf (takenOf (s .decoder) b)))
+    (octetOf s book out b .answer .state)
+octet-left s book out b h n l = rw (octet-done s book out b h n l) (done-left s (takenOf (s .decoder) b) book out)
+
+-- a plan that is ready in the book is one of its plans
+pub ready-most : (book : List ℕ) (p : ℕ) → length book ≡ bookLen → readyIn book p ≡ true → p ≤ plansMost
+ready-most book p n h =
+    elim (decLt plansMost p) [
+      | yes l ↦ let z : p ≡ 0 → ⊥ = λ e. omega arith in
+          absurd (omega (arith, standing-past book p n l, eqb-true (standingOf (recordAt book p)) ready (rw (ne-eqb p 0 z) at h)))
+      | no l ↦ omega arith
+    ]
+
+pub latest-most : (own : ℕ) (book : List ℕ) (latest : ℕ) (o : Outcome) → length book ≡ bookLen → latest ≤ plansMost → latestAfter own book latest o ≤ plansMost
+latest-most own book latest nothing n h = h
+latest-most own book latest (refused r k seq addr) n h = h
+latest-most own book latest (sound (message seq addr info)) n h =
+    let p = planIn (bodyIn info) in
+    pick-by (λ (q : ℕ). q ≤ plansMost) (runIn own book addr info)
+    (λ t. ready-most book p n (four (forUs own addr) (eqb (codeIn info) runCode) (eqb (readOf info .refusal) refusal.none) (readyIn book p) t .3))
+    (λ _. h)
+latest-most own book latest (sound (ack seq addr)) n h = h
+latest-most own book latest (sound (nak seq addr err)) n h = h
+
+octet-sound : (s : State) (book out : List ℕ) (b : ℕ) → b < 256 → soundOf s ≡ true → soundOf (octetOf s book out b .answer .state) ≡ true
+octet-sound s book out b l h =
+    let g = sound-parts s h in
+    let t = takenOf (s .decoder) b in
+    let w = doneOf s t book out .answer .state in
+    by-octet s book out b (λ _ t. soundOf t ≡ true) h (λ _ n _.
+    let k = done-left s t book out in
+    parts-sound w (record {
+      own = rw (k .own) (g .own);
+      requested = rw (k .requested) (latest-most (s .own) book (s .requested) (outcomeOf t) n (g .requested));
+      decoder = rw (k .decoder) (possible-kept .1 (s .decoder) .octet b l (g .decoder));
+      running = rw (k .running) (g .running);
+    }))
+
+-- The line-idle call
+
+module _ (s : State) where
+  -- all but the decoder is as it was
+  pub idle-left : lineIdleOf s .state ≡ withDecoder s (lineIdleOf s .state .decoder)
+  unfolding lineIdleOf
+  idle-left = pick-by (λ (a : Answer). a .state ≡ withDecoder s (a .state .decoder)) (soundOf s) (λ _. refl) (λ _. refl)
+
+  idle-sound : soundOf s ≡ true → soundOf (lineIdleOf s .state) ≡ true
+  idle-sound h =
+      let g = sound-parts s h in
+      rw (idle-done s h)
+      (parts-sound (withDecoder s (idledOf (s .decoder) .decoder)) (record {
+        own = g .own;
+        requested = g .requested;
+        decoder = possible-kept .1 (s .decoder) .lineIdle (g .decoder);
+        running = g .running;
+      }))
+
+-- The second call
+
+pub ready-cycle : (rec : List ℕ) → standingOf rec ≡ ready → 0 < cycleOf rec
+ready-cycle rec h = omega (arith, plan-fits rec (ready-plan rec h) .offset)
+
+module _ (u : Running) (p : ℕ) (book : List ℕ) where
+  -- by the two ways of the pick
+  pub by-picked : (P : Running → Type 0) → (readyIn book p ≡ true → P (startedAt p (planRecord book p)))
+      → (readyIn book p ≡ false → P (startedAt (u .plan) (u .copy))) → P (pickedOf u p book)
+  unfolding pickedOf
+  by-picked P r k = pick-by P (readyIn book p) r k
+
+  module _ (most : p ≤ plansMost) (g : RunningParts u) where
+    pub picked-sound : RunningParts (pickedOf u p book)
+    picked-sound =
+        by-picked RunningParts
+        (λ r. let e = eqb-true (standingOf (planRecord book p)) ready r in
+        record { position = ready-cycle (planRecord book p) e; plan = most; checks = e; zero = λ z. rw (eq-eqb p 0 z) })
+        (λ _. record { position = ready-cycle (u .copy) (g .checks); plan = g .plan; checks = g .checks; zero = g .zero })
+
+    pub moved-sound : RunningParts (movedOn u p book)
+    moved-sound =
+        elim (decLt (u .position + 1) (cycleOf (u .copy))) [
+          | yes l ↦ rw (moved-within u p book l) (record { position = l; plan = g .plan; checks = g .checks; zero = g .zero })
+          | no l ↦ rw (moved-ends u p book (omega arith)) picked-sound
+        ]
+
+module _ (s : State) (book : List ℕ) where
+  -- all but the running plan is as it was
+  pub second-left : secondOf s book .state ≡ withRunning s (secondOf s book .state .running)
+  unfolding secondOf noSecond
+  second-left =
+      let P : Shown → Type 0 = λ a. a .state ≡ withRunning s (a .state .running) in
+      pick-by P (soundOf s) (λ _. pick-by P (eqb (length book) bookLen) (λ _. refl) (λ _. refl)) (λ _. refl)
+
+  -- by the two ways of a second in a sound state
+  pub by-second : soundOf s ≡ true → (P : Shown → Type 0) → (length book ≡ bookLen → P (secondShown s book)) → P (noSecond s refusal.bookWrong)
+      → P (secondOf s book)
+  unfolding secondOf
+  by-second h P done none =
+      rw h (pick-by P (eqb (length book) bookLen) (λ n. done (eqb-true (length book) bookLen n)) (λ _. none))
+
+  second-sound : soundOf s ≡ true → soundOf (secondOf s book .state) ≡ true
+  unfolding noSecond
+  second-sound h =
+      let g = sound-parts s h in
+      let u = movedOn (s .running) (s .requested) book in
+      by-second h (λ a. soundOf (a .state) ≡ true)
+      (λ _. parts-sound (withRunning s u) (record {
+        own = g .own;
+        requested = g .requested;
+        decoder = g .decoder;
+        running = moved-sound (s .running) (s .requested) book (g .requested) (g .running);
+      }))
+      h
+
+pub sound-kept : SoundKept
+sound-kept s = record { octet = octet-sound s; lineIdle = idle-sound s; second = second-sound s }
+
+-- The fresh start
+
+pub fresh-sound : (own : ℕ) → (own ≡ all → ⊥) → soundOf (freshOf own) ≡ true
+unfolding freshOf
+fresh-sound own n =
+    parts-sound (freshOf own) (record {
+      own = n;
+      requested = omega arith;
+      decoder = possible-kept .0;
+      running = record { position = ready-cycle builtIn built-in-stands; plan = omega arith; checks = built-in-stands; zero = λ _. refl };
+    })
+
+-- a sound position is within a cycle of at most 900 seconds, so the next one is a number of two octets
+pub sound-position : (s : State) → soundOf s ≡ true → s .running .position < 65535
+sound-position s h =
+    let p = sound-parts s h .running in
+    omega (arith, p .position, plan-fits (s .running .copy) (ready-plan (s .running .copy) (p .checks)) .most)

@@ -1,0 +1,92 @@
+-- From a fresh start every state is sound and requests the plan of the latest run message carried out, as the octets tell it.
+use Prim.Native.Nat.{ℕ, _+_}
+use mathlib.Core.Path.{_≡_, refl, ap, _∙_}
+use mathlib.Core.Bool.{true}
+use mathlib.Core.List.{List, [], _∷_}
+use native.Mathlib.Decide.{decLt}
+use native.Mathlib.Omega.{arith}
+use Rattle.octets.specs.Choice.{pick}
+use Rattle.octets.specs.Octet.{Octets}
+use Rattle.frame.specs.declared.decoder.Decoder.{Decoder}
+use Rattle.frame.specs.Decoder.{freshDecoder, takenOf, idledOf}
+use Rattle.plan.specs.Record.{cycleOf}
+use Rattle.controller.specs.declared.Answer.{Answer}
+use Rattle.controller.specs.declared.Running.{Running}
+use Rattle.controller.specs.declared.State.{State}
+use Rattle.controller.specs.State.{all, freshOf, soundOf}
+use Rattle.controller.specs.Calls.{movedOn, pickedOf, noSecond}
+use Rattle.controller.specs.Demand3.{Event, octet, lineIdle, second, next, goesOn, run, Heard, hearsOctet, hears, hearsOn, LatestKept}
+use Rattle.controller.proofs.Laws.{idle-done, moved-within, moved-ends}
+use Rattle.controller.proofs.Judging.{octets-built-in, record-octets}
+use Rattle.controller.proofs.Keeping.{done-left, by-octet, octet-own, octet-running, idle-left, by-picked, second-left, by-second, sound-kept, fresh-sound}
+
+-- the copy that runs is octets
+module _ (u : Running) (p : ℕ) (book : List ℕ) (ou : Octets (u .copy)) (ob : Octets book) where
+  picked-octets : Octets (pickedOf u p book .copy)
+  picked-octets =
+      by-picked u p book (λ v. Octets (v .copy))
+      (λ _. record-octets book p ob)
+      (λ _. ou)
+
+  moved-octets : Octets (movedOn u p book .copy)
+  moved-octets =
+      elim (decLt (u .position + 1) (cycleOf (u .copy))) [
+        | yes l ↦ rw (moved-within u p book l) ou
+        | no l ↦ rw (moved-ends u p book (omega arith)) picked-octets
+      ]
+
+-- the state s of a controller at this address, when h was heard
+pub record Kept (address : ℕ) (s : State) (h : Heard) : Type 0 where
+  pub own : s .own ≡ address
+  pub sound : soundOf s ≡ true
+  pub octets : Octets (s .running .copy)
+  pub decoder : s .decoder ≡ h .decoder
+  pub latest : s .requested ≡ h .latest
+
+kept-next : (own : ℕ) (s : State) (h : Heard) (e : Event) → Kept own s h → Kept own (next s e) (hears own h e)
+unfolding noSecond
+kept-next own s h (octet b l book out o) k =
+    let d = done-left s (takenOf (s .decoder) b) book out in
+    let heard = hearsOctet own book h (takenOf (h .decoder) b) in
+    record {
+      own = octet-own s book out b ∙ k .own;
+      sound = sound-kept s .octet book out b l (k .sound);
+      octets = rw (octet-running s book out b) (k .octets);
+      decoder =
+          rw (k .sound) at (by-octet s book out b (λ t w. w .decoder ≡ (pick t heard h) .decoder) (k .decoder)
+          (λ _ _ _. d .decoder ∙ ap (λ (c : Decoder). takenOf c b .decoder) (k .decoder)));
+      latest =
+          rw (k .sound) at (by-octet s book out b (λ t w. w .requested ≡ (pick t heard h) .latest) (k .latest)
+          (λ _ _ _. d .requested ∙ rw (k .own, k .decoder, k .latest)));
+    }
+kept-next own s h lineIdle k =
+    let e = idle-left s in
+    record {
+      own = ap (λ (t : State). t .own) e ∙ k .own;
+      sound = sound-kept s .lineIdle (k .sound);
+      octets = rw (ap (λ (t : State). t .running) e) (k .octets);
+      decoder = ap (λ (a : Answer). a .state .decoder) (idle-done s (k .sound)) ∙ ap (λ (c : Decoder). idledOf c .decoder) (k .decoder);
+      latest = ap (λ (t : State). t .requested) e ∙ k .latest;
+    }
+kept-next own s h (second book o) k =
+    let e = second-left s book in
+    record {
+      own = ap (λ (t : State). t .own) e ∙ k .own;
+      sound = sound-kept s .second book (k .sound);
+      octets = by-second s book (k .sound) (λ a. Octets (a .state .running .copy)) (λ _. moved-octets (s .running) (s .requested) book (k .octets) o) (k .octets);
+      decoder = ap (λ (t : State). t .decoder) e ∙ k .decoder;
+      latest = ap (λ (t : State). t .requested) e ∙ k .latest;
+    }
+
+kept-on : (own : ℕ) (s : State) (h : Heard) (es : List Event) → Kept own s h → Kept own (goesOn s es) (hearsOn own h es)
+kept-on own s h [] k = k
+kept-on own s h (e ∷ es) k = kept-on own (next s e) (hears own h e) es (kept-next own s h e k)
+
+pub run-kept : (own : ℕ) → (own ≡ all → ⊥) → (es : List Event) → Kept own (run own es) (hearsOn own (record { decoder = freshDecoder; latest = 0 }) es)
+unfolding freshOf
+run-kept own n es =
+    kept-on own (freshOf own) (record { decoder = freshDecoder; latest = 0 }) es
+    (record { own = refl; sound = fresh-sound own n; octets = octets-built-in; decoder = refl; latest = refl })
+
+pub latest-kept : LatestKept
+latest-kept own n es = run-kept own n es .latest

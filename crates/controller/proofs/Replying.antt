@@ -1,0 +1,302 @@
+-- What an octet call writes: every reply is a message that the writer writes, its INFO fits a frame, and the frames fit the output.
+use Prim.Native.Nat.{ℕ, zero, suc, _+_, _*_, _-_, _≤_, _<_}
+use mathlib.Core.Path.{_≡_, refl, subst, _∙_}
+use mathlib.Core.Bool.{Bool, true, false}
+use mathlib.Core.Logic.{inl, inr}
+use mathlib.Core.List.{List, [], _∷_}
+use native.Mathlib.Decide.{decLt}
+use native.Mathlib.Nat.{mod-eq-of-lt}
+use native.Mathlib.Omega.{arith}
+use borrow.Author.Tests.{ne-eqb, eqb-true, eqb-false, leb-true}
+use lib.Dec.{eqb, leb}
+use lib.ListN.{length, length-append, List·getD-eq-default}
+use Rattle.octets.specs.Choice.{pick}
+use Rattle.octets.specs.First.{firstOf}
+use Rattle.octets.specs.Part.{codeLen}
+use Rattle.octets.specs.Refusal as refusal
+use Rattle.octets.specs.Word.{highOf, lowOf}
+use Rattle.octets.proofs.Laws.{pick-by, both-left, both-right}
+use Rattle.frame.specs.declared.Kind.{Kind}
+use Rattle.frame.specs.declared.Kind.the-variants.{Message, Ack, Nak}
+use Rattle.frame.specs.declared.decoder.Place.{Place}
+use Rattle.frame.specs.declared.decoder.Place.the-variants.{Idle, LoneAa, Seq, AddrHigh, AddrLow, LenHigh, LenLow, Info, InfoAa, CloseAa, CloseCc, Err, Cks}
+use Rattle.frame.specs.declared.decoder.Decoder.{Decoder}
+use Rattle.frame.specs.declared.decoder.Found.{Found}
+use Rattle.frame.specs.declared.decoder.Found.the-variants as found
+use Rattle.frame.specs.declared.decoder.Taken.{Taken}
+use Rattle.frame.specs.Frame.{ack, nak, infoLeast, infoMost, messageLen, lenFits, frontOf, sentOf, twice, doubled, written}
+use Rattle.frame.specs.Decoder.{headOf, possibleOf, cksDue, afterAa, stored, cksIn, stepOf, takenOf}
+use Rattle.frame.proofs.Laws.{message-len, taken-done}
+use Rattle.frame.proofs.Possible.{at}
+use Rattle.message.specs.declared.Message as message
+use Rattle.message.specs.declared.layout.Field.{Field}
+use Rattle.message.specs.Fields as field
+use Rattle.message.specs.Fields.{twoOf}
+use Rattle.message.specs.Layouts.{layouts, layoutAt, numberOf, rowsAt, rowsOf}
+use Rattle.message.specs.Values.{sizeOf, placed}
+use Rattle.message.specs.Names.{planAt}
+use Rattle.message.specs.Reader.{codeIn, bodyIn, readOf}
+use Rattle.message.specs.Writer.{numberIn, kOf, writable, infoAs, infoOf}
+use Rattle.message.specs.Promises.{RightAt}
+use Rattle.message.proofs.Layouts.{rows-most}
+use Rattle.message.proofs.Ranges.{placed-at}
+use Rattle.message.proofs.Values.{width-most}
+use Rattle.message.proofs.Writing.{info-len, writable-most}
+use Rattle.message.proofs.WrittenSo.{in-writable}
+use Rattle.plan.specs.declared.setting.Answered.{Answered}
+use Rattle.plan.specs.Record.{bookLen, plansMost, empty, ready}
+use Rattle.plan.specs.Standing.{standingOf}
+use Rattle.plan.specs.Setting.{setTimesCode, setPlanCode, setTimesOf, setPlanOf, planIn}
+use Rattle.plan.specs.Reporting.{reportPlanCode, reportRunningCode}
+use Rattle.plan.proofs.Reportable.{report-times-writable, report-plan-writable, standing-past}
+use Rattle.controller.specs.declared.Running.{Running}
+use Rattle.controller.specs.declared.handling.Handled.{Handled}
+use Rattle.controller.specs.State.{outputLen, planRecord, readyIn}
+use Rattle.controller.specs.Handling.{Handling, accepted, reads, sets, runCode, queryTimesCode, queryPlanCode, queryRunningCode, carriedOutReply, refusedReply, refusedAs, setAs, unlessUnread, runAs, queryTimesAs, queryPlanAs, queryRunningAs, handlingOf}
+use Rattle.controller.specs.Calls.{sent, repliesOf}
+
+-- What an octet brings
+
+-- a frame is refused 1 to 3, and a message frame has INFO of 2 to 256 octets
+abbrev pub CanBring : Found → Type 0
+CanBring found.Nothing = Unit
+CanBring (found.Refused n k seq addr) = n ≤ refusal.lenWrong
+CanBring (found.Message seq addr n) = (codeLen ≤ n) × (n ≤ infoMost)
+CanBring (found.Ack seq addr) = Unit
+CanBring (found.Nak seq addr err) = Unit
+
+abbrev Brings : Taken → Type 0
+Brings t = CanBring (t .found)
+
+after-aa : (d : Decoder) (b : ℕ) (f : Found) → CanBring f → Brings (afterAa d b f)
+after-aa d b f h =
+    pick-by Brings (eqb b 0xAA) (λ _. h)
+    (λ _. pick-by Brings (eqb b 0xBB) (λ _. h)
+    (λ _. pick-by Brings (eqb b 0xDD) (λ _. h)
+    (λ _. pick-by Brings (eqb b 0xEE) (λ _. h) (λ _. h))))
+
+module _ (s e a n g : ℕ) (l : List ℕ) (b : ℕ) where
+  after-stored : (p : Place) (k : Kind) → Brings (stored (at p k s e a n g l) b)
+  after-stored p k = pick-by Brings (leb infoMost g) (λ _. tt) (λ _. tt)
+
+  cks-found : (k : Kind) → cksDue k n g ≡ true → Brings (stepOf (at Cks k s e a n g l) b)
+  unfolding stepOf
+  cks-found Message h =
+      let f = both-left (lenFits Message n) (eqb g (n - messageLen)) h in
+      let w = eqb-true g (n - messageLen) (both-right (lenFits Message n) (eqb g (n - messageLen)) h) in
+      let least = message-len n f in
+      let most = leb-true n (messageLen + infoMost) (both-right (leb (messageLen + infoLeast) n) (leb n (messageLen + infoMost)) f) in
+      pick-by Brings (eqb (cksIn (at Cks Message s e a n g l)) b) (λ _. (omega arith, omega arith)) (λ _. omega arith)
+  cks-found Ack h = pick-by Brings (eqb (cksIn (at Cks Ack s e a n g l)) b) (λ _. tt) (λ _. omega arith)
+  cks-found Nak h = pick-by Brings (eqb (cksIn (at Cks Nak s e a n g l)) b) (λ _. tt) (λ _. omega arith)
+
+  step-found : (p : Place) (k : Kind) → possibleOf (headOf p k s e a n g) ≡ true → Brings (stepOf (at p k s e a n g l) b)
+  unfolding possibleOf stepOf
+  step-found Idle k h = pick-by Brings (eqb b 0xAA) (λ _. tt) (λ _. tt)
+  step-found LoneAa k h = after-aa (at LoneAa k s e a n g l) b found.Nothing tt
+  step-found Seq k h = tt
+  step-found AddrHigh k h = tt
+  step-found AddrLow k h = tt
+  step-found LenHigh k h = tt
+  step-found LenLow k h = pick-by Brings (lenFits k _) (λ _. tt) (λ _. omega arith)
+  step-found Info k h = pick-by Brings (eqb b 0xAA) (λ _. tt) (λ _. after-stored Info k)
+  step-found InfoAa k h = pick-by Brings (eqb b 0xAA) (λ _. after-stored InfoAa k) (λ _. after-aa (at InfoAa k s e a n g l) b (found.Refused refusal.closingWrong k s a) (omega arith))
+  step-found CloseAa k h = pick-by Brings (eqb b 0xAA) (λ _. tt) (λ _. omega arith)
+  step-found CloseCc k h = pick-by Brings (eqb b 0xCC) (λ _. tt) (λ _. after-aa (at CloseCc k s e a n g l) b (found.Refused refusal.closingWrong k s a) (omega arith))
+  step-found Err k h = tt
+  step-found Cks k h = cks-found k h
+
+pub can-bring : (d : Decoder) (b : ℕ) → possibleOf (d .head) ≡ true → CanBring (takenOf d b .found)
+can-bring d b h =
+    let q = d .head in
+    rw (taken-done d b h) (step-found (q .seq) (q .err) (q .addr) (q .len) (q .got) (d .info) b (q .place) (q .kind) h)
+
+pub message-fits : (d : Decoder) (b seq addr n : ℕ) → possibleOf (d .head) ≡ true → takenOf d b .found ≡ found.Message seq addr n → (codeLen ≤ n) × (n ≤ infoMost)
+message-fits d b seq addr n h e = subst CanBring e (can-bring d b h)
+
+-- The replies 0F 80 and 0F 81
+
+module _ (code : ℕ) (h : code < 65536) where
+  pub carried-out-writable : writable (carriedOutReply code) ≡ true
+  unfolding carriedOutReply numberOf firstOf layouts layoutAt rowsAt rowsOf placed
+  carried-out-writable =
+      in-writable (carriedOutReply code)
+      (record {
+        listed = record { first = omega arith; last = omega arith };
+        fewest = omega arith;
+        most = omega arith;
+        fields = refl;
+        ranges = ranges;
+        rest = λ j l m. placed-at (code ∷ []) j ∙ List·getD-eq-default (code ∷ []) 0 l;
+      })
+    where
+      ranges : (j : ℕ) → j < 1 → RightAt (field.code ∷ []) (placed (code ∷ [])) j
+      ranges zero l = (omega arith, omega arith)
+      ranges (suc j) l = absurd (omega arith)
+
+  pub refused-writable : (n parameter : ℕ) → n < 256 → parameter < 256 → writable (refusedReply code n parameter) ≡ true
+  unfolding refusedReply numberOf firstOf layouts layoutAt rowsAt rowsOf placed
+  refused-writable n parameter hn hp =
+      in-writable (refusedReply code n parameter)
+      (record {
+        listed = record { first = omega arith; last = omega arith };
+        fewest = omega arith;
+        most = omega arith;
+        fields = refl;
+        ranges = ranges;
+        rest = λ j l m. placed-at (code ∷ n ∷ parameter ∷ []) j ∙ List·getD-eq-default (code ∷ n ∷ parameter ∷ []) 0 l;
+      })
+    where
+      ranges : (j : ℕ) → j < 3 → RightAt (field.code ∷ field.errorNumber ∷ field.parameterNumber ∷ []) (placed (code ∷ n ∷ parameter ∷ [])) j
+      ranges zero l = (omega arith, omega arith)
+      ranges (suc zero) l = (omega arith, omega arith)
+      ranges (suc (suc zero)) l = (omega arith, omega arith)
+      ranges (suc (suc (suc j))) l = absurd (omega arith)
+
+pub carried-out-info : (code : ℕ) → infoOf (carriedOutReply code) ≡ 0x0F ∷ 0x80 ∷ highOf code ∷ lowOf code ∷ []
+unfolding carriedOutReply numberOf firstOf layouts layoutAt rowsAt rowsOf placed infoAs
+carried-out-info code = refl
+
+pub refused-info : (code n parameter : ℕ) → n < 256 → parameter < 256
+    → infoOf (refusedReply code n parameter) ≡ 0x0F ∷ 0x81 ∷ highOf code ∷ lowOf code ∷ n ∷ parameter ∷ []
+unfolding refusedReply numberOf firstOf layouts layoutAt rowsAt rowsOf placed infoAs
+refused-info code n parameter hn hp = rw (mod-eq-of-lt hn, mod-eq-of-lt hp)
+
+-- INFO of what is writable
+
+size-most : (fs : List Field) → sizeOf fs ≤ 2 * length fs
+size-most [] = omega arith
+size-most (f ∷ fs) = omega (arith, width-most (twoOf f), size-most fs)
+
+pub info-fits : (m : message.Message) → writable m ≡ true → (codeLen ≤ length (infoOf m)) × (length (infoOf m) ≤ infoMost)
+info-fits m w =
+    let l = numberIn m in
+    let k = kOf m in
+    let n = info-len (m .code) (rowsAt l k) (m .values) in
+    (omega arith, omega (arith, size-most (rowsAt l k), rows-most l k (writable-most l k (m .fields) (m .values) w)))
+
+-- A plan that is reported
+
+-- a plan with more than an empty record is one of the book, or plan 0
+pub plan-most : (book : List ℕ) (p : ℕ) → length book ≡ bookLen → (standingOf (planRecord book p) ≡ empty → ⊥) → p ≤ plansMost
+plan-most book p hb n = by (decLt plansMost p)
+  where
+    by : Dec (plansMost < p) → p ≤ plansMost
+    by (yes l) = absurd (n (rw (ne-eqb p 0 (λ z. absurd (omega arith))) (standing-past book p hb l)))
+    by (no g) = omega arith
+
+-- Every reply
+
+-- what holds of each way to handle a message holds of what its code brings
+by-seven : (P : Handling → Type 0) (a b c d e f : Bool) {m n o p q r s : Handling} → P m → P n → P o → P p → P q → P r → P s
+    → P (pick a m (pick b n (pick c o (pick d p (pick e q (pick f r s))))))
+by-seven P true b c d e f m n o p q r s = m
+by-seven P false true c d e f m n o p q r s = n
+by-seven P false false true d e f m n o p q r s = o
+by-seven P false false false true e f m n o p q r s = p
+by-seven P false false false false true f m n o p q r s = q
+by-seven P false false false false false true m n o p q r s = r
+by-seven P false false false false false false m n o p q r s = s
+
+pub handling-by : (P : Handling → Type 0) (u : Running) (requested : ℕ) (book info : List ℕ)
+    → P (sets (codeIn info) requested (setTimesOf book info)) → P (sets (codeIn info) requested (setPlanOf book info))
+    → P (reads (runAs (codeIn info) requested book info) book) → P (reads (queryTimesAs (codeIn info) requested book info) book)
+    → P (reads (queryPlanAs (codeIn info) requested book info) book) → P (reads (queryRunningAs (codeIn info) requested u info) book)
+    → P (reads (refusedAs (codeIn info) requested refusal.codeUnknown 0) book) → P (handlingOf u requested book info)
+unfolding handlingOf
+handling-by P u requested book info =
+    let code = codeIn info in
+    by-seven P (eqb code setTimesCode) (eqb code setPlanCode) (eqb code runCode) (eqb code queryTimesCode) (eqb code queryPlanCode) (eqb code queryRunningCode)
+
+-- what holds of every 0F 80, of every 0F 81 and of every report that is writable holds of what is handled
+module _ (P : Handled → Type 0) (code requested : ℕ) (book info : List ℕ) (hb : length book ≡ bookLen)
+    (carried : (q : ℕ) → P (accepted q (carriedOutReply code))) (refused : (n m : ℕ) → P (refusedAs code requested n m))
+    (report : (m : message.Message) → writable m ≡ true → P (accepted requested m)) where
+  abbrev p : ℕ
+  p = planIn (bodyIn info)
+
+  by-read : (h : Handled) → P h → P (unlessUnread code requested info h)
+  by-read h w = pick-by P (eqb (readOf info .refusal) refusal.none) (λ _. w) (λ _. refused (readOf info .refusal) (readOf info .field))
+
+  by-set : (a : Answered) → P (setAs code requested a)
+  unfolding setAs
+  by-set a = pick-by P (eqb (a .refusal) refusal.none) (λ _. carried requested) (λ _. refused (a .refusal) (a .field))
+
+  by-run : P (runAs code requested book info)
+  unfolding runAs
+  by-run = by-read _ (pick-by P (readyIn book p) (λ _. carried p) (λ _. refused refusal.notReady planAt))
+
+  by-query-times : P (queryTimesAs code requested book info)
+  unfolding queryTimesAs
+  by-query-times =
+      by-read _
+      (pick-by P (eqb (standingOf (planRecord book p)) empty) (λ _. refused refusal.notReady planAt)
+      (λ e. let n = eqb-false (standingOf (planRecord book p)) empty e in report _ (report-times-writable (planRecord book p) p (plan-most book p hb n) n)))
+
+  by-query-plan : P (queryPlanAs code requested book info)
+  unfolding queryPlanAs
+  by-query-plan =
+      by-read _
+      (pick-by P (readyIn book p)
+      (λ e.
+      let r = eqb-true (standingOf (planRecord book p)) ready e in
+      report _ (report-plan-writable (planRecord book p) p reportPlanCode (plan-most book p hb (λ z. absurd (omega arith))) r (inl refl)))
+      (λ _. refused refusal.notReady planAt))
+
+  by-query-running : (u : Running) → standingOf (u .copy) ≡ ready → u .plan ≤ plansMost → P (queryRunningAs code requested u info)
+  unfolding queryRunningAs
+  by-query-running u r hp = by-read _ (report _ (report-plan-writable (u .copy) (u .plan) reportRunningCode hp r (inr refl)))
+
+module _ (u : Running) (requested : ℕ) (book info : List ℕ) (r : standingOf (u .copy) ≡ ready) (hp : u .plan ≤ plansMost) (hb : length book ≡ bookLen) where
+  abbrev code : ℕ
+  code = codeIn info
+
+  by-reply : (P : Handled → Type 0) → ((q : ℕ) → P (accepted q (carriedOutReply code))) → ((n m : ℕ) → P (refusedAs code requested n m))
+      → ((m : message.Message) → writable m ≡ true → P (accepted requested m)) → P (handlingOf u requested book info .handled)
+  by-reply P c f w =
+      handling-by (λ h. P (h .handled)) u requested book info
+      (by-set P code requested book info hb c f w (setTimesOf book info .answer))
+      (by-set P code requested book info hb c f w (setPlanOf book info .answer))
+      (by-run P code requested book info hb c f w)
+      (by-query-times P code requested book info hb c f w)
+      (by-query-plan P code requested book info hb c f w)
+      (by-query-running P code requested book info hb c f w u r hp)
+      (f refusal.codeUnknown 0)
+
+  pub reply-writable : codeIn info < 65536 → handlingOf u requested book info .handled .refusal < 256 → handlingOf u requested book info .handled .parameter < 256
+      → writable (handlingOf u requested book info .handled .reply) ≡ true
+  reply-writable hc =
+      by-reply (λ h. h .refusal < 256 → h .parameter < 256 → writable (h .reply) ≡ true)
+      (λ _ _ _. carried-out-writable code hc) (λ n m. refused-writable code hc n m) (λ m w _ _. w)
+
+  -- its INFO fits a frame, whatever it names
+  pub reply-fits : length (infoOf (handlingOf u requested book info .handled .reply)) ≤ infoMost
+  unfolding carriedOutReply refusedReply numberOf firstOf layouts layoutAt rowsAt rowsOf infoAs
+  reply-fits = by-reply (λ h. length (infoOf (h .reply)) ≤ infoMost) (λ q. omega arith) (λ n m. omega arith) (λ m w. info-fits m w .1)
+
+-- The frames fit
+
+twice-most : (x : ℕ) → length (twice x) ≤ 2
+unfolding twice
+twice-most x = pick-by (λ (l : List ℕ). length l ≤ 2) (eqb x 0xAA) (λ _. omega arith) (λ _. omega arith)
+
+doubled-most : (i : List ℕ) → length (doubled i) ≤ 2 * length i
+unfolding doubled
+doubled-most [] = omega arith
+doubled-most (x ∷ xs) = omega (arith, length-append (twice x) (doubled xs), twice-most x, doubled-most xs)
+
+pub nak-fits : (seq own err : ℕ) → length (sent (nak seq own err ∷ [])) ≤ outputLen
+unfolding written frontOf sentOf
+nak-fits seq own err = omega arith
+
+pub ack-fits : (seq own : ℕ) → length (sent (ack seq own ∷ [])) ≤ outputLen
+unfolding written frontOf sentOf
+ack-fits seq own = omega arith
+
+-- an ACK and a message frame
+pub sent-most : (seq ours own : ℕ) (info : List ℕ) → length info ≤ infoMost → length (sent (repliesOf seq ours own info)) ≤ outputLen
+unfolding written frontOf sentOf
+sent-most seq ours own info h = simp length-append (omega (arith, doubled-most info))
+
+pub reply-frames-fit : (seq ours own : ℕ) (m : message.Message) → writable m ≡ true → length (sent (repliesOf seq ours own (infoOf m))) ≤ outputLen
+reply-frames-fit seq ours own m w = sent-most seq ours own (infoOf m) (info-fits m w .1)

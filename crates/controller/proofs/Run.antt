@@ -1,0 +1,328 @@
+-- Demand 3: over any run from a fresh start the controller is a machine of whole cycles.
+use Prim.Native.Nat.{ℕ, _+_, _≤_, _<_}
+use mathlib.Core.Path.{_≡_, refl, sym, ap, subst, _∙_}
+use mathlib.Core.Bool.{true, false}
+use mathlib.Core.List.{List, [], _∷_, _++_, map, append-assoc, append-nil}
+use mathlib.Core.Option.{none, some}
+use native.Mathlib.Decide.{decLt, ℕ-discrete}
+use native.Mathlib.Numerals.{add-one}
+use native.Mathlib.Omega.{arith}
+use borrow.Author.Tests.{eq-eqb, ne-eqb}
+use lib.ListN.{length, drop, length-map, length-drop, length-append, drop-of-length-le}
+use lib.Seq.{drop-cons}
+use Rattle.octets.specs.Octet.{Octets}
+use Rattle.plan.specs.Record.{recordLen, bookLen, ready, cycleOf, Ready}
+use Rattle.plan.specs.Standing.{standingOf, Stands}
+use Rattle.plan.specs.Reading.{startOf, recordAt}
+use Rattle.plan.proofs.Laws.{octets-part}
+use Rattle.plan.proofs.Stands.{stands-as-it-is}
+use Rattle.lamps.specs.Rows.{rowsOf, rowAt, noRow}
+use Rattle.lamps.proofs.Cycle.{cycle-long, whole-phases}
+use Rattle.cycles.specs.Machine.{told, after, answers}
+use Rattle.cycles.specs.Cycles.{Whole, Cycles, HoldsCycle}
+use Rattle.cycles.specs.Cycles as cycles
+use Rattle.cycles.specs.Ways.{Way, Ways}
+use Rattle.cycles.specs.Ways as way
+use Rattle.cycles.proofs.Laws.{answers-append}
+use Rattle.cycles.proofs.Run as cycles-run
+use Rattle.cycles.proofs.Window.{window}
+use Rattle.controller.specs.declared.Running.{Running}
+use Rattle.controller.specs.declared.Shown.{Shown}
+use Rattle.controller.specs.declared.State.{State}
+use Rattle.controller.specs.State.{all, freshOf, soundOf, readyIn}
+use Rattle.controller.specs.Calls.{octetOf, lineIdleOf, pickedOf, noSecond, secondOf}
+use Rattle.controller.specs.Demand3.{Event, octet, lineIdle, second, next, goesOn, run, Second, secondOfPlan, accepted, says, saysOn, seconds, latestRun, cycleOfPlan, Chosen, OneChoice, WholeCycles, unfinished, whole, RunsWholeCycles, HoldsWhole, AnyWindow, NoSecond, SetsNeverAlter, leftOf, crossing, CrossingCycles, CrossingHolds}
+use Rattle.plan.proofs.Cases.{built-in-stands}
+use Rattle.controller.proofs.Laws.{picked-ready, picked-stays, moved-within, moved-ends, second-8, second-done}
+use Rattle.controller.proofs.Judging.{RunningParts, sound-parts}
+use Rattle.controller.proofs.Keeping.{octet-running, idle-left, by-picked}
+use Rattle.controller.proofs.Latest.{run-kept}
+
+-- The rule
+
+same-plan : {u v : Running} → u ≡ v → (u .plan ≡ v .plan) × (u .copy ≡ v .copy)
+same-plan e = (ap (λ (w : Running). w .plan) e, ap (λ (w : Running). w .copy) e)
+
+-- a plan's record in the book, and whether it is ready
+module _ (book : List ℕ) (p : ℕ) (o : Octets book) where
+  stands : Stands (recordAt book p)
+  stands = stands-as-it-is (recordAt book p) (octets-part recordLen (startOf p) book o)
+
+  zero-ready : p ≡ 0 → readyIn book p ≡ true
+  zero-ready z = rw (eq-eqb p 0 z, built-in-stands)
+
+  set-ready : (p ≡ 0 → ⊥) → Ready (recordAt book p) → readyIn book p ≡ true
+  set-ready z r = rw (ne-eqb p 0 z, stands .readyTo r)
+
+  not-ready : (p ≡ 0 → ⊥) → (Ready (recordAt book p) → ⊥) → readyIn book p ≡ false
+  not-ready z n = rw (ne-eqb p 0 z) (ne-eqb (standingOf (recordAt book p)) ready (λ e. n (stands .readyFrom e)))
+
+  -- the pick is by the rule
+  chosen : (u t : Running) → t ≡ pickedOf u p book → Chosen p book (u .plan) (u .copy) (t .plan) (t .copy)
+  chosen u t h =
+      record {
+        zero = λ z. let e = same-plan (h ∙ picked-ready u p book (zero-ready z)) in (e .0 ∙ z, e .1 ∙ rw (eq-eqb p 0 z));
+        ready = λ z r. let e = same-plan (h ∙ picked-ready u p book (set-ready z r)) in (e .0, e .1 ∙ rw (ne-eqb p 0 z));
+        stays = λ z n. same-plan (h ∙ picked-stays u p book (not-ready z n));
+      }
+
+pub one-choice : OneChoice
+one-choice latest book p rec p₁ p₂ rec₁ rec₂ o a b =
+    elim (ℕ-discrete latest 0) [
+      | yes z ↦ agree (a .zero z) (b .zero z)
+      | no z ↦ elim (ℕ-discrete (standingOf (recordAt book latest)) ready) [
+        | yes e ↦ let r = stands book latest o .readyFrom e in agree (a .ready z r) (b .ready z r)
+        | no e ↦ let n : Ready (recordAt book latest) → ⊥ = λ r. e (stands book latest o .readyTo r) in agree (a .stays z n) (b .stays z n)
+      ]
+    ]
+  where
+    agree : {q : ℕ} {r : List ℕ} → (p₁ ≡ q) × (rec₁ ≡ r) → (p₂ ≡ q) × (rec₂ ≡ r) → (p₁ ≡ p₂) × (rec₁ ≡ rec₂)
+    agree f g = (f .0 ∙ sym (g .0), f .1 ∙ sym (g .1))
+
+-- What is left of the running cycle
+
+-- what the next second shows
+abbrev shownBy : Running → Second
+shownBy u = secondOfPlan (u .plan) (rowAt (u .copy) (u .position))
+
+left-starts : (u : Running) → u .position ≡ 0 → leftOf u ≡ cycleOfPlan (u .plan) (u .copy)
+unfolding leftOf
+left-starts u z = rw z
+
+module _ (u : Running) (r : Ready (u .copy)) (l : u .position < cycleOf (u .copy)) where
+  left-cons : leftOf u ≡ shownBy u ∷ map (secondOfPlan (u .plan)) (drop (u .position + 1) (rowsOf (u .copy)))
+  unfolding leftOf rowAt
+  left-cons =
+      let h : u .position < length (rowsOf (u .copy)) = omega (arith, cycle-long (u .copy) r .rows) in
+      rw (add-one, drop-cons (rowsOf (u .copy)) (u .position) noRow h)
+
+  left-last : cycleOf (u .copy) ≤ u .position + 1 → leftOf u ≡ shownBy u ∷ []
+  left-last h =
+      left-cons ∙ rw (drop-of-length-le (rowsOf (u .copy)) {i = u .position + 1} (omega (arith, cycle-long (u .copy) r .rows)))
+
+  left-some : 0 < length (leftOf u)
+  left-some = rw left-cons (omega arith)
+
+  left-most : length (leftOf u) ≤ 900
+  unfolding leftOf
+  left-most =
+      let c = cycle-long (u .copy) r in
+      omega (
+        arith,
+        length-map (drop (u .position) (rowsOf (u .copy))) (secondOfPlan (u .plan)),
+        length-drop (u .position) (rowsOf (u .copy)),
+        c .rows,
+        c .most,
+      )
+
+-- A run in two parts
+
+goes-on-append : (s : State) (xs ys : List Event) → goesOn s (xs ++ ys) ≡ goesOn (goesOn s xs) ys
+goes-on-append s [] ys = refl
+goes-on-append s (e ∷ xs) ys = goes-on-append (next s e) xs ys
+
+module _ (own : ℕ) where
+  run-next : (past : List Event) (e : Event) → run own (past ++ (e ∷ [])) ≡ next (run own past) e
+  run-next past e = goes-on-append (freshOf own) past (e ∷ [])
+
+  after-is : (past es : List Event) → after (crossing own) past es ≡ past ++ es
+  after-is past [] = sym (append-nil past)
+  after-is past (e ∷ es) = after-is (past ++ (e ∷ [])) es ∙ append-assoc past (e ∷ []) es
+
+  answers-are : (past es : List Event) → answers (crossing own) past es ≡ seconds own past es
+  answers-are past [] = refl
+  answers-are past (e ∷ es) = ap (told (says (run own past) e)) (answers-are (past ++ (e ∷ [])) es ∙ ap (λ (s : State). saysOn s es) (run-next past e))
+
+-- The ways that an event goes
+
+module _ (own : ℕ) (n : own ≡ all → ⊥) where
+  abbrev running : List Event → Running
+  running past = run own past .running
+
+  sound : (past : List Event) → soundOf (run own past) ≡ true
+  sound past = run-kept own n past .sound
+
+  parts : (past : List Event) → RunningParts (running past)
+  parts past = sound-parts (run own past) (sound past) .running
+
+  stands-ready : (past : List Event) → Ready (running past .copy)
+  stands-ready past = stands-as-it-is (running past .copy) (run-kept own n past .octets) .readyFrom (parts past .checks)
+
+  -- nothing is answered and the running plan is as it was; the cycle goes on; or its last second is answered and a plan picked
+  data Turn (past : List Event) : Event → Type 0 where
+    still : {e : Event} → says (run own past) e ≡ none → running (past ++ (e ∷ [])) ≡ running past → Turn past e
+    onward : {e : Event} → says (run own past) e ≡ some (shownBy (running past)) → running past .position + 1 < cycleOf (running past .copy)
+        → running (past ++ (e ∷ [])) ≡ record { plan = running past .plan; position = running past .position + 1; copy = running past .copy } → Turn past e
+    over : (book : List ℕ) (o : Octets book) → says (run own past) (second book o) ≡ some (shownBy (running past))
+        → cycleOf (running past .copy) ≤ running past .position + 1
+        → running (past ++ (second book o ∷ [])) ≡ pickedOf (running past) (latestRun own past) book → Turn past (second book o)
+
+  ran : (past : List Event) (e : Event) {u : Running} → next (run own past) e .running ≡ u → running (past ++ (e ∷ [])) ≡ u
+  ran past e h = ap (λ (s : State). s .running) (run-next own past e) ∙ h
+
+  turn : (past : List Event) (e : Event) → Turn past e
+  unfolding noSecond
+  turn past (octet b l book out o) = still refl (ran past (octet b l book out o) (octet-running (run own past) book out b))
+  turn past lineIdle = still refl (ran past lineIdle (ap (λ (s : State). s .running) (idle-left (run own past))))
+  turn past (second book o) =
+      let s = run own past in
+      let u = running past in
+      elim (ℕ-discrete (length book) bookLen) [
+        | yes d ↦ let a = second-done s book (sound past) d in
+            let m = ran past (second book o) (ap (λ (w : Shown). w .state .running) a) in
+            elim (decLt (u .position + 1) (cycleOf (u .copy))) [
+              | yes l ↦ onward (ap accepted a) l (m ∙ moved-within u (s .requested) book l)
+              | no l ↦ over book o (ap accepted a) (omega arith)
+                  (m ∙ moved-ends u (s .requested) book (omega arith) ∙ ap (λ (p : ℕ). pickedOf u p book) (run-kept own n past .latest))
+            ]
+        | no d ↦ let a = second-8 s book (sound past) d in
+            still (ap accepted a) (ran past (second book o) (ap (λ (w : Shown). w .state .running) a))
+      ]
+
+  left-next : (past : List Event) {v : Running} → running past .position + 1 < cycleOf (running past .copy)
+      → v ≡ record { plan = running past .plan; position = running past .position + 1; copy = running past .copy }
+      → leftOf (running past) ≡ shownBy (running past) ∷ leftOf v
+  unfolding leftOf
+  left-next past l m = let u = running past in left-cons u (stands-ready past) (omega arith) ∙ ap (λ (v : Running). shownBy u ∷ leftOf v) (sym m)
+
+  way-of : (past : List Event) (e : Event) → Turn past e → Way (crossing own) past e
+  way-of past e (still q m) = way.quiet q (ap leftOf m) (λ z. ap (λ (u : Running). u .position) (sym m) ∙ z)
+  way-of past e (onward q l m) =
+      way.goesOn (shownBy (running past)) q (left-next past l m) (λ z. omega (arith, ap (λ (v : Running). v .position) m))
+  way-of past e (over book o q l m) =
+      let u = running past in
+      let p = latestRun own past in
+      way.ends (shownBy u) q (left-last u (stands-ready past) (parts past .position) l) (chosen book p o u _ m)
+      (ap (λ (v : Running). v .position) m ∙ by-picked u p book (λ v. v .position ≡ 0) (λ _. refl) (λ _. refl))
+
+  ways : Ways (crossing own) (λ past. Unit)
+  ways =
+      record {
+        way = λ past e _. way-of past e (turn past e);
+        keeps = λ past e _. tt;
+        more = λ past _. left-some (running past) (stands-ready past) (parts past .position);
+      }
+
+  most : (past : List Event) → length (leftOf (running past)) ≤ 900
+  most past = left-most (running past) (stands-ready past) (parts past .position)
+
+  -- until its last second is answered a cycle is of one plan and one record
+  abbrev OnePlan : List Event → List Event → Type 0
+  OnePlan past es =
+      length (answers (crossing own) past es) < length (leftOf (running past))
+      → (running (after (crossing own) past es) .plan ≡ running past .plan) × (running (after (crossing own) past es) .copy ≡ running past .copy)
+
+  one-plan-on : (past : List Event) (e : Event) (es : List Event) → Turn past e → OnePlan (past ++ (e ∷ [])) es → OnePlan past (e ∷ es)
+  one-plan-on past e es (still q m) i h =
+      let j = i (rw m (rw q at h)) in
+      let k = same-plan m in
+      (j .0 ∙ k .0, j .1 ∙ k .1)
+  one-plan-on past e es (onward q l m) i h =
+      let j = i (omega (arith, ap length (left-next past l m), rw q at h)) in
+      let k = same-plan m in
+      (j .0 ∙ k .0, j .1 ∙ k .1)
+  one-plan-on past e es (over book o q l m) i h =
+      absurd (omega (arith, ap length (left-last (running past) (stands-ready past) (parts past .position) l), rw q at h))
+
+  one-plan : (past es : List Event) → OnePlan past es
+  one-plan past [] = λ _. (refl, refl)
+  one-plan past (e ∷ es) = one-plan-on past e es (turn past e) (one-plan (past ++ (e ∷ [])) es)
+
+  -- Whole cycles
+
+  abbrev Due : List Event → List Event → Type 0
+  Due past es = WholeCycles own (running past .plan) (running past .copy) past es
+
+  -- a whole cycle put before
+  put-before : (past before : List Event) (e : Event) (es : List Event) → Whole (crossing own) past before e → running past .position ≡ 0
+      → Due (after (crossing own) past before ++ (e ∷ [])) es → Due past (before ++ (e ∷ es))
+  put-before past before (octet b l book out o) es w z c = absurd (w .picks)
+  put-before past before lineIdle es w z c = absurd (w .picks)
+  put-before past before (second book o) es w z c =
+      let now = after (crossing own) past before in
+      let later = now ++ (second book o ∷ []) in
+      let u = running past in
+      let v = running later in
+      let q = after-is own past before in
+      let r = ap (λ (a : List Event). a ++ (second book o ∷ [])) q ∙ append-assoc past before (second book o ∷ []) in
+      let m = one-plan past before (omega (arith, ap length (w .rows), length-append (answers (crossing own) past before) (w .last ∷ []))) in
+      let rule : Chosen (latestRun own now) book (u .plan) (u .copy) (v .plan) (v .copy) = rw (m .0, m .1) at (w .picks) in
+      whole before book o (w .last) (v .plan) (v .copy)
+      (subst (λ (a : List Event). says (run own a) (second book o) ≡ some (w .last)) q (w .answered))
+      (ap (λ (xs : List Second). xs ++ (w .last ∷ [])) (sym (answers-are own past before)) ∙ w .rows ∙ left-starts u z)
+      (subst (λ (a : List Event). Chosen (latestRun own a) book (u .plan) (u .copy) (v .plan) (v .copy)) q rule)
+      (stands-ready later)
+      (subst (λ (a : List Event). WholeCycles own (v .plan) (v .copy) a es) r c)
+
+  cycles-due : {past es : List Event} → Cycles (crossing own) past es → running past .position ≡ 0 → Due past es
+  cycles-due {past} {es} (cycles.unfinished u) z =
+      unfinished (u .rest) (ap (λ (xs : List Second). xs ++ u .rest) (sym (answers-are own past es)) ∙ u .rows ∙ left-starts (running past) z) (u .more)
+  cycles-due {past} (cycles.whole {before} {second = e} {es} w c) z = put-before past before e es w z (cycles-due c (w .start))
+  cycles-due {past} (cycles.altered a c) z = absurd (a .alters)
+
+pub crossing-cycles : CrossingCycles
+crossing-cycles own n es = cycles-run.whole-cycles (crossing own) (λ past. Unit) (ways own n) [] tt es
+
+pub runs-whole-cycles : RunsWholeCycles
+unfolding freshOf
+runs-whole-cycles own n es = cycles-due own n (crossing-cycles own n es) refl
+
+-- Any 1,799
+
+pub crossing-holds : CrossingHolds
+unfolding freshOf
+crossing-holds own n es = window 900 (crossing own) (λ past. Unit) (ways own n) (λ past _. most own n past) [] tt refl es
+
+holds-whole : (own : ℕ) → (own ≡ all → ⊥) → (es : List Event) (n : ℕ) → HoldsCycle (crossing own) [] es n 900 1799 → HoldsWhole own es n
+holds-whole own a es n h =
+    let M = crossing own in
+    let start = after M [] (h .before) in
+    let u = running own a start in
+    let cycle : answers M start (h .during) ≡ cycleOfPlan (u .plan) (u .copy) = h .whole ∙ left-starts u (h .start) in
+    record {
+      plan = u .plan;
+      rec = u .copy;
+      before = answers M [] (h .before);
+      later = answers M (after M start (h .during)) (h .later);
+      run =
+          sym (answers-are own [] es) ∙ ap (answers M []) (h .run ∙ append-assoc (h .before) (h .during) (h .later))
+          ∙ answers-append M [] (h .before) (h .during ++ h .later) ∙ rw (answers-append M start (h .during) (h .later), cycle);
+      from = h .from;
+      soon = h .soon;
+      within =
+          omega (
+            arith,
+            h .within,
+            ap length (answers-append M [] (h .before) (h .during)),
+            length-append (answers M [] (h .before)) (answers M start (h .during)),
+            ap length cycle,
+          );
+      stands = stands-ready own a start;
+      phases = λ i l. whole-phases (u .copy) i (stands-ready own a start) l;
+    }
+
+pub any-window : AnyWindow
+any-window own a es n l = holds-whole own a es n (crossing-holds own a es n (rw (answers-are own [] es) l))
+
+-- Sets
+
+-- what a second shows comes of the running plan alone
+same-shown : (s t : State) (book : List ℕ) → soundOf s ≡ true → soundOf t ≡ true → s .running ≡ t .running
+    → accepted (secondOf s book) ≡ accepted (secondOf t book)
+unfolding noSecond
+same-shown s t book h g e =
+    elim (ℕ-discrete (length book) bookLen) [
+      | yes n ↦ ap accepted (second-done s book h n) ∙ ap (λ (u : Running). some (shownBy u)) e ∙ sym (ap accepted (second-done t book g n))
+      | no n ↦ ap accepted (second-8 s book h n) ∙ sym (ap accepted (second-8 t book g n))
+    ]
+
+between-running : (s : State) (es : List Event) → NoSecond es → goesOn s es .running ≡ s .running
+between-running s [] q = refl
+between-running s (octet b l book out o ∷ es) q = between-running (octetOf s book out b .answer .state) es q ∙ octet-running s book out b
+between-running s (lineIdle ∷ es) q = between-running (lineIdleOf s .state) es q ∙ ap (λ (t : State). t .running) (idle-left s)
+between-running s (second book o ∷ es) q = absurd q
+
+pub sets-never-alter : SetsNeverAlter
+sets-never-alter own n past between book o q =
+    same-shown (run own (past ++ between)) (run own past) book (sound own n (past ++ between)) (sound own n past)
+    (ap (λ (s : State). s .running) (goes-on-append (freshOf own) past between) ∙ between-running (run own past) between q)

@@ -1,0 +1,24 @@
+-- The one table, by computation.
+use mathlib.Core.Path.{refl}
+use Rattle.octets.specs.ExclusiveOr.{xor, exclusiveOr}
+use Rattle.octets.specs.First.{firstOf}
+use Rattle.diagram.specs.Table as diagram
+use Rattle.frame.specs.Frame.{frontOf, bodyOf, sentOf, cksOf, twice, doubled, written}
+use Rattle.frame.specs.Decoder.{freshDecoder, possibleOf, frontIn, cksIn, stepOf, takenOf}
+use Rattle.message.specs.Layouts.{layouts, layoutAt, known, numberOf, rowsAt, rowsOf}
+use Rattle.message.specs.Values.{zeros, placed, firstOut}
+use Rattle.message.specs.Reader.{noMessage, refusedAs, partOf, rangedOf, readPartOf, readOf}
+use Rattle.message.specs.Writer.{infoAs}
+use Rattle.plan.specs.Standing.{timesDisagree, planDisagree, ranged, timesStand, planStands, readyStands, allZero, standingOf}
+use Rattle.plan.specs.BuiltIn.{padded, builtIn}
+use Rattle.plan.specs.Reading.{same}
+use Rattle.plan.specs.Reporting.{planInfo, reportPlanOf}
+use Rattle.lamps.specs.Rows.{phaseTable, secondsOf}
+use Rattle.controller.specs.State.{freshOf, runningSound, soundOf}
+use Rattle.controller.specs.Handling.{carriedOutReply, refusedReply, runAs, queryRunningAs, handlingOf}
+use Rattle.controller.specs.Calls.{repliedOf, messageOf, doneOf, octetOf}
+use Rattle.controller.specs.Table.{cameOut, stateAfter, rows, due, OneTable}
+
+pub one-table : OneTable
+unfolding xor exclusiveOr firstOf diagram.find diagram.directory diagram.diagramOf diagram.rows diagram.rowNumber diagram.rowOf frontOf bodyOf sentOf cksOf twice doubled written freshDecoder possibleOf frontIn cksIn stepOf takenOf layouts layoutAt known numberOf rowsAt rowsOf zeros placed firstOut noMessage refusedAs partOf rangedOf readPartOf readOf infoAs timesDisagree planDisagree ranged timesStand planStands readyStands allZero standingOf padded builtIn same planInfo reportPlanOf phaseTable secondsOf freshOf runningSound soundOf carriedOutReply refusedReply runAs queryRunningAs handlingOf repliedOf messageOf doneOf octetOf cameOut stateAfter rows due
+one-table = refl

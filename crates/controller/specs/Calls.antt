@@ -1,0 +1,178 @@
+-- 01, "Replies" and "Lamps and seconds": what each call answers, and what it leaves in the state, the book and the output.
+use Prim.Native.Nat.{ℕ, _+_, _%_}
+use mathlib.Core.Path.{_≡_}
+use mathlib.Core.Bool.{Bool, true}
+use mathlib.Core.List.{List, [], _∷_, _++_}
+use lib.Dec.{eqb, ltb, leb}
+use lib.ListN.{length, take}
+use lib.Seq.{sets}
+use Rattle.octets.specs.Choice.{pick}
+use Rattle.octets.specs.Refusal as refusal
+use Rattle.frame.specs.declared.Kind.{Kind}
+use Rattle.frame.specs.declared.Kind.the-variants.{Message, Ack, Nak}
+use Rattle.frame.specs.declared.decoder.Found.{Found}
+use Rattle.frame.specs.declared.decoder.Found.the-variants as found
+use Rattle.frame.specs.declared.decoder.Taken.{Taken}
+use Rattle.frame.specs.Frame.{Frame, message, ack, nak, written}
+use Rattle.frame.specs.Decoder.{takenOf, idledOf}
+use Rattle.message.specs.Reader.{codeIn}
+use Rattle.message.specs.Writer.{infoOf}
+use Rattle.plan.specs.Record.{bookLen, cycleOf}
+use Rattle.lamps.specs.Rows.{rowAt, noRow}
+use Rattle.controller.specs.declared.Running.{Running}
+use Rattle.controller.specs.declared.State.{State}
+use Rattle.controller.specs.declared.Started.{Started}
+use Rattle.controller.specs.declared.Event.{Event}
+use Rattle.controller.specs.declared.Event.the-variants as event
+use Rattle.controller.specs.declared.Answer.{Answer}
+use Rattle.controller.specs.declared.Shown.{Shown}
+use Rattle.controller.specs.State.{all, outputLen, freshOf, soundOf, startedAt, planRecord, readyIn, withDecoder, withRunning, withRequested, withSeq}
+use Rattle.controller.specs.Handling.{Handling, carriedOutCode, refusedCode, handlingOf}
+
+-- The fresh start: "fresh start with address FFFF: a fresh state but for own address FFFF, so unsound"
+
+unfoldable pub startedOf : ℕ → Started
+startedOf own = record { refusal = pick (eqb own all) refusal.startWrong refusal.none; state = freshOf own }
+
+-- The octet call
+
+-- what a call leaves: its answer, the book and the output
+pub record Call : Type 0 where
+  pub answer : Answer
+  pub book : List ℕ
+  pub out : List ℕ
+
+-- the call answered r and left b in the book and o in the output, as it should
+pub record Did (w : Call) (r : Answer) (b o : List ℕ) : Type 0 where
+  pub answer : r ≡ w .answer
+  pub book : b ≡ w .book
+  pub out : o ≡ w .out
+
+-- the octets of frames, one after another
+abbrev pub sent : List Frame → List ℕ
+sent [] = []
+sent (f ∷ fs) = written f ++ sent fs
+
+-- the answer of a call that leaves the state s, names refusal n and its parameter, hands e to the host and writes the frames fs
+abbrev pub answerOf : State → ℕ → ℕ → Event → List Frame → Answer
+answerOf s n parameter e fs = record { state = s; refusal = n; parameter = parameter; event = e; count = length (sent fs) }
+
+abbrev pub callOf : State → ℕ → ℕ → Event → List Frame → List ℕ → List ℕ → Call
+callOf s n parameter e fs book out = record { answer = answerOf s n parameter e fs; book = book; out = sets out 0 (sent fs) }
+
+-- r is the answer of a call that writes the frames fs, with no parameter and no event, and the output is so before and after
+pub record Answers (s : State) (n : ℕ) (fs : List Frame) (before : List ℕ) (r : Answer) (after : List ℕ) : Type 0 where
+  pub answer : r ≡ answerOf s n 0 event.Nothing fs
+  pub out : after ≡ sets before 0 (sent fs)
+
+-- "same state, nothing written"; "Other numbers in a refused call's result are 0."
+abbrev pub quiet : State → ℕ → Answer
+quiet s n = answerOf s n 0 event.Nothing []
+
+abbrev pub refusedCall : State → ℕ → List ℕ → List ℕ → Call
+refusedCall s n book out = callOf s n 0 event.Nothing [] book out
+
+-- "NAK, ERR 01", "NAK, ERR 02", "NAK, ERR 04"
+abbrev pub errOf : ℕ → ℕ
+errOf n = pick (eqb n refusal.lenWrong) 4 n
+
+-- "Refusals 1 to 3 of a message frame write one NAK with the received SEQ, if the received ADDR is ours .. Faulty ACK and NAK
+-- frames are never replied to."
+abbrev pub naks : Kind → ℕ → ℕ → ℕ → ℕ → List Frame
+naks Message own n seq addr = pick (eqb addr own) (nak seq own (errOf n) ∷ []) []
+naks Ack own n seq addr = []
+naks Nak own n seq addr = []
+
+-- "A sound message frame for us writes an ACK with the received SEQ"; "FFFF is for all: carried out, never replied to."
+abbrev pub acks : ℕ → ℕ → ℕ → List Frame
+acks own seq addr = pick (eqb addr own) (ack seq own ∷ []) []
+
+-- is a frame with this address for us, or for all?
+abbrev pub forUs : ℕ → ℕ → Bool
+forUs own addr = pick (eqb addr own) true (eqb addr all)
+
+-- "A received 0F 80 or 0F 81 of any length gets the ACK only (nothing for FFFF) and is no refusal."
+abbrev pub isAnswer : ℕ → Bool
+isAnswer code = pick (eqb code carriedOutCode) true (eqb code refusedCode)
+
+-- "A sound message frame for us writes an ACK with the received SEQ, then one message frame with our next SEQ."
+abbrev pub repliesOf : ℕ → ℕ → ℕ → List ℕ → List Frame
+repliesOf seq ours own info = ack seq own ∷ message ours own info ∷ []
+
+-- "Our SEQ .. grows by one per message frame written, and after 255 comes 0."
+unfoldable pub repliedOf : State → ℕ → ℕ → Handling → List ℕ → Call
+repliedOf s seq addr h out =
+    let t = withRequested s (h .handled .requested) in
+    pick (eqb addr (s .own))
+    (callOf (withSeq t ((s .seq + 1) % 256)) (h .handled .refusal) (h .handled .parameter) event.Nothing
+    (repliesOf seq (s .seq) (s .own) (infoOf (h .handled .reply))) (h .book) out)
+    (callOf t (h .handled .refusal) (h .handled .parameter) event.Nothing [] (h .book) out)
+
+-- a sound message frame; "A sound frame for another address is dropped silently."
+unfoldable pub messageOf : State → ℕ → ℕ → List ℕ → List ℕ → List ℕ → Call
+messageOf s seq addr info book out =
+    pick (forUs (s .own) addr)
+    (pick (isAnswer (codeIn info)) (callOf s refusal.none 0 event.Nothing (acks (s .own) seq addr) book out)
+    (repliedOf s seq addr (handlingOf (s .running) (s .requested) book info) out))
+    (callOf s refusal.none 0 event.Nothing [] book out)
+
+-- "A sound ACK or NAK for us is handed to the host as an event and changes nothing; one to FFFF is dropped."
+abbrev pub eventFor : ℕ → ℕ → Event → Event
+eventFor own addr e = pick (eqb addr own) e event.Nothing
+
+-- by what the octet brought
+abbrev pub broughtOf : Found → State → List ℕ → List ℕ → Call
+broughtOf found.Nothing s book out = callOf s refusal.none 0 event.Nothing [] book out
+broughtOf (found.Refused n k seq addr) s book out = callOf s n 0 event.Nothing (naks k (s .own) n seq addr) book out
+broughtOf (found.Message seq addr n) s book out = messageOf s seq addr (take n (s .decoder .info)) book out
+broughtOf (found.Ack seq addr) s book out = callOf s refusal.none 0 (eventFor (s .own) addr (event.Ack seq)) [] book out
+broughtOf (found.Nak seq addr err) s book out = callOf s refusal.none 0 (eventFor (s .own) addr (event.Nak seq err)) [] book out
+
+unfoldable pub doneOf : State → Taken → List ℕ → List ℕ → Call
+doneOf s t book out = broughtOf (t .found) (withDecoder s (t .decoder)) book out
+
+-- "Order: 7, 8, 9 in a call"
+unfoldable pub octetOf : State → List ℕ → List ℕ → ℕ → Call
+octetOf s book out b =
+    pick (soundOf s)
+    (pick (eqb (length book) bookLen)
+    (pick (leb outputLen (length out)) (doneOf s (takenOf (s .decoder) b) book out)
+    (refusedCall s refusal.outputShort book out))
+    (refusedCall s refusal.bookWrong book out))
+    (refusedCall s refusal.stateUnsound book out)
+
+-- The line-idle call: "returns the decoder to idle and changes nothing else"
+
+unfoldable pub lineIdleOf : State → Answer
+lineIdleOf s =
+    pick (soundOf s) (quiet (withDecoder s (idledOf (s .decoder) .decoder)) refusal.none)
+    (quiet s refusal.stateUnsound)
+
+-- The second call
+
+-- "the requested one if it is plan 0 or ready in the book; if not, the running plan repeats"
+unfoldable pub pickedOf : Running → ℕ → List ℕ → Running
+pickedOf u requested book =
+    pick (readyIn book requested) (startedAt requested (planRecord book requested))
+    (startedAt (u .plan) (u .copy))
+
+-- "then moves on. The call that answers a cycle's last second also picks the next plan"
+unfoldable pub movedOn : Running → ℕ → List ℕ → Running
+movedOn u requested book =
+    pick (ltb (u .position + 1) (cycleOf (u .copy))) (record { plan = u .plan; position = u .position + 1; copy = u .copy })
+    (pickedOf u requested book)
+
+unfoldable pub noSecond : State → ℕ → Shown
+noSecond s n = record { state = s; refusal = n; plan = 0; row = noRow }
+
+-- "A second call answers the current plan, step, seconds left in the step (this one counted) and both words"
+abbrev pub secondShown : State → List ℕ → Shown
+secondShown s book =
+    let u = s .running in
+    record { state = withRunning s (movedOn u (s .requested) book); refusal = refusal.none; plan = u .plan; row = rowAt (u .copy) (u .position) }
+
+unfoldable pub secondOf : State → List ℕ → Shown
+secondOf s book =
+    pick (soundOf s)
+    (pick (eqb (length book) bookLen) (secondShown s book) (noSecond s refusal.bookWrong))
+    (noSecond s refusal.stateUnsound)

@@ -1,0 +1,175 @@
+-- Demand 2: "Frames and messages are read and written as document 01 says .. A plan is stored exactly when it passes the listed
+-- checks; otherwise the first failed check is named. Lamps follow the step diagram." What an octet brings, in frames received and
+-- frames written; what a message does; what a second shows.
+use Prim.Native.Nat.{ℕ, _+_, _%_, _≤_}
+use mathlib.Core.Path.{_≡_}
+use mathlib.Core.Bool.{true}
+use mathlib.Core.Logic.{_⊎_}
+use mathlib.Core.List.{List, [], _∷_}
+use lib.ListN.{length, take}
+use Rattle.octets.specs.Octet.{Octets}
+use Rattle.octets.specs.Refusal as refusal
+use Rattle.octets.specs.Word.{highOf, lowOf}
+use Rattle.frame.specs.declared.Kind.{Kind}
+use Rattle.frame.specs.declared.Kind.the-variants.{Message}
+use Rattle.frame.specs.Frame.{Frame, message, ack, nak}
+use Rattle.frame.specs.Decoder.{takenOf}
+use Rattle.frame.specs.Run.{Outcome, nothing, refused, sound, outcomeOf}
+use Rattle.message.specs.Names.{planAt}
+use Rattle.message.specs.Reader.{codeIn, bodyIn, readOf}
+use Rattle.plan.specs.Record.{bookLen, orderOf, Ready}
+use Rattle.plan.specs.Promises.{HasTimes, Fit14, Fit15}
+use Rattle.plan.specs.Reading.{recordAt}
+use Rattle.plan.specs.Setting.{setTimesCode, setPlanCode, setTimesOf, setPlanOf, planIn}
+use Rattle.plan.specs.Reporting.{reportPlanCode, reportRunningCode, timesInfo, planInfo}
+use Rattle.lamps.specs.Rows.{secondsOf, stepsOf}
+use Rattle.lamps.specs.Promises.{Due}
+use Rattle.controller.specs.declared.State.{State}
+use Rattle.controller.specs.declared.Event.the-variants as event
+use Rattle.controller.specs.State.{all, outputLen, soundOf, planRecord, withDecoder}
+use Rattle.controller.specs.Handling.{runCode, queryTimesCode, queryPlanCode, queryRunningCode}
+use Rattle.controller.specs.Calls.{Call, sent, octetOf, secondOf}
+
+-- What is written
+
+-- the call wrote these frames, and counts them
+pub record Wrote (w : Call) (fs : List Frame) : Type 0 where
+  pub count : w .answer .count ≡ length (sent fs)
+  pub octets : take (w .answer .count) (w .out) ≡ sent fs
+
+-- "NAK, ERR 01", "NAK, ERR 02", "NAK, ERR 04": the ERR that answers a refusal
+pub data Err : ℕ → ℕ → Type 0 where
+  cks : Err refusal.cksWrong 0x01
+  closing : Err refusal.closingWrong 0x02
+  len : Err refusal.lenWrong 0x04
+
+-- "0F 80 or 0F 81"
+abbrev pub IsAnswer : List ℕ → Type 0
+IsAnswer info = (codeIn info ≡ 0x0F80) ⊎ (codeIn info ≡ 0x0F81)
+
+-- nothing but the decoder has changed: the book is as it came
+pub record OnlyTaken (s : State) (before : List ℕ) (b : ℕ) (w : Call) : Type 0 where
+  pub state : w .answer .state ≡ withDecoder s (takenOf (s .decoder) b .decoder)
+  pub book : w .book ≡ before
+
+-- an octet call that is done, by what the octet brought, `o`
+pub record RepliesSo (s : State) (book : List ℕ) (b : ℕ) (o : Outcome) (w : Call) : Type 0 where
+  pub quiet : o ≡ nothing → Wrote w [] × (w .answer .refusal ≡ refusal.none) × OnlyTaken s book b w × (w .answer .event ≡ event.Nothing)
+  -- "Refusals 1 to 3 of a message frame write one NAK with the received SEQ, if the received ADDR is ours"
+  pub nakForUs : (n err seq : ℕ) → Err n err → o ≡ refused n Message seq (s .own) → Wrote w (nak seq (s .own) err ∷ [])
+  -- "Faulty ACK and NAK frames are never replied to."
+  pub noNak : (n : ℕ) (k : Kind) (seq addr : ℕ) → o ≡ refused n k seq addr → ((k ≡ Message → ⊥) ⊎ (addr ≡ s .own → ⊥)) → Wrote w []
+  -- "the result names the refusal for any address"
+  pub named : (n : ℕ) (k : Kind) (seq addr : ℕ) → o ≡ refused n k seq addr → (w .answer .refusal ≡ n) × OnlyTaken s book b w × (w .answer .event ≡ event.Nothing)
+  -- "A received 0F 80 or 0F 81 of any length gets the ACK only (nothing for FFFF) and is no refusal."
+  pub ackOnly : (seq : ℕ) (info : List ℕ) → o ≡ sound (message seq (s .own) info) → IsAnswer info
+      → Wrote w (ack seq (s .own) ∷ []) × (w .answer .refusal ≡ refusal.none) × OnlyTaken s book b w
+  -- "A sound message frame for us writes an ACK with the received SEQ, then one message frame with our next SEQ .. grows by one per
+  -- message frame written, and after 255 comes 0."
+  pub replied : (seq : ℕ) (info : List ℕ) → o ≡ sound (message seq (s .own) info) → (IsAnswer info → ⊥)
+      → (reply : List ℕ) × Wrote w (ack seq (s .own) ∷ message (s .seq) (s .own) reply ∷ []) × (w .answer .state .seq ≡ (s .seq + 1) % 256)
+  -- "FFFF is for all: carried out, never replied to."
+  pub forAll : (seq : ℕ) (info : List ℕ) → o ≡ sound (message seq all info) → Wrote w [] × (w .answer .state .seq ≡ s .seq)
+  -- "A sound frame for another address is dropped silently."
+  pub dropped : (seq addr : ℕ) (info : List ℕ) → o ≡ sound (message seq addr info) → (addr ≡ s .own → ⊥) → (addr ≡ all → ⊥)
+      → Wrote w [] × (w .answer .refusal ≡ refusal.none) × OnlyTaken s book b w
+  -- no message is an event
+  pub noEvent : (seq addr : ℕ) (info : List ℕ) → o ≡ sound (message seq addr info) → w .answer .event ≡ event.Nothing
+  -- "A sound ACK or NAK for us is handed to the host as an event and changes nothing; one to FFFF is dropped."
+  pub ackEvent : (seq : ℕ) → o ≡ sound (ack seq (s .own)) → (w .answer .event ≡ event.Ack seq)
+  pub nakEvent : (seq err : ℕ) → o ≡ sound (nak seq (s .own) err) → (w .answer .event ≡ event.Nak seq err)
+  pub ackQuiet : (seq addr : ℕ) → o ≡ sound (ack seq addr) → Wrote w [] × (w .answer .refusal ≡ refusal.none) × OnlyTaken s book b w
+  pub nakQuiet : (seq addr err : ℕ) → o ≡ sound (nak seq addr err) → Wrote w [] × (w .answer .refusal ≡ refusal.none) × OnlyTaken s book b w
+  pub ackOther : (seq addr : ℕ) → o ≡ sound (ack seq addr) → (addr ≡ s .own → ⊥) → w .answer .event ≡ event.Nothing
+  pub nakOther : (seq addr err : ℕ) → o ≡ sound (nak seq addr err) → (addr ≡ s .own → ⊥) → w .answer .event ≡ event.Nothing
+
+abbrev pub Replies : Type 0
+Replies =
+    (s : State) (book out : List ℕ) (b : ℕ) → soundOf s ≡ true → length book ≡ bookLen → outputLen ≤ length out
+    → RepliesSo s book b (outcomeOf (takenOf (s .decoder) b)) (octetOf s book out b)
+
+-- What a message does
+
+-- the INFO of the replies 0F 80 and 0F 81
+abbrev pub info80 : ℕ → List ℕ
+info80 code = 0x0F ∷ 0x80 ∷ highOf code ∷ lowOf code ∷ []
+
+abbrev pub info81 : ℕ → ℕ → ℕ → List ℕ
+info81 code n parameter = 0x0F ∷ 0x81 ∷ highOf code ∷ lowOf code ∷ n ∷ parameter ∷ []
+
+-- The call names refusal n and its parameter, and where the message was for us its reply is this INFO.
+pub record Answers (s : State) (seq addr n m : ℕ) (info : List ℕ) (w : Call) : Type 0 where
+  pub names : w .answer .refusal ≡ n
+  pub parameter : w .answer .parameter ≡ m
+  pub reply : addr ≡ s .own → Wrote w (ack seq (s .own) ∷ message (s .seq) (s .own) info ∷ [])
+
+-- "carried out": 0F 80, the plan p then requested, and the book then so
+pub record CarriedOut (s : State) (seq addr p : ℕ) (after info : List ℕ) (w : Call) : Type 0 where
+  pub answers : Answers s seq addr refusal.none 0 (info80 (codeIn info)) w
+  pub book : w .book ≡ after
+  pub requested : w .answer .state .requested ≡ p
+
+-- a query answered with this INFO; book and request are as they came
+pub record Reported (s : State) (seq addr : ℕ) (before info : List ℕ) (w : Call) : Type 0 where
+  pub answers : Answers s seq addr refusal.none 0 info w
+  pub book : w .book ≡ before
+  pub requested : w .answer .state .requested ≡ s .requested
+
+-- "0F 81": the refusal, and its parameter; the book is as it came
+pub record Refused (s : State) (seq addr n m : ℕ) (before info : List ℕ) (w : Call) : Type 0 where
+  pub answers : Answers s seq addr n m (info81 (codeIn info) n m) w
+  pub book : w .book ≡ before
+  pub requested : w .answer .state .requested ≡ s .requested
+
+-- a sound message frame for us or for all, in an octet call that is done
+pub record HandledSo (s : State) (seq addr : ℕ) (book info : List ℕ) (w : Call) : Type 0 where
+  -- 5F 14: stored and replied to with 0F 80 exactly when the listed checks pass; else refused by the first that fails
+  pub times : codeIn info ≡ setTimesCode → Fit14 (bodyIn info) → CarriedOut s seq addr (s .requested) (setTimesOf book info .book) info w
+  pub noTimes : codeIn info ≡ setTimesCode → (Fit14 (bodyIn info) → ⊥)
+      → Refused s seq addr (setTimesOf book info .answer .refusal) (setTimesOf book info .answer .field) book info w
+  -- 5F 15
+  pub plan : codeIn info ≡ setPlanCode → Fit15 (recordAt book (planIn (bodyIn info))) (bodyIn info) → CarriedOut s seq addr (s .requested) (setPlanOf book info .book) info w
+  pub noPlan : codeIn info ≡ setPlanCode → (Fit15 (recordAt book (planIn (bodyIn info))) (bodyIn info) → ⊥)
+      → Refused s seq addr (setPlanOf book info .answer .refusal) (setPlanOf book info .answer .field) book info w
+  -- what the message reader refuses of the others
+  pub unread : (codeIn info ≡ runCode) ⊎ ((codeIn info ≡ queryTimesCode) ⊎ ((codeIn info ≡ queryPlanCode) ⊎ (codeIn info ≡ queryRunningCode)))
+      → (readOf info .refusal ≡ refusal.none → ⊥) → Refused s seq addr (readOf info .refusal) (readOf info .field) book info w
+  -- 5F 18: "notes the requested plan", 13 for one not ready
+  pub run : codeIn info ≡ runCode → readOf info .refusal ≡ refusal.none → Ready (planRecord book (planIn (bodyIn info)))
+      → CarriedOut s seq addr (planIn (bodyIn info)) book info w
+  pub noRun : codeIn info ≡ runCode → readOf info .refusal ≡ refusal.none → (Ready (planRecord book (planIn (bodyIn info))) → ⊥)
+      → Refused s seq addr refusal.notReady planAt book info w
+  -- 5F 44: the report 5F C4, 13 for an empty plan
+  pub queryTimes : codeIn info ≡ queryTimesCode → readOf info .refusal ≡ refusal.none → HasTimes (planRecord book (planIn (bodyIn info)))
+      → Reported s seq addr book (timesInfo (planRecord book (planIn (bodyIn info))) (planIn (bodyIn info))) w
+  pub noTimesYet : codeIn info ≡ queryTimesCode → readOf info .refusal ≡ refusal.none → (HasTimes (planRecord book (planIn (bodyIn info))) → ⊥)
+      → Refused s seq addr refusal.notReady planAt book info w
+  -- 5F 45: the report 5F C5, 13 for one not ready
+  pub queryPlan : codeIn info ≡ queryPlanCode → readOf info .refusal ≡ refusal.none → Ready (planRecord book (planIn (bodyIn info)))
+      → Reported s seq addr book (planInfo (planRecord book (planIn (bodyIn info))) (planIn (bodyIn info)) reportPlanCode) w
+  pub noPlanYet : codeIn info ≡ queryPlanCode → readOf info .refusal ≡ refusal.none → (Ready (planRecord book (planIn (bodyIn info))) → ⊥)
+      → Refused s seq addr refusal.notReady planAt book info w
+  -- 5F 48: the report 5F C8 of the running copy
+  pub queryRunning : codeIn info ≡ queryRunningCode → readOf info .refusal ≡ refusal.none
+      → Reported s seq addr book (planInfo (s .running .copy) (s .running .plan) reportRunningCode) w
+  -- "code not handled": 10, parameter 0; "a report sent to it is refusal 10"
+  pub unknown : (codeIn info ≡ setTimesCode → ⊥) → (codeIn info ≡ setPlanCode → ⊥) → (codeIn info ≡ runCode → ⊥) → (codeIn info ≡ queryTimesCode → ⊥)
+      → (codeIn info ≡ queryPlanCode → ⊥) → (codeIn info ≡ queryRunningCode → ⊥) → Refused s seq addr refusal.codeUnknown 0 book info w
+
+abbrev pub Handles : Type 0
+Handles =
+    (s : State) (book out : List ℕ) (b seq addr : ℕ) (info : List ℕ) → soundOf s ≡ true → length book ≡ bookLen → outputLen ≤ length out
+    → Octets book → Octets (s .running .copy)
+    → outcomeOf (takenOf (s .decoder) b) ≡ sound (message seq addr info) → (addr ≡ s .own) ⊎ (addr ≡ all) → (IsAnswer info → ⊥)
+    → HandledSo s seq addr book info (octetOf s book out b)
+
+-- What a second shows
+
+-- "A second call answers the current plan, step, seconds left in the step (this one counted) and both words", by the step table
+-- of the running copy; nothing but the running plan moves
+pub record ShowsStep (s : State) (book : List ℕ) : Type 0 where
+  pub plan : secondOf s book .plan ≡ s .running .plan
+  pub row : Due (secondsOf (s .running .copy)) (orderOf (s .running .copy)) (stepsOf (s .running .copy)) (s .running .position) (secondOf s book .row)
+
+abbrev pub SecondsShow : Type 0
+SecondsShow = (s : State) (book : List ℕ) → soundOf s ≡ true → length book ≡ bookLen → Octets (s .running .copy) → ShowsStep s book

@@ -1,0 +1,233 @@
+-- Demand 3: "From a fresh start, states handed back as given, octets and seconds mixed at will: the accepted seconds are whole
+-- cycles one after another, the last perhaps unfinished. The first is plan 0; each later one is chosen as the last second of the
+-- cycle before it is answered: the plan of the latest run message carried out (0 if none) if it is plan 0 or ready in the book,
+-- else the plan just run. So any 1,799 accepted seconds in a row hold a whole cycle, every phase with its full green, yellow and
+-- all-red."
+use Prim.Native.Nat.{ℕ, _+_, _≤_, _<_}
+use mathlib.Core.Path.{_≡_}
+use mathlib.Core.Bool.{Bool}
+use mathlib.Core.List.{List, [], _∷_, _++_, map}
+use mathlib.Core.Option.{Option, none, some}
+use lib.Dec.{eqb, leb}
+use lib.ListN.{length, drop}
+use Rattle.octets.specs.Choice.{pick, both}
+use Rattle.octets.specs.Octet.{Octets}
+use Rattle.octets.specs.Refusal as refusal
+use Rattle.frame.specs.declared.decoder.Decoder.{Decoder}
+use Rattle.frame.specs.declared.decoder.Taken.{Taken}
+use Rattle.frame.specs.Frame.{message, ack, nak}
+use Rattle.frame.specs.Decoder.{freshDecoder, takenOf, idledOf}
+use Rattle.frame.specs.Run.{Outcome, nothing, refused, sound, outcomeOf}
+use Rattle.message.specs.Reader.{codeIn, bodyIn, readOf}
+use Rattle.plan.specs.Record.{bookLen, kOf, Ready}
+use Rattle.plan.specs.BuiltIn.{builtIn}
+use Rattle.plan.specs.Reading.{recordAt}
+use Rattle.plan.specs.Setting.{planIn}
+use Rattle.lamps.specs.declared.Row.{Row}
+use Rattle.lamps.specs.Rows.{rowsOf}
+use Rattle.lamps.specs.Promises.{PhaseWhole}
+use Rattle.cycles.specs.Machine.{Machine, told, answers}
+use Rattle.cycles.specs.Cycles.{Cycles, HoldsCycle}
+use Rattle.controller.specs.declared.Running.{Running}
+use Rattle.controller.specs.declared.State.{State}
+use Rattle.controller.specs.declared.Shown.{Shown}
+use Rattle.controller.specs.State.{all, outputLen, freshOf, readyIn}
+use Rattle.controller.specs.Handling.{runCode}
+use Rattle.controller.specs.Calls.{forUs, octetOf, lineIdleOf, secondOf}
+
+-- A run
+
+-- a call with all that is lent to it, of octets
+pub data Event : Type 0 where
+  octet : (b : ℕ) → b < 256 → (book out : List ℕ) → Octets book → Event
+  lineIdle : Event
+  second : (book : List ℕ) → Octets book → Event
+
+-- "states handed back as given": the state after the events, from a fresh start
+abbrev pub next : State → Event → State
+next s (octet b _ book out _) = octetOf s book out b .answer .state
+next s lineIdle = lineIdleOf s .state
+next s (second book _) = secondOf s book .state
+
+abbrev pub goesOn : State → List Event → State
+goesOn s [] = s
+goesOn s (e ∷ es) = goesOn (next s e) es
+
+abbrev pub run : ℕ → List Event → State
+run own es = goesOn (freshOf own) es
+
+-- what an accepted second shows: the plan, the step, the seconds left and both words
+pub record Second : Type 0 where
+  pub plan : ℕ
+  pub row : Row
+
+abbrev pub secondOfPlan : ℕ → Row → Second
+secondOfPlan p r = record { plan = p; row = r }
+
+abbrev pub accepted : Shown → Option Second
+accepted a = pick (eqb (a .refusal) refusal.none) (some (secondOfPlan (a .plan) (a .row))) none
+
+abbrev pub says : State → Event → Option Second
+says s (octet b _ book out _) = none
+says s lineIdle = none
+says s (second book _) = accepted (secondOf s book)
+
+abbrev pub saysOn : State → List Event → List Second
+saysOn s [] = []
+saysOn s (e ∷ es) = told (says s e) (saysOn (next s e) es)
+
+-- the accepted seconds of the events es, after those of `past`
+abbrev pub seconds : ℕ → List Event → List Event → List Second
+seconds own past es = saysOn (run own past) es
+
+-- "The latest run message carried out", told from the octets handed in
+
+-- what was heard so far: where the decoder is, and the plan of the latest run message carried out, 0 if none
+pub record Heard : Type 0 where
+  pub decoder : Decoder
+  pub latest : ℕ
+
+-- a sound message frame, for us or for all, with a 5F 18 that is not refused: its plan is the latest
+abbrev pub runIn : ℕ → List ℕ → ℕ → List ℕ → Bool
+runIn own book addr info =
+    both (forUs own addr)
+    (both (eqb (codeIn info) runCode)
+    (both (eqb (readOf info .refusal) refusal.none)
+    (readyIn book (planIn (bodyIn info)))))
+
+abbrev pub latestAfter : ℕ → List ℕ → ℕ → Outcome → ℕ
+latestAfter own book latest nothing = latest
+latestAfter own book latest (refused n k seq addr) = latest
+latestAfter own book latest (sound (message seq addr info)) = pick (runIn own book addr info) (planIn (bodyIn info)) latest
+latestAfter own book latest (sound (ack seq addr)) = latest
+latestAfter own book latest (sound (nak seq addr err)) = latest
+
+abbrev pub hearsOctet : ℕ → List ℕ → Heard → Taken → Heard
+hearsOctet own book h t = record { decoder = t .decoder; latest = latestAfter own book (h .latest) (outcomeOf t) }
+
+-- an octet is taken where book and output are long enough; a line-idle call returns the decoder to idle
+abbrev pub hears : ℕ → Heard → Event → Heard
+hears own h (octet b _ book out _) =
+    pick (both (eqb (length book) bookLen) (leb outputLen (length out))) (hearsOctet own book h (takenOf (h .decoder) b)) h
+hears own h lineIdle = record { decoder = idledOf (h .decoder) .decoder; latest = h .latest }
+hears own h (second book _) = h
+
+abbrev pub hearsOn : ℕ → Heard → List Event → Heard
+hearsOn own h [] = h
+hearsOn own h (e ∷ es) = hearsOn own (hears own h e) es
+
+abbrev pub latestRun : ℕ → List Event → ℕ
+latestRun own es = hearsOn own (record { decoder = freshDecoder; latest = 0 }) es .latest
+
+-- it is what the state keeps
+abbrev pub LatestKept : Type 0
+LatestKept = (own : ℕ) → (own ≡ all → ⊥) → (es : List Event) → run own es .requested ≡ latestRun own es
+
+-- Whole cycles
+
+-- the seconds of a whole cycle of plan p with this record
+abbrev pub cycleOfPlan : ℕ → List ℕ → List Second
+cycleOfPlan p rec = map (secondOfPlan p) (rowsOf rec)
+
+-- plan p′ with record rec′ runs next: "the plan of the latest run message carried out (0 if none) if it is plan 0 or ready in
+-- the book, else the plan just run"
+pub record Chosen (latest : ℕ) (book : List ℕ) (p : ℕ) (rec : List ℕ) (p′ : ℕ) (rec′ : List ℕ) : Type 0 where
+  pub zero : latest ≡ 0 → (p′ ≡ 0) × (rec′ ≡ builtIn)
+  pub ready : (latest ≡ 0 → ⊥) → Ready (recordAt book latest) → (p′ ≡ latest) × (rec′ ≡ recordAt book latest)
+  pub stays : (latest ≡ 0 → ⊥) → (Ready (recordAt book latest) → ⊥) → (p′ ≡ p) × (rec′ ≡ rec)
+
+-- the rule leaves one choice
+abbrev pub OneChoice : Type 0
+OneChoice =
+    (latest : ℕ) (book : List ℕ) (p : ℕ) (rec : List ℕ) (p₁ p₂ : ℕ) (rec₁ rec₂ : List ℕ) → Octets book
+    → Chosen latest book p rec p₁ rec₁ → Chosen latest book p rec p₂ rec₂ → (p₁ ≡ p₂) × (rec₁ ≡ rec₂)
+
+-- After the events `past` a cycle of plan p with record rec is due; the accepted seconds of the events es are that cycle and
+-- others after it, one by one.
+pub data WholeCycles (own : ℕ) : ℕ → List ℕ → List Event → List Event → Type 0 where
+  -- "the last perhaps unfinished": rows of it are still to come
+  unfinished : {p : ℕ} {rec : List ℕ} {past es : List Event} (rest : List Second) → seconds own past es ++ rest ≡ cycleOfPlan p rec → 0 < length rest
+      → WholeCycles own p rec past es
+  -- `before` and then the second call with `book` answer the whole cycle, that call its last second; it chooses the next
+  whole : {p : ℕ} {rec : List ℕ} {past es : List Event} (before : List Event) (book : List ℕ) (o : Octets book) (last : Second) (p′ : ℕ) (rec′ : List ℕ)
+      → says (run own (past ++ before)) (second book o) ≡ some last
+      → seconds own past before ++ (last ∷ []) ≡ cycleOfPlan p rec
+      → Chosen (latestRun own (past ++ before)) book p rec p′ rec′ → Ready rec′
+      → WholeCycles own p′ rec′ (past ++ (before ++ (second book o ∷ []))) es
+      → WholeCycles own p rec past (before ++ (second book o ∷ es))
+
+-- "The first is plan 0"
+abbrev pub RunsWholeCycles : Type 0
+RunsWholeCycles = (own : ℕ) → (own ≡ all → ⊥) → (es : List Event) → WholeCycles own 0 builtIn [] es
+
+-- Any 1,799
+
+-- of the accepted seconds of the run, counted from 0, those from number n on hold a whole cycle, which begins within the first
+-- 900 and ends within the first 1,799; each of its phases stands whole in it
+pub record HoldsWhole (own : ℕ) (es : List Event) (n : ℕ) : Type 0 where
+  pub plan : ℕ
+  pub rec : List ℕ
+  pub before : List Second
+  pub later : List Second
+  pub run : seconds own [] es ≡ before ++ (cycleOfPlan plan rec ++ later)
+  pub from : n ≤ length before
+  pub soon : length before < n + 900
+  pub within : length before + length (cycleOfPlan plan rec) ≤ n + 1799
+  pub stands : Ready rec
+  pub phases : (i : ℕ) → i < kOf rec → PhaseWhole rec i
+
+abbrev pub AnyWindow : Type 0
+AnyWindow = (own : ℕ) → (own ≡ all → ⊥) → (es : List Event) (n : ℕ) → n + 1799 ≤ length (seconds own [] es) → HoldsWhole own es n
+
+-- Sets
+
+-- no second among the events
+abbrev pub NoSecond : List Event → Type 0
+NoSecond [] = Unit
+NoSecond (octet b _ book out _ ∷ es) = NoSecond es
+NoSecond (lineIdle ∷ es) = NoSecond es
+NoSecond (second book _ ∷ es) = ⊥
+
+-- "a set never alters a cycle under way": whatever octets come between two seconds, the second shows what it would have shown
+-- without them
+abbrev pub SetsNeverAlter : Type 0
+SetsNeverAlter =
+    (own : ℕ) → (own ≡ all → ⊥) → (past between : List Event) (book : List ℕ) (o : Octets book) → NoSecond between
+    → says (run own (past ++ between)) (second book o) ≡ says (run own past) (second book o)
+
+-- The controller as a machine of the crate `cycles`, from whose theorems whole cycles and the window follow
+
+-- what is left of the running cycle
+unfoldable pub leftOf : Running → List Second
+leftOf u = map (secondOfPlan (u .plan)) (drop (u .position) (rowsOf (u .copy)))
+
+-- the rule at the call that answers a cycle's last second, after the events `past`; `later` are these and that call
+abbrev pub Picks : ℕ → List Event → Event → List Event → Type 0
+Picks own past (octet b _ book out _) later = ⊥
+Picks own past lineIdle later = ⊥
+Picks own past (second book _) later =
+    let u = run own past .running in
+    let v = run own later .running in
+    Chosen (latestRun own past) book (u .plan) (u .copy) (v .plan) (v .copy)
+
+-- its states are the events so far; no event alters a cycle under way
+abbrev pub crossing : ℕ → Machine
+crossing own = record {
+  State = List Event;
+  Event = Event;
+  Row = Second;
+  next = λ past e. past ++ (e ∷ []);
+  says = λ past e. says (run own past) e;
+  left = λ past. leftOf (run own past .running);
+  Start = λ past. run own past .running .position ≡ 0;
+  Picks = Picks own;
+  Alters = λ past e later. ⊥;
+}
+
+abbrev pub CrossingCycles : Type 0
+CrossingCycles = (own : ℕ) → (own ≡ all → ⊥) → (es : List Event) → Cycles (crossing own) [] es
+
+abbrev pub CrossingHolds : Type 0
+CrossingHolds =
+    (own : ℕ) → (own ≡ all → ⊥) → (es : List Event) (n : ℕ) → n + 1799 ≤ length (answers (crossing own) [] es)
+    → HoldsCycle (crossing own) [] es n 900 1799

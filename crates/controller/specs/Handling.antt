@@ -1,0 +1,131 @@
+-- 01, "Messages" and "Plan book": what the controller does with a message, and the message that replies to it.
+--
+-- "The controller handles 14, 15, 18, 44, 45, 48, 0F 80 and 0F 81; a report sent to it is refusal 10. Sets and 18 are replied to
+-- with 0F 80, queries with C4, C5, C8."
+use Prim.Native.Nat.{ℕ, _<_}
+use mathlib.Core.Path.{_≡_}
+use mathlib.Core.Bool.{true}
+use mathlib.Core.List.{List, [], _∷_}
+use lib.Dec.{eqb}
+use Rattle.octets.specs.Choice.{pick}
+use Rattle.octets.specs.Refusal as refusal
+use Rattle.message.specs.declared.Message.{Message}
+use Rattle.message.specs.Names.{planAt}
+use Rattle.message.specs.Reader.{codeIn, bodyIn, readOf}
+use Rattle.message.specs.Values.{placed}
+use Rattle.message.specs.Writer.{writable}
+use Rattle.plan.specs.declared.setting.Answered.{Answered}
+use Rattle.plan.specs.Record.{empty}
+use Rattle.plan.specs.Standing.{standingOf}
+use Rattle.plan.specs.Setting.{Setting, setTimesCode, setPlanCode, setTimesOf, setPlanOf, planIn}
+use Rattle.plan.specs.Reporting.{reportPlanCode, reportRunningCode, reportTimesOf, reportPlanOf}
+use Rattle.controller.specs.declared.Running.{Running}
+use Rattle.controller.specs.declared.handling.Handled.{Handled}
+use Rattle.controller.specs.State.{planRecord, readyIn}
+
+abbrev pub carriedOutCode : ℕ
+carriedOutCode = 0x0F80
+
+abbrev pub refusedCode : ℕ
+refusedCode = 0x0F81
+
+abbrev pub runCode : ℕ
+runCode = 0x5F18
+
+abbrev pub queryTimesCode : ℕ
+queryTimesCode = 0x5F44
+
+abbrev pub queryPlanCode : ℕ
+queryPlanCode = 0x5F45
+
+abbrev pub queryRunningCode : ℕ
+queryRunningCode = 0x5F48
+
+-- The replies: "0F 80 | code(2)", "0F 81 | code(2), error number, parameter number"
+unfoldable pub carriedOutReply : ℕ → Message
+carriedOutReply code = record { code = carriedOutCode; fields = 1; values = placed (code ∷ []) }
+
+unfoldable pub refusedReply : ℕ → ℕ → ℕ → Message
+refusedReply code n parameter = record { code = refusedCode; fields = 3; values = placed (code ∷ n ∷ parameter ∷ []) }
+
+-- What a message brings: the refusal and its parameter, the plan then requested, the reply, and the book
+
+pub record Handling : Type 0 where
+  pub handled : Handled
+  pub book : List ℕ
+
+-- the message was handled as it should, and b is left in the book
+pub record Handles (w : Handling) (h : Handled) (b : List ℕ) : Type 0 where
+  pub handled : h ≡ w .handled
+  pub book : b ≡ w .book
+
+-- its reply can be written, refusal and parameter being octets
+abbrev pub Sendable : Handled → Type 0
+Sendable h = h .refusal < 256 → h .parameter < 256 → writable (h .reply) ≡ true
+
+abbrev pub accepted : ℕ → Message → Handled
+accepted requested reply = record { refusal = refusal.none; parameter = 0; requested = requested; reply = reply }
+
+abbrev pub refusedAs : ℕ → ℕ → ℕ → ℕ → Handled
+refusedAs code requested n parameter = record { refusal = n; parameter = parameter; requested = requested; reply = refusedReply code n parameter }
+
+-- 5F 14 and 5F 15: what the set answered
+unfoldable pub setAs : ℕ → ℕ → Answered → Handled
+setAs code requested a =
+    pick (eqb (a .refusal) refusal.none) (accepted requested (carriedOutReply code))
+    (refusedAs code requested (a .refusal) (a .field))
+
+-- what the message reader refuses is refused so; else h
+abbrev pub unlessUnread : ℕ → ℕ → List ℕ → Handled → Handled
+unlessUnread code requested info h =
+    pick (eqb (readOf info .refusal) refusal.none) h
+    (refusedAs code requested (readOf info .refusal) (readOf info .field))
+
+-- "5F 18 notes the requested plan. Refused 13: .. 5F 18 of one not ready."
+unfoldable pub runAs : ℕ → ℕ → List ℕ → List ℕ → Handled
+runAs code requested book info =
+    let p = planIn (bodyIn info) in
+    unlessUnread code requested info
+    (pick (readyIn book p) (accepted p (carriedOutReply code))
+    (refusedAs code requested refusal.notReady planAt))
+
+-- "Refused 13: 5F 44 of an empty plan"
+unfoldable pub queryTimesAs : ℕ → ℕ → List ℕ → List ℕ → Handled
+queryTimesAs code requested book info =
+    let p = planIn (bodyIn info) in
+    unlessUnread code requested info
+    (pick (eqb (standingOf (planRecord book p)) empty) (refusedAs code requested refusal.notReady planAt)
+    (accepted requested (reportTimesOf (planRecord book p) p)))
+
+-- "5F 45 .. of one not ready"
+unfoldable pub queryPlanAs : ℕ → ℕ → List ℕ → List ℕ → Handled
+queryPlanAs code requested book info =
+    let p = planIn (bodyIn info) in
+    unlessUnread code requested info
+    (pick (readyIn book p) (accepted requested (reportPlanOf (planRecord book p) p reportPlanCode))
+    (refusedAs code requested refusal.notReady planAt))
+
+-- "5F 48 query running plan": the copy that runs
+unfoldable pub queryRunningAs : ℕ → ℕ → Running → List ℕ → Handled
+queryRunningAs code requested u info =
+    unlessUnread code requested info
+    (accepted requested (reportPlanOf (u .copy) (u .plan) reportRunningCode))
+
+-- a message that leaves the book, and a set
+abbrev pub reads : Handled → List ℕ → Handling
+reads h book = record { handled = h; book = book }
+
+abbrev pub sets : ℕ → ℕ → Setting → Handling
+sets code requested w = record { handled = setAs code requested (w .answer); book = w .book }
+
+-- by the code; "code not handled" is refusal 10
+unfoldable pub handlingOf : Running → ℕ → List ℕ → List ℕ → Handling
+handlingOf u requested book info =
+    let code = codeIn info in
+    pick (eqb code setTimesCode) (sets code requested (setTimesOf book info))
+    (pick (eqb code setPlanCode) (sets code requested (setPlanOf book info))
+    (pick (eqb code runCode) (reads (runAs code requested book info) book)
+    (pick (eqb code queryTimesCode) (reads (queryTimesAs code requested book info) book)
+    (pick (eqb code queryPlanCode) (reads (queryPlanAs code requested book info) book)
+    (pick (eqb code queryRunningCode) (reads (queryRunningAs code requested u info) book)
+    (reads (refusedAs code requested refusal.codeUnknown 0) book))))))

@@ -1,0 +1,7 @@
+pub mod State
+pub mod Handling
+pub mod Calls
+pub mod Demand1
+pub mod Demand2
+pub mod Demand3
+pub mod Table

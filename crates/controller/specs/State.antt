@@ -1,0 +1,75 @@
+-- 01, "Replies" and "Lamps and seconds": the state, a fresh one, and which are sound.
+use Prim.Native.Nat.{ℕ}
+use mathlib.Core.Path.{_≡_}
+use mathlib.Core.Bool.{Bool, true, not}
+use mathlib.Core.List.{List}
+use lib.Dec.{eqb, ltb, leb}
+use Rattle.octets.specs.Choice.{pick, both}
+use Rattle.frame.specs.declared.decoder.Decoder.{Decoder}
+use Rattle.frame.specs.Decoder.{freshDecoder, possibleOf}
+use Rattle.plan.specs.Record.{plansMost, empty, ready, stateOf, cycleOf}
+use Rattle.plan.specs.Standing.{standingOf}
+use Rattle.plan.specs.BuiltIn.{builtIn}
+use Rattle.plan.specs.Reading.{recordAt, same}
+use Rattle.controller.specs.declared.Running.{Running}
+use Rattle.controller.specs.declared.State.{State}
+
+-- "FFFF is for all"
+abbrev pub all : ℕ
+all = 0xFFFF
+
+-- "output too short: 544 for an octet call"
+abbrev pub outputLen : ℕ
+outputLen = 544
+
+-- a plan at its cycle's start
+abbrev pub startedAt : ℕ → List ℕ → Running
+startedAt plan rec = record { plan = plan; position = 0; copy = rec }
+
+-- "A fresh start runs and requests plan 0 at position 0"; "Our SEQ starts at 0"
+unfoldable pub freshOf : ℕ → State
+freshOf own = record { own = own; seq = 0; requested = 0; decoder = freshDecoder; running = startedAt 0 builtIn }
+
+-- the state with another decoder, another running plan, another request
+abbrev pub withDecoder : State → Decoder → State
+withDecoder s d = record { own = s .own; seq = s .seq; requested = s .requested; decoder = d; running = s .running }
+
+abbrev pub withRunning : State → Running → State
+withRunning s u = record { own = s .own; seq = s .seq; requested = s .requested; decoder = s .decoder; running = u }
+
+abbrev pub withRequested : State → ℕ → State
+withRequested s p = record { own = s .own; seq = s .seq; requested = p; decoder = s .decoder; running = s .running }
+
+abbrev pub withSeq : State → ℕ → State
+withSeq s q = record { own = s .own; seq = q; requested = s .requested; decoder = s .decoder; running = s .running }
+
+-- the record of plan p: "Plan 0 is built in", all others stand in the book
+abbrev pub planRecord : List ℕ → ℕ → List ℕ
+planRecord book p = pick (eqb p 0) builtIn (recordAt book p)
+
+-- r is that record as reading a plan gives it: an empty plan reads as an empty part
+pub record RecordOf (book : List ℕ) (p : ℕ) (r : List ℕ) : Type 0 where
+  pub stands : standingOf r ≡ standingOf (planRecord book p)
+  pub octets : (standingOf r ≡ empty → ⊥) → r ≡ planRecord book p
+  -- it was judged: it stands as its state says
+  pub state : stateOf r ≡ standingOf r
+
+-- "Plan 0 is ready", and so is one whose record in the book is
+abbrev pub readyIn : List ℕ → ℕ → Bool
+readyIn book p = eqb (standingOf (planRecord book p)) ready
+
+-- "state handed in is unsound (own address FFFF, requested plan over 48, position outside the cycle, running plan over 48,
+-- failing the checks, or numbered 0 and unlike the built-in, impossible decoder place)"
+unfoldable pub runningSound : Running → Bool
+runningSound u =
+    both (ltb (u .position) (cycleOf (u .copy)))
+    (both (leb (u .plan) plansMost)
+    (both (eqb (standingOf (u .copy)) ready)
+    (pick (eqb (u .plan) 0) (same (u .copy) builtIn) true)))
+
+unfoldable pub soundOf : State → Bool
+soundOf s =
+    both (not (eqb (s .own) all))
+    (both (leb (s .requested) plansMost)
+    (both (possibleOf (s .decoder .head))
+    (runningSound (s .running))))

@@ -1,0 +1,72 @@
+-- 01, "Lamps and seconds" and "Cases, own address 0001": the ten step rows and P1 to P5, one table.
+use Prim.Native.Nat.{ℕ}
+use mathlib.Core.Path.{_≡_}
+use mathlib.Core.List.{List, [], _∷_, _++_}
+use lib.ListN.{take, replicate}
+use Rattle.diagram.specs.Table.{steadyOf, flashingOf}
+use Rattle.plan.specs.Record.{bookLen}
+use Rattle.plan.specs.BuiltIn.{builtIn}
+use Rattle.lamps.specs.Rows.{secondsOf}
+use Rattle.controller.specs.declared.State.{State}
+use Rattle.controller.specs.State.{outputLen, freshOf}
+use Rattle.controller.specs.Calls.{Call, octetOf}
+
+-- octets go in one by one, each with an empty book and an output of zeros; what comes out of each call, one after another
+abbrev pub emptyBook : List ℕ
+emptyBook = replicate bookLen 0
+
+abbrev pub emptyOut : List ℕ
+emptyOut = replicate outputLen 0
+
+abbrev pub written : Call → List ℕ
+written w = take (w .answer .count) (w .out)
+
+unfoldable pub cameOut : State → List ℕ → List ℕ
+cameOut s [] = []
+cameOut s (b ∷ bs) = let w = octetOf s emptyBook emptyOut b in written w ++ cameOut (w .answer .state) bs
+
+unfoldable pub stateAfter : State → List ℕ → State
+stateAfter s [] = s
+stateAfter s (b ∷ bs) = stateAfter (octetOf s emptyBook emptyOut b .answer .state) bs
+
+-- "P1 fresh", "P4 next, run empty plan 3"
+abbrev pub p1 : List ℕ
+p1 = 0xAA ∷ 0xBB ∷ 0x07 ∷ 0x00 ∷ 0x01 ∷ 0x00 ∷ 0x0C ∷ 0x5F ∷ 0x48 ∷ 0xAA ∷ 0xCC ∷ 0x6A ∷ []
+
+abbrev pub p4 : List ℕ
+p4 = 0xAA ∷ 0xBB ∷ 0x08 ∷ 0x00 ∷ 0x01 ∷ 0x00 ∷ 0x0D ∷ 0x5F ∷ 0x18 ∷ 0x03 ∷ 0xAA ∷ 0xCC ∷ 0x37 ∷ []
+
+-- a step's row: "Steady, flashing", and its seconds with plan 0
+abbrev pub stepRow : ℕ → List ℕ
+stepRow step = steadyOf 0 step ∷ flashingOf 0 step ∷ secondsOf builtIn step ∷ []
+
+-- the ten step rows, then what comes out when P1 goes in, and when P4 goes in next
+unfoldable pub rows : List (List ℕ)
+rows =
+    stepRow 1 ∷ stepRow 2 ∷ stepRow 3 ∷ stepRow 4 ∷ stepRow 5
+    ∷ stepRow 6 ∷ stepRow 7 ∷ stepRow 8 ∷ stepRow 9 ∷ stepRow 10
+    ∷ cameOut (freshOf 0x0001) p1
+    ∷ cameOut (stateAfter (freshOf 0x0001) p1) p4
+    ∷ []
+
+-- "| Step | Steady, flashing | Seconds |"; "P2 its ACK", "P3 its report"; the ACK of P4, "P5 its message"
+unfoldable pub due : List (List ℕ)
+due =
+    (0x41418888 ∷ 0 ∷ 18 ∷ [])
+    ∷ (0x41410808 ∷ 0x8080 ∷ 5 ∷ [])
+    ∷ (0x41414848 ∷ 0 ∷ 2 ∷ [])
+    ∷ (0x41414242 ∷ 0 ∷ 3 ∷ [])
+    ∷ (0x41414141 ∷ 0 ∷ 2 ∷ [])
+    ∷ (0x88884141 ∷ 0 ∷ 18 ∷ [])
+    ∷ (0x08084141 ∷ 0x80800000 ∷ 5 ∷ [])
+    ∷ (0x48484141 ∷ 0 ∷ 2 ∷ [])
+    ∷ (0x42424141 ∷ 0 ∷ 3 ∷ [])
+    ∷ (0x41414141 ∷ 0 ∷ 2 ∷ [])
+    ∷ ((0xAA ∷ 0xDD ∷ 0x07 ∷ 0x00 ∷ 0x01 ∷ 0x00 ∷ 0x08 ∷ 0x79 ∷ [])
+    ++ (0xAA ∷ 0xBB ∷ 0x00 ∷ 0x00 ∷ 0x01 ∷ 0x00 ∷ 0x18 ∷ 0x5F ∷ 0xC8 ∷ 0x00 ∷ 0x00 ∷ 0x00 ∷ 0x02 ∷ 0x00 ∷ 0x19 ∷ 0x00 ∷ 0x19 ∷ 0x00 ∷ 0x3C ∷ 0x00 ∷ 0x00 ∷ 0xAA ∷ 0xCC ∷ 0xC7 ∷ []))
+    ∷ ((0xAA ∷ 0xDD ∷ 0x08 ∷ 0x00 ∷ 0x01 ∷ 0x00 ∷ 0x08 ∷ 0x76 ∷ [])
+    ++ (0xAA ∷ 0xBB ∷ 0x01 ∷ 0x00 ∷ 0x01 ∷ 0x00 ∷ 0x10 ∷ 0x0F ∷ 0x81 ∷ 0x5F ∷ 0x18 ∷ 0x0D ∷ 0x01 ∷ 0xAA ∷ 0xCC ∷ 0xA2 ∷ []))
+    ∷ []
+
+abbrev pub OneTable : Type 0
+OneTable = rows ≡ due

@@ -1,0 +1,108 @@
+-- 01, "Cases": what a line is, told from all its octets at once, and that reading them one by one finds just that.
+use Prim.Native.Nat.{ℕ, _+_, _*_, _-_, _≤_, _<_}
+use mathlib.Core.Path.{_≡_}
+use mathlib.Core.List.{List, [], _∷_, _++_}
+use lib.ListN.{length, replicate}
+use Rattle.line.specs.declared.Found.{Found}
+use Rattle.line.specs.declared.Found.the-variants as found
+use Rattle.line.specs.declared.Line.{Line}
+use Rattle.line.specs.Line.{letterT, letterB, tab, lineFeed, lineAt, startOf, nextNumber, octetOf, endOf}
+
+-- What a line is
+
+-- c is a hex digit "in either case", and v is its value
+pub data Hex (c v : ℕ) : Type 0 where
+  digit : v < 10 → c ≡ 0x30 + v → Hex c v
+  capital : 10 ≤ v → v < 16 → c ≡ 0x41 + (v - 10) → Hex c v
+  small : 10 ≤ v → v < 16 → c ≡ 0x61 + (v - 10) → Hex c v
+
+-- "`T` is a second"
+abbrev pub IsSecond : List ℕ → Type 0
+IsSecond xs = xs ≡ letterT ∷ []
+
+-- "`B`, tab, two hex digits an octet"
+pub record IsOctet (xs : List ℕ) (b : ℕ) : Type 0 where
+  pub c : ℕ
+  pub d : ℕ
+  pub v : ℕ
+  pub w : ℕ
+  pub octets : xs ≡ letterB ∷ tab ∷ c ∷ d ∷ []
+  pub high : Hex c v
+  pub low : Hex d w
+  pub value : b ≡ v * 16 + w
+
+-- "a bad line": any other
+pub record IsBad (xs : List ℕ) : Type 0 where
+  pub second : IsSecond xs → ⊥
+  pub octet : (b : ℕ) → IsOctet xs b → ⊥
+
+-- what the line with these octets is; "for a bad line .. its number", which is n
+pub data Is (n : ℕ) (xs : List ℕ) : Found → Type 0 where
+  second : IsSecond xs → Is n xs found.Second
+  octet : {b : ℕ} → IsOctet xs b → Is n xs (found.Octet b)
+  bad : IsBad xs → Is n xs (found.Bad n)
+
+-- it is one thing only
+abbrev pub LineIsOne : Type 0
+LineIsOne = (n : ℕ) (xs : List ℕ) (f g : Found) → Is n xs f → Is n xs g → f ≡ g
+
+-- Reading one line
+
+-- no octet of it is a line feed
+abbrev pub NoFeed : List ℕ → Type 0
+NoFeed [] = Unit
+NoFeed (x ∷ xs) = (x ≡ lineFeed → ⊥) × NoFeed xs
+
+-- octets taken one after another: what each finds, and the line then under way
+unfoldable pub founds : Line → List ℕ → List Found
+founds l [] = []
+founds l (o ∷ os) = octetOf l o .found ∷ founds (octetOf l o .line) os
+
+unfoldable pub after : Line → List ℕ → Line
+after l [] = l
+after l (o ∷ os) = after (octetOf l o .line) os
+
+pub record ReadSo (n : ℕ) (xs : List ℕ) : Type 0 where
+  pub before : founds (lineAt n) xs ≡ replicate (length xs) found.More
+  pub found : Is n xs (octetOf (after (lineAt n) xs) lineFeed .found)
+  pub next : octetOf (after (lineAt n) xs) lineFeed .line ≡ lineAt (nextNumber n)
+
+-- nothing is found before the line feed, then what the line is, and the next line has nothing of it
+abbrev pub LineRead : Type 0
+LineRead = (n : ℕ) (xs : List ℕ) → NoFeed xs → ReadSo n xs
+
+-- Reading a whole input
+
+-- all that was found, in order
+abbrev pub ended : List Found → List Found
+ended [] = []
+ended (found.More ∷ fs) = ended fs
+ended (found.Second ∷ fs) = found.Second ∷ ended fs
+ended (found.Octet b ∷ fs) = found.Octet b ∷ ended fs
+ended (found.Bad n ∷ fs) = found.Bad n ∷ ended fs
+
+unfoldable pub foundIn : Line → List ℕ → List Found
+foundIn l os = ended (founds l os ++ (endOf (after l os) ∷ []))
+
+-- lines, each with its line feed
+abbrev pub joined : List (List ℕ) → List ℕ
+joined [] = []
+joined (xs ∷ ls) = xs ++ (lineFeed ∷ joined ls)
+
+abbrev pub NoFeeds : List (List ℕ) → Type 0
+NoFeeds [] = Unit
+NoFeeds (xs ∷ ls) = NoFeed xs × NoFeeds ls
+
+-- a last line may lack its line feed; where nothing stands there, there is none
+abbrev pub lastLine : List ℕ → List (List ℕ)
+lastLine [] = []
+lastLine (x ∷ xs) = (x ∷ xs) ∷ []
+
+-- what the lines are, in order, the first being number n
+pub data Are : ℕ → List (List ℕ) → List Found → Type 0 where
+  none : {n : ℕ} → Are n [] []
+  more : {n : ℕ} {xs : List ℕ} {f : Found} {ls : List (List ℕ)} {fs : List Found} → Is n xs f → Are (nextNumber n) ls fs → Are n (xs ∷ ls) (f ∷ fs)
+
+-- every line is found once, in order and with its number from 1, and nothing else is found
+abbrev pub InputRead : Type 0
+InputRead = (ls : List (List ℕ)) (last : List ℕ) → NoFeeds ls → NoFeed last → Are 1 (ls ++ lastLine last) (foundIn startOf (joined ls ++ last))

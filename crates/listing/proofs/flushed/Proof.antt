@@ -1,0 +1,15 @@
+-- `listing::flushed` is safe and meets its contract: the part written ends within the text.
+use mathlib.Core.Path.{sym}
+use borrow.Author.Needs.{needs}
+use lib.Seq.{length-take-le}
+use Rattle.listing.proofs.flushed.Statement.{statement}
+use Rattle.listing.proofs.flushed.Tie as tie
+
+pub flushed-spec : {M : Type 1} → statement M
+flushed-spec =
+    tie.close
+    (tie.spec
+    (λ c. search needs)
+    (λ c. sym (length-take-le _ _ (search needs)))
+    (λ c κs. search needs)
+    (λ c. search needs))

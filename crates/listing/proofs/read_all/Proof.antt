@@ -1,0 +1,34 @@
+-- `listing::read_all` is safe, ends and keeps room for a line: the turns are counted down.
+use mathlib.Core.Path.{_≡_}
+use borrow.Author.Needs.{needs}
+use lib.ListN.{length}
+use Rattle.listing.specs.Room.{Room}
+use Rattle.listing.proofs.read_all.Statement.{statement}
+use Rattle.listing.proofs.read_all.Tie as tie
+
+abbrev Inv-loop : tie.InvT-loop
+Inv-loop book₀ out₀ text₀ g₀ turns₀ book out text g turns =
+    (length book ≡ length book₀) × (length out ≡ length out₀) × Room (g .run) text
+
+abbrev μ-loop : tie.MeasureT-loop
+μ-loop book₀ out₀ text₀ g₀ turns₀ book out text g turns = turns
+
+pub read-all-spec : {M : Type 1} → statement M
+read-all-spec =
+    tie.close
+    (tie.spec
+    Inv-loop
+    μ-loop
+    (λ c. search needs)
+    (λ c κs. search needs)
+    (λ c. search needs)
+    (λ c. search needs)
+    (λ c. search needs)
+    (λ c. search needs)
+    (λ c. search needs)
+    (λ c. search needs)
+    (λ c. search needs)
+    (λ c. search needs)
+    (λ c. search needs)
+    (λ c. search needs)
+    (λ c. search needs))

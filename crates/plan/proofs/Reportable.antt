@@ -1,0 +1,153 @@
+-- Every report of a plan is a message: the reader reads its octets, nothing refused, and so the writer writes it.
+use Prim.Native.Nat.{ℕ, _+_, _*_, _-_, _≤_, _<_}
+use mathlib.Core.Path.{_≡_, refl, sym, subst, _∙_}
+use mathlib.Core.Bool.{true}
+use mathlib.Core.Logic.{_⊎_, inl, inr}
+use mathlib.Core.List.{List, [], _∷_, _++_}
+use native.Mathlib.Omega.{arith}
+use lib.ListN.{length, drop, drop-of-length-le}
+use lib.Seq.{take-nil, drop-drop, getD-take, getD-drop}
+use Rattle.octets.specs.First.{firstOf}
+use Rattle.octets.specs.Refusal as refusal
+use Rattle.octets.specs.Word.{highOf, lowOf}
+use Rattle.octets.proofs.Laws.{word-back}
+use Rattle.message.specs.declared.layout.Field.{Field}
+use Rattle.message.specs.Fields as field
+use Rattle.message.specs.Layouts.{layouts, layoutAt, numberOf, rowsAt, rowsOf, counted, repeated, times, greens, cycleOffset}
+use Rattle.message.specs.Values.{sizeOf}
+use Rattle.message.specs.Reader.{kIn, readOf}
+use Rattle.message.specs.Writer.{writable}
+use Rattle.message.specs.Promises.{Known}
+use Rattle.message.proofs.Accepted.{accepted-in, is-part, again, readPart}
+use Rattle.message.proofs.WrittenSo.{in-writable}
+use Rattle.plan.specs.Record.{bookLen, plansMost, empty, ready, kOf, timesEnd, greensAt, readyEnd, directOf, orderOf, AllTimesFit}
+use Rattle.plan.specs.Standing.{between, standingOf}
+use Rattle.plan.specs.Reading.{startOf, recordAt}
+use Rattle.plan.specs.Reporting.{reportPlanCode, reportRunningCode, timesInfo, planInfo, reportTimesOf, reportPlanOf}
+use Rattle.plan.specs.Promises.{ReportsRead}
+use Rattle.plan.proofs.Laws.{stands-long}
+use Rattle.plan.proofs.Fields.{at-one, inside, size-append, size-repeated, Pass, Read1, pass-part}
+use Rattle.plan.proofs.Stands.{part-long, times-pass, times-fit, plan-pass, some-long, some-times, ready-plan}
+use Rattle.plan.proofs.Storing.{is-read}
+use Rattle.plan.proofs.Reports.{times-told, plan-told}
+
+module _ (rec : List ℕ) (p : ℕ) (hp : p ≤ plansMost) (n : standingOf rec ≡ empty → ⊥) where
+  abbrev k : ℕ
+  k = kOf rec
+
+  fit : AllTimesFit rec
+  fit = times-fit rec (some-times rec n)
+
+  -- 5F C4
+
+  abbrev timesBody : List ℕ
+  timesBody = p ∷ between 1 (timesEnd rec) rec
+
+  times-in : timesEnd rec ≤ length rec
+  times-in = omega (arith, some-long rec n, fit .count .most)
+
+  times-body : Read1 4 k timesBody
+  unfolding rowsAt rowsOf layoutAt layouts
+  times-body =
+      let fs : List Field = repeated k times ++ [] in
+      let s : sizeOf fs ≡ 7 * k = omega (arith, size-append (repeated k times) [], size-repeated times k) in
+      record {
+        right = record { fewest = fit .count .least; most = fit .count .most; octets = omega (arith, part-long 1 (timesEnd rec) rec (omega arith) times-in) };
+        pass = (
+          (omega arith, hp),
+          pass-part (field.count ∷ fs) (timesEnd rec - 1) (drop 1 rec) (omega arith)
+              (inside (at-one rec 1 refl) (fit .count), subst (Pass fs) (sym (drop-drop 1 1 rec)) (times-pass rec (some-times rec n))),
+        );
+      }
+
+  times-count : kIn (layoutAt 4) timesBody ≡ k
+  unfolding layoutAt layouts
+  times-count = getD-take (timesEnd rec - 1) (drop 1 rec) 0 0 (omega arith) ∙ getD-drop 1 rec 0 0
+
+  times-read : (readOf (timesInfo rec p) .refusal ≡ refusal.none) × (reportTimesOf rec p ≡ readOf (timesInfo rec p) .message)
+  unfolding timesInfo numberOf firstOf layoutAt layouts
+  times-read = (
+    is-read (0x5F ∷ 0xC4 ∷ timesBody) 4 k refl times-count (omega arith) (record { first = omega arith; last = omega arith }) times-body,
+    sym (times-told rec p refl times-in (omega (arith, fit .count .most)) refl refl refl),
+  )
+
+  -- 5F C5 and 5F C8
+
+  module _ (h : standingOf rec ≡ ready) (l code : ℕ) (el : numberOf code ≡ l) (kn : Known l)
+      (ey : layoutAt l ≡ counted code (field.plan ∷ field.direct ∷ field.order ∷ field.count ∷ []) greens cycleOffset) where
+    abbrev planBody : List ℕ
+    planBody = p ∷ directOf rec ∷ orderOf rec ∷ k ∷ between (greensAt rec) (readyEnd rec) rec
+
+    plan-in : readyEnd rec ≤ length rec
+    plan-in = omega (arith, some-long rec n, fit .count .most)
+
+    plan-body : Read1 l k planBody
+    unfolding rowsAt rowsOf
+    plan-body =
+        let fs : List Field = repeated k greens ++ cycleOffset in
+        let s : sizeOf fs ≡ 2 * k + 4 = omega (arith, size-append (repeated k greens) cycleOffset, size-repeated greens k) in
+        let q = plan-pass rec (ready-plan rec h) in
+        record {
+          right =
+              record {
+                fewest = rw ey (fit .count .least);
+                most = rw ey (fit .count .most);
+                octets = rw ey (omega (arith, part-long (greensAt rec) (readyEnd rec) rec (omega arith) plan-in));
+              };
+          pass =
+              rw ey (
+                (omega arith, hp),
+                (
+                  q .0,
+                  (
+                    q .1,
+                    (
+                      (fit .count .least, fit .count .most),
+                      pass-part fs (readyEnd rec - greensAt rec) (drop (greensAt rec) rec) (omega arith) (q .2),
+                    ),
+                  ),
+                ),
+              );
+        }
+
+    plan-read : (readOf (planInfo rec p code) .refusal ≡ refusal.none) × (reportPlanOf rec p code ≡ readOf (planInfo rec p code) .message)
+    unfolding planInfo
+    plan-read = (
+      is-read (highOf code ∷ lowOf code ∷ planBody) l k (rw word-back el) (rw ey) (omega arith) kn plan-body,
+      sym (plan-told rec p code refl plan-in (omega (arith, fit .count .most)) refl refl refl refl refl refl refl),
+    )
+
+pub reports-read : ReportsRead
+unfolding numberOf firstOf layoutAt layouts
+reports-read rec p hp = record { times = times-read rec p hp; plan = by }
+  where
+    some : standingOf rec ≡ ready → standingOf rec ≡ empty → ⊥
+    some h z = absurd (omega arith)
+
+    by : (code : ℕ) → standingOf rec ≡ ready → (code ≡ reportPlanCode) ⊎ (code ≡ reportRunningCode)
+        → (readOf (planInfo rec p code) .refusal ≡ refusal.none) × (reportPlanOf rec p code ≡ readOf (planInfo rec p code) .message)
+    by code h (inl e) = rw e (plan-read rec p hp (some h) h 6 reportPlanCode refl (record { first = omega arith; last = omega arith }) refl)
+    by code h (inr e) = rw e (plan-read rec p hp (some h) h 7 reportRunningCode refl (record { first = omega arith; last = omega arith }) refl)
+
+-- What was read is written
+
+read-writable : (info : List ℕ) → readOf info .refusal ≡ refusal.none → writable (readOf info .message) ≡ true
+read-writable info e = let h = accepted-in info e in rw (is-part info h) (in-writable (readPart info h) (again info h))
+
+pub report-times-writable : (rec : List ℕ) (p : ℕ) → p ≤ plansMost → (standingOf rec ≡ empty → ⊥) → writable (reportTimesOf rec p) ≡ true
+report-times-writable rec p hp n = let r = reports-read rec p hp .times n in rw (r .1) (read-writable (timesInfo rec p) (r .0))
+
+pub report-plan-writable : (rec : List ℕ) (p code : ℕ) → p ≤ plansMost → standingOf rec ≡ ready → (code ≡ reportPlanCode) ⊎ (code ≡ reportRunningCode)
+    → writable (reportPlanOf rec p code) ≡ true
+report-plan-writable rec p code hp h w = let r = reports-read rec p hp .plan code h w in rw (r .1) (read-writable (planInfo rec p code) (r .0))
+
+-- What is empty
+
+pub standing-none : standingOf [] ≡ empty
+standing-none = sym (stands-long [] (λ z. absurd (omega arith)))
+
+-- past the last plan the book has nothing
+pub standing-past : (book : List ℕ) (p : ℕ) → length book ≡ bookLen → plansMost < p → standingOf (recordAt book p) ≡ empty
+standing-past book p hb l =
+    let h : length book ≤ startOf p = omega arith in
+    rw (drop-of-length-le book h, take-nil) standing-none

@@ -1,0 +1,96 @@
+-- What follows from the definitions of specs/, for the code.
+use Prim.Native.Nat.{ℕ, _+_, _*_, _≤_, _<_}
+use mathlib.Core.Path.{_≡_, refl, ap}
+use mathlib.Core.List.{List, [], _∷_, _++_}
+use native.Mathlib.Omega.{arith}
+use lib.Dec.{leb}
+use lib.ListN.{length, take, drop, length-append, length-take}
+use lib.Seq.{sets-eq, take-at}
+use Rattle.octets.specs.Put.{Stored, Put}
+use Rattle.octets.proofs.Laws.{pick-by}
+use Rattle.text.specs.Text.{octetsHex}
+use Rattle.text.proofs.Laws.{octets-length}
+use Rattle.line.specs.declared.Found.the-variants as found
+use Rattle.line.specs.Line.{tab, lineFeed}
+use Rattle.controller.specs.declared.State.{State}
+use Rattle.controller.specs.declared.Answer.{Answer}
+use Rattle.controller.specs.State.{outputLen}
+use Rattle.controller.specs.Calls.{Did, octetOf}
+use Rattle.controller.proofs.Answering.{outputs-left}
+use Rattle.printout.specs.declared.run.Run.{Run}
+use Rattle.printout.specs.Listing.{replyLine}
+use Rattle.printout.specs.Run.{textMost, Said, Listed, secondSaid, badSaid, octetMade, madeOf}
+
+-- Text
+
+-- what was stored at the start is what stands there
+pub stored-taken : {vs l l′ : List ℕ} {r : ℕ} → Stored vs 0 l r l′ → take r l′ ≡ vs
+stored-taken {vs} {l} {l′} {r} p =
+    rw (p .holds, sets-eq vs l 0 (omega (arith, p .place, p .fits))) (take-at vs (drop (0 + length vs) l) r (omega (arith, p .place)))
+
+-- nothing is put anywhere
+pub put-nothing : (l : List ℕ) (i : ℕ) → Put [] i l i l
+put-nothing l i =
+    record {
+      place = pick-by (λ (k : ℕ). i ≡ k) (leb (i + 0) (length l)) (λ _. omega arith) (λ _. refl);
+      holds = pick-by (λ (k : List ℕ). l ≡ k) (leb (i + 0) (length l)) (λ _. refl) (λ _. refl);
+    }
+
+pub reply-none : (xs : List ℕ) → length xs ≡ 0 → replyLine xs ≡ []
+unfolding replyLine
+reply-none [] h = refl
+reply-none (x ∷ xs) h = absurd (omega arith)
+
+pub reply-some : (xs : List ℕ) → 0 < length xs → replyLine xs ≡ (0x72 ∷ 0x65 ∷ 0x70 ∷ 0x6C ∷ 0x79 ∷ tab ∷ []) ++ octetsHex xs ++ lineFeed ∷ []
+unfolding replyLine
+reply-some [] h = absurd (omega arith)
+reply-some (x ∷ xs) h = refl
+
+pub reply-length : (xs : List ℕ) → 0 < length xs → length (replyLine xs) ≡ 3 * (length xs + 2)
+reply-length xs h = rw (reply-some xs h) (simp length-append (omega (arith, octets-length xs)))
+
+pub reply-most : (xs : List ℕ) → length xs ≤ outputLen → length (replyLine xs) ≤ textMost
+unfolding replyLine
+reply-most [] h = omega arith
+reply-most (x ∷ xs) h = omega (arith, reply-length (x ∷ xs) (omega arith))
+
+-- The run
+
+module _ (s : State) (b o : List ℕ) (x : ℕ) {r : Answer} {b′ o′ : List ℕ} (d : Did (octetOf s b o x) r b′ o′) where
+  -- what a call counts is in the output
+  pub count-fits : r .count ≤ length o′
+  count-fits = let l = outputs-left s b o x in omega (arith, l .within, l .long, ap (λ (a : Answer). a .count) (d .answer), ap length (d .out))
+
+  count-most : length (take (r .count) o′) ≤ outputLen
+  count-most = simp length-take (omega (arith, outputs-left s b o x .most, ap (λ (a : Answer). a .count) (d .answer)))
+
+  pub octet-listed : (n at : ℕ) {t t′ : List ℕ} {u : ℕ} → Put (replyLine (take (r .count) o′)) at t u t′ → Listed (octetMade s n b o x) at t (record { state = r .state; seconds = n; used = u }) b′ o′ t′
+  unfolding octetMade
+  octet-listed n at p =
+      record {
+        said = record {
+          state = ap (λ (a : Answer). a .state) (d .answer);
+          seconds = refl;
+          text = rw (← d .answer, ← d .out) p;
+          short = rw (← d .answer, ← d .out) (reply-most (take (r .count) o′) count-most);
+        };
+        book = d .book;
+        out = d .out;
+      }
+
+module _ (run : Run) (b o t : List ℕ) where
+  pub listed-more : Listed (madeOf found.More (run .state) (run .seconds) b o) (run .used) t run b o t
+  unfolding madeOf
+  listed-more = record { said = record { state = refl; seconds = refl; text = put-nothing t (run .used); short = omega arith }; book = refl; out = refl }
+
+  pub listed-second : {r : Run} {t′ : List ℕ} → Said (secondSaid (run .state) (run .seconds) b) (run .used) t r t′ → Listed (madeOf found.Second (run .state) (run .seconds) b o) (run .used) t r b o t′
+  unfolding madeOf
+  listed-second s = record { said = s; book = refl; out = refl }
+
+  pub listed-octet : (x : ℕ) {r : Run} {b′ o′ t′ : List ℕ} → Listed (octetMade (run .state) (run .seconds) b o x) (run .used) t r b′ o′ t′ → Listed (madeOf (found.Octet x) (run .state) (run .seconds) b o) (run .used) t r b′ o′ t′
+  unfolding madeOf
+  listed-octet x l = l
+
+  pub listed-bad : (n : ℕ) {r : Run} {t′ : List ℕ} → Said (badSaid (run .state) (run .seconds) n) (run .used) t r t′ → Listed (madeOf (found.Bad n) (run .state) (run .seconds) b o) (run .used) t r b o t′
+  unfolding madeOf
+  listed-bad n s = record { said = s; book = refl; out = refl }

@@ -1,0 +1,68 @@
+-- The promises of specs/Promises.antt: the words by those of the diagrams, 01's listing by computation.
+use Prim.Native.Nat.{ℕ, _%_, _^_, _<_}
+use mathlib.Core.Path.{_≡_, refl}
+use mathlib.Core.List.{List}
+use native.Mathlib.Decide.{decLt}
+use native.Mathlib.Omega.{arith}
+use lib.Dec.{eqb}
+use lib.ListN.{length}
+use Rattle.octets.specs.First.{firstOf}
+use Rattle.octets.proofs.Laws.{pick-by}
+use Rattle.diagram.specs.Table as diagram
+use Rattle.diagram.proofs.Words.{words-fit}
+use Rattle.frame.specs.Decoder.{freshDecoder, possibleOf}
+use Rattle.message.specs.Layouts.{layouts, layoutAt, known, numberOf, rowsAt}
+use Rattle.message.specs.Layouts as message
+use Rattle.message.specs.Values.{zeros, placed, firstOut}
+use Rattle.message.specs.Reader.{noMessage, refusedAs, partOf, rangedOf, readPartOf, readOf}
+use Rattle.plan.specs.Record.{bookLen, orderOf}
+use Rattle.plan.specs.Standing.{timesDisagree, planDisagree, ranged, timesStand, planStands, readyStands, allZero, standingOf}
+use Rattle.plan.specs.BuiltIn.{padded, builtIn}
+use Rattle.plan.specs.Reading.{same}
+use Rattle.lamps.specs.declared.Row.{Row}
+use Rattle.lamps.specs.Rows.{phaseTable, secondsOf, rowAt}
+use Rattle.lamps.specs.Rows as lamps
+use Rattle.lamps.proofs.Second.{lamps-of-step, dark-past}
+use Rattle.controller.specs.declared.State.{State}
+use Rattle.controller.specs.declared.Shown.{Shown}
+use Rattle.controller.specs.State.{freshOf, runningSound, soundOf}
+use Rattle.controller.specs.Calls.{movedOn, noSecond, secondOf}
+use Rattle.text.specs.Text.{digits, placesWithin, places, decimal}
+use Rattle.text.proofs.Means.{hex-means}
+use Rattle.line.specs.Line as line
+use Rattle.line.specs.Promises.{founds, after, foundIn}
+use Rattle.printout.specs.Listing.{header, field, wordLimit, wordText, numbers, secondLine}
+use Rattle.printout.specs.Run.{secondSaid, madeOf, listingFrom, listingOf}
+use Rattle.printout.specs.Promises.{Whole, WordsWhole, TwoSeconds}
+
+-- Words
+
+whole : (word : ℕ) → word < 2 ^ 32 → Whole word
+unfolding wordText
+whole word h = let e : word % wordLimit ≡ word = omega arith in rw e (hex-means 8 word (omega arith))
+
+abbrev Fits : Row → Type 0
+Fits r = (r .steady < 2 ^ 32) × (r .flashing < 2 ^ 32)
+
+row-fits : (rec : List ℕ) (p : ℕ) → Fits (rowAt rec p)
+row-fits rec p =
+    elim (decLt p (length (lamps.rowsOf rec))) [
+      | yes h ↦ let d = lamps-of-step rec p h in let w = words-fit (orderOf rec) (rowAt rec p .step) in (rw (d .steady) (w .0), rw (d .flashing) (w .1))
+      | no h ↦ rw (dark-past rec p (omega arith)) (omega arith, omega arith)
+    ]
+
+second-fits : (s : State) (book : List ℕ) → Fits (secondOf s book .row)
+unfolding secondOf noSecond
+second-fits s book =
+    pick-by (λ (w : Shown). Fits (w .row)) (soundOf s)
+    (λ _. pick-by (λ (w : Shown). Fits (w .row)) (eqb (length book) bookLen) (λ _. row-fits (s .running .copy) (s .running .position)) (λ _. (omega arith, omega arith)))
+    (λ _. (omega arith, omega arith))
+
+pub words-whole : WordsWhole
+words-whole s book = let f = second-fits s book in (whole (secondOf s book .row .steady) (f .0), whole (secondOf s book .row .flashing) (f .1))
+
+-- 01's listing
+
+pub two-seconds : TwoSeconds
+unfolding firstOf diagram.find diagram.directory diagram.diagramOf diagram.rows diagram.rowNumber diagram.rowOf freshDecoder possibleOf layouts layoutAt known numberOf rowsAt message.rowsOf zeros placed firstOut noMessage refusedAs partOf rangedOf readPartOf readOf timesDisagree planDisagree ranged timesStand planStands readyStands allZero standingOf padded builtIn same phaseTable secondsOf lamps.counted lamps.rowsFrom lamps.rowsOf rowAt freshOf runningSound soundOf movedOn secondOf digits line.octetOf line.endOf founds after foundIn header placesWithin places decimal field wordText numbers secondLine secondSaid madeOf listingFrom listingOf
+two-seconds = refl

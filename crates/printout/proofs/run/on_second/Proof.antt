@@ -1,0 +1,23 @@
+-- `printout::run::on_second` meets its contract: what the second call answered is what is put.
+use native.Mathlib.Omega.{arith}
+use Rattle.printout.specs.Run.{secondSaid}
+use borrow.Author.Needs.{needs}
+use Rattle.printout.proofs.run.on_second.Statement.{statement}
+use Rattle.printout.proofs.run.on_second.Tie as tie
+
+returns : tie.Need-returns
+unfolding secondSaid
+returns c =
+    let e = c .before .before .before .before .before .before .before .second .ensures in
+    let p = rw e at (c .before .before .put-second .ensures) in
+    record { state = rw e; seconds = c .before .before .before .before .wrapping-add-u64 .ensures; text = p .0; short = omega arith }
+
+pub on-second-spec : {M : Type 1} → statement M
+on-second-spec =
+    tie.close
+    (tie.spec
+    (λ c κs. search needs)
+    (λ c κs. search needs)
+    (λ c κs. search needs)
+    (λ c. search needs)
+    returns)

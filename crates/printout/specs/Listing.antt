@@ -1,0 +1,55 @@
+-- 01, "Cases": what the listing program prints, in ASCII codes.
+use Prim.Native.Nat.{ℕ, _%_, _^_}
+use mathlib.Core.List.{List, [], _∷_, _++_}
+use Rattle.text.specs.Text.{hex8, decimal, octetsHex}
+use Rattle.line.specs.Line.{tab, lineFeed}
+use Rattle.lamps.specs.declared.Row.{Row}
+
+-- The most places: of a number and its tab, of a lamp word and what follows it, and of a second's whole line
+
+abbrev pub fieldMost : ℕ
+fieldMost = 21
+
+abbrev pub wordMost : ℕ
+wordMost = 9
+
+abbrev pub lineMost : ℕ
+lineMost = 102
+
+-- "It prints a header": `second`, `plan`, `step`, `left`, `steady`, `flashing`
+unfoldable pub header : List ℕ
+header =
+    (0x73 ∷ 0x65 ∷ 0x63 ∷ 0x6F ∷ 0x6E ∷ 0x64 ∷ tab ∷ [])
+    ++ (0x70 ∷ 0x6C ∷ 0x61 ∷ 0x6E ∷ tab ∷ [])
+    ++ (0x73 ∷ 0x74 ∷ 0x65 ∷ 0x70 ∷ tab ∷ [])
+    ++ (0x6C ∷ 0x65 ∷ 0x66 ∷ 0x74 ∷ tab ∷ [])
+    ++ (0x73 ∷ 0x74 ∷ 0x65 ∷ 0x61 ∷ 0x64 ∷ 0x79 ∷ tab ∷ [])
+    ++ (0x66 ∷ 0x6C ∷ 0x61 ∷ 0x73 ∷ 0x68 ∷ 0x69 ∷ 0x6E ∷ 0x67 ∷ lineFeed ∷ [])
+
+-- "fields parted by tabs": a number, and the tab after it
+unfoldable pub field : ℕ → List ℕ
+field n = decimal n ++ tab ∷ []
+
+-- the lamps of approaches A to D are the low 32 bits of a word
+abbrev pub wordLimit : ℕ
+wordLimit = 2 ^ 32
+
+-- "steady and flashing as eight hex digits": what a word has below the limit
+unfoldable pub wordText : ℕ → List ℕ
+wordText x = hex8 (x % wordLimit)
+
+-- "for each T one line (seconds so far, plan, step, left, steady and flashing as eight hex digits)"
+unfoldable pub numbers : ℕ → ℕ → Row → List ℕ
+numbers n plan row = field n ++ field plan ++ field (row .step) ++ field (row .left)
+
+unfoldable pub secondLine : ℕ → ℕ → Row → List ℕ
+secondLine n plan row = numbers n plan row ++ (wordText (row .steady) ++ tab ∷ []) ++ (wordText (row .flashing) ++ lineFeed ∷ [])
+
+-- "for each call that wrote a reply `reply`, tab, octets in hex with spaces": the octets that the call wrote
+unfoldable pub replyLine : List ℕ → List ℕ
+replyLine [] = []
+replyLine (x ∷ xs) = (0x72 ∷ 0x65 ∷ 0x70 ∷ 0x6C ∷ 0x79 ∷ tab ∷ []) ++ octetsHex (x ∷ xs) ++ lineFeed ∷ []
+
+-- "for a bad line `bad`, tab, its number from 1"
+unfoldable pub badLine : ℕ → List ℕ
+badLine n = (0x62 ∷ 0x61 ∷ 0x64 ∷ tab ∷ []) ++ decimal n ++ lineFeed ∷ []

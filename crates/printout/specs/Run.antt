@@ -1,0 +1,90 @@
+-- 01, "Cases": the listing: which call each line of the input makes, and the text that it adds.
+use Prim.Native.Nat.{ℕ, _+_, _%_, _^_, _≤_}
+use mathlib.Core.Path.{_≡_}
+use mathlib.Core.List.{List, [], _∷_, _++_}
+use lib.ListN.{length, take, replicate}
+use Rattle.octets.specs.Put.{Put}
+use Rattle.plan.specs.Record.{bookLen}
+use Rattle.controller.specs.declared.State.{State}
+use Rattle.controller.specs.State.{outputLen, freshOf}
+use Rattle.controller.specs.Calls.{octetOf, secondOf}
+use Rattle.line.specs.declared.Found.{Found}
+use Rattle.line.specs.declared.Found.the-variants as found
+use Rattle.line.specs.Line.{startOf}
+use Rattle.line.specs.Promises.{foundIn}
+use Rattle.printout.specs.declared.run.Run.{Run}
+use Rattle.printout.specs.Listing.{header, secondLine, replyLine, badLine}
+
+-- "starts fresh at address 0001"
+abbrev pub own : ℕ
+own = 0x0001
+
+unfoldable pub runStart : Run
+runStart = record { state = freshOf own; seconds = 0; used = 0 }
+
+-- no line adds more: three places for each of the 544 octets of the longest reply, and six
+abbrev pub textMost : ℕ
+textMost = 1638
+
+-- the state and the seconds so far after a line, and the text that it adds
+pub record Saying : Type 0 where
+  pub state : State
+  pub seconds : ℕ
+  pub text : List ℕ
+
+-- and the book and the output
+pub record Making : Type 0 where
+  pub said : Saying
+  pub book : List ℕ
+  pub out : List ℕ
+
+-- r is the run so, and the text, filled up to `used`, t before and t′ now, has the line's behind it where there is room
+pub record Said (w : Saying) (used : ℕ) (t : List ℕ) (r : Run) (t′ : List ℕ) : Type 0 where
+  pub state : r .state ≡ w .state
+  pub seconds : r .seconds ≡ w .seconds
+  pub text : Put (w .text) used t (r .used) t′
+  pub short : length (w .text) ≤ textMost
+
+pub record Listed (m : Making) (used : ℕ) (t : List ℕ) (r : Run) (b o t′ : List ℕ) : Type 0 where
+  pub said : Said (m .said) used t r t′
+  pub book : b ≡ m .book
+  pub out : o ≡ m .out
+
+-- "`T` is a second": the line has the seconds before it, modulo 2^64, and what the second call answers
+unfoldable pub secondSaid : State → ℕ → List ℕ → Saying
+secondSaid s n book =
+    let w = secondOf s book in
+    record { state = w .state; seconds = (n + 1) % 2 ^ 64; text = secondLine n (w .plan) (w .row) }
+
+-- "for a bad line": no call
+unfoldable pub badSaid : State → ℕ → ℕ → Saying
+badSaid s n number = record { state = s; seconds = n; text = badLine number }
+
+-- "an octet": what the octet call wrote is the first of the output
+unfoldable pub octetMade : State → ℕ → List ℕ → List ℕ → ℕ → Making
+octetMade s n book out b =
+    let w = octetOf s book out b in
+    record {
+      said = record { state = w .answer .state; seconds = n; text = replyLine (take (w .answer .count) (w .out)) };
+      book = w .book;
+      out = w .out;
+    }
+
+-- by what the line was
+unfoldable pub madeOf : Found → State → ℕ → List ℕ → List ℕ → Making
+madeOf found.More s n book out = record { said = record { state = s; seconds = n; text = [] }; book = book; out = out }
+madeOf found.Second s n book out = record { said = secondSaid s n book; book = book; out = out }
+madeOf (found.Octet b) s n book out = octetMade s n book out b
+madeOf (found.Bad k) s n book out = record { said = badSaid s n k; book = book; out = out }
+
+-- The listing of a whole input
+
+unfoldable pub listingFrom : State → ℕ → List ℕ → List ℕ → List Found → List ℕ
+listingFrom s n book out [] = []
+listingFrom s n book out (f ∷ fs) =
+    let m = madeOf f s n book out in
+    m .said .text ++ listingFrom (m .said .state) (m .said .seconds) (m .book) (m .out) fs
+
+-- "starts fresh at address 0001 with an empty book"
+unfoldable pub listingOf : List ℕ → List ℕ
+listingOf input = header ++ listingFrom (freshOf own) 0 (replicate bookLen 0) (replicate outputLen 0) (foundIn startOf input)

@@ -1,0 +1,82 @@
+// 01, "Cases": the listing itself: what each line of the input does to the controller, and the text that it adds.
+ghost use mathlib.Core.Path.{_≡_};
+ghost use Rattle.printout.specs.Run.{Said, Listed, runStart, secondSaid, badSaid, octetMade, madeOf};
+use controller::State;
+use line::Found;
+
+// "The listing program starts fresh at address 0001".
+const OWN: u16 = 0x0001;
+
+// The controller's state, the "seconds so far", and how much of the text is filled. The line under way is no part of it, so
+// that an octet within a line moves none of this.
+pub struct Run {
+    pub state: State,
+    pub seconds: u64,
+    pub used: usize,
+}
+
+// A fresh start, with nothing in the text.
+pub fn run_start() -> Run
+    ensures { λ r. ⌜ r ≡ runStart ⌝ }
+{
+    let s = controller::fresh(OWN);
+    let state = s.state;
+    Run {
+        state,
+        seconds: 0,
+        used: 0,
+    }
+}
+
+// What a line does; its text is put where there is room for it.
+pub fn on_line(run: Run, f: Found, book: &mut [u8], out: &mut [u8], text: &mut [u8]) -> Run
+    ensures { λ r. ⌜ Listed (madeOf f (run .state) (run .seconds) (now (book .entry)) (now (out .entry))) (run .used) (now (text .entry)) r (now (book .exit)) (now (out .exit)) (now (text .exit)) ⌝ }
+{
+    match f {
+        Found::More => run,
+        Found::Second => on_second(run, book, text),
+        Found::Octet(b) => on_octet(run, b, book, out, text),
+        Found::Bad(n) => on_bad(run, n, text),
+    }
+}
+
+// "`T` is a second": the second call, with the book as it is.
+fn on_second(run: Run, book: &[u8], text: &mut [u8]) -> Run
+    ensures { λ r. ⌜ Said (secondSaid (run .state) (run .seconds) (now (book .entry))) (run .used) (now (text .entry)) r (now (text .exit)) ⌝ }
+{
+    let n = run.seconds;
+    let at = run.used;
+    let t = controller::second(run.state, book);
+    let state = t.state;
+    let row = t.row;
+    Run {
+        state,
+        seconds: std::num::wrapping_add_u64(n, 1),
+        used: crate::put_second(n, t.plan, row, text, at),
+    }
+}
+
+// "an octet": the octet call, and the reply that it wrote.
+fn on_octet(run: Run, b: u8, book: &mut [u8], out: &mut [u8], text: &mut [u8]) -> Run
+    ensures { λ r. ⌜ Listed (octetMade (run .state) (run .seconds) (now (book .entry)) (now (out .entry)) b) (run .used) (now (text .entry)) r (now (book .exit)) (now (out .exit)) (now (text .exit)) ⌝ }
+{
+    let at = run.used;
+    let a = controller::octet(run.state, book, &mut *out, b);
+    let state = a.state;
+    let n = a.count;
+    Run {
+        state,
+        used: crate::put_reply(&out[..n], text, at),
+        ..run
+    }
+}
+
+fn on_bad(run: Run, n: u64, text: &mut [u8]) -> Run
+    ensures { λ r. ⌜ Said (badSaid (run .state) (run .seconds) n) (run .used) (now (text .entry)) r (now (text .exit)) ⌝ }
+{
+    let at = run.used;
+    Run {
+        used: crate::put_bad(n, text, at),
+        ..run
+    }
+}
