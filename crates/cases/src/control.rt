@@ -8,7 +8,7 @@ use controller::State;
 use frame::writer;
 use lamps::Row;
 use octets::refusal;
-use plan::record::BOOK_LEN;
+use record::BOOK_LEN;
 
 // The controller's own address at first.
 const OWN: u16 = 0x0001;

@@ -33,7 +33,7 @@ use frame::Kind;
 use frame::decoder;
 use frame::decoder::Decoder;
 use libc::STDIN_FILENO;
-use plan::record::BOOK_LEN;
+use record::BOOK_LEN;
 
 const OUTPUT: usize = 544;
 

@@ -29,11 +29,11 @@ use Rattle.message.specs.Writer.{infoOf}
 use Rattle.message.specs.Promises.{Judged, short, body, unknown, wrongLength, outOfRange, accepted}
 use Rattle.message.proofs.ReadSo.{read-so}
 use Rattle.plan.specs.declared.setting.Answered.{Answered}
-use Rattle.plan.specs.Record.{bookLen, empty, kOf}
-use Rattle.plan.specs.Standing.{timesDisagree, planDisagree, standingOf, Stands}
+use Rattle.record.specs.Record.{bookLen, empty, kOf}
+use Rattle.checks.specs.Standing.{timesDisagree, planDisagree, standingOf, Stands}
 use Rattle.plan.specs.Reading.{recordAt}
 use Rattle.plan.specs.Setting.{Setting, setTimesCode, setPlanCode, planIn, countIn, notMade, readyRecord, timesMade, readyMade, keptAs, frontOf, setOf, setTimesOf, setPlanOf}
-use Rattle.plan.proofs.Stands.{stands-as-it-is}
+use Rattle.checks.proofs.Stands.{stands-as-it-is}
 use Rattle.controller.specs.declared.Running.{Running}
 use Rattle.controller.specs.declared.State.{State}
 use Rattle.controller.specs.declared.Event.{Event}

@@ -10,8 +10,8 @@ use Rattle.octets.specs.Octet.{Octets}
 use Rattle.octets.proofs.Laws.{pick-by, both-left, both-right, clash}
 use native.Mathlib.Omega.{arith}
 use Rattle.frame.specs.Decoder.{possibleOf}
-use Rattle.plan.specs.Record.{recordLen, plansMost, ready, cycleOf}
-use Rattle.plan.specs.Standing.{standingOf}
+use Rattle.record.specs.Record.{recordLen, plansMost, ready, cycleOf}
+use Rattle.checks.specs.Standing.{standingOf}
 use Rattle.plan.specs.BuiltIn.{padded, builtIn}
 use Rattle.plan.specs.Reading.{startOf, same}
 use Rattle.plan.proofs.Laws.{same-is, is-same, octets-part}

@@ -21,12 +21,12 @@ use Rattle.frame.specs.Run.{Outcome, nothing, refused, sound, told, outcomeOf}
 use Rattle.frame.proofs.Possible.{possible-kept}
 use Rattle.message.specs.Reader.{codeIn, bodyIn, readOf}
 use Rattle.plan.specs.declared.setting.Answered.{Answered}
-use Rattle.plan.specs.Record.{plansMost, bookLen, empty, ready, cycleOf}
-use Rattle.plan.specs.Standing.{standingOf}
+use Rattle.record.specs.Record.{plansMost, bookLen, empty, ready, cycleOf}
+use Rattle.checks.specs.Standing.{standingOf}
 use Rattle.plan.specs.BuiltIn.{builtIn}
 use Rattle.plan.specs.Reading.{recordAt, same}
 use Rattle.plan.specs.Setting.{setTimesCode, setPlanCode, planIn}
-use Rattle.plan.proofs.Stands.{plan-fits, ready-plan}
+use Rattle.checks.proofs.Stands.{plan-fits, ready-plan}
 use Rattle.plan.proofs.Cases.{built-in-stands}
 use Rattle.plan.proofs.Reportable.{standing-past}
 use Rattle.controller.specs.declared.Running.{Running}

@@ -9,7 +9,7 @@ use Rattle.octets.specs.Choice.{pick}
 use Rattle.octets.specs.Octet.{Octets}
 use Rattle.frame.specs.declared.decoder.Decoder.{Decoder}
 use Rattle.frame.specs.Decoder.{freshDecoder, takenOf, idledOf}
-use Rattle.plan.specs.Record.{cycleOf}
+use Rattle.record.specs.Record.{cycleOf}
 use Rattle.controller.specs.declared.Answer.{Answer}
 use Rattle.controller.specs.declared.Running.{Running}
 use Rattle.controller.specs.declared.State.{State}

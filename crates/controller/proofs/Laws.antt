@@ -23,15 +23,15 @@ use Rattle.message.specs.declared.Read.{Read}
 use Rattle.message.specs.Names.{planAt}
 use Rattle.message.specs.Reader.{codeIn, bodyIn, readOf}
 use Rattle.plan.specs.declared.setting.Answered.{Answered}
-use Rattle.plan.specs.Record.{recordLen, plansMost, bookLen, empty, ready, cycleOf}
-use Rattle.plan.specs.Standing.{standingOf}
+use Rattle.record.specs.Record.{recordLen, plansMost, bookLen, empty, ready, cycleOf}
+use Rattle.checks.specs.Standing.{standingOf}
 use Rattle.plan.specs.BuiltIn.{builtIn}
 use Rattle.plan.specs.Reading.{startOf, recordAt, same, readRefusal, PartRead}
 use Rattle.plan.specs.Setting.{setTimesCode, setPlanCode, setTimesOf, setPlanOf, planIn}
 use Rattle.plan.specs.Setting as setting
 use Rattle.plan.specs.Reporting.{reportPlanCode, reportRunningCode, reportTimesOf, reportPlanOf}
 use Rattle.plan.proofs.Laws.{same-is, is-same, length-built-in, refused-range, read-zero, refused-empty, read-set}
-use Rattle.plan.proofs.Stands.{some-long, some-state}
+use Rattle.checks.proofs.Stands.{some-long, some-state}
 use Rattle.plan.proofs.Reportable.{standing-none, standing-past}
 use Rattle.plan.proofs.Cases.{built-in-stands}
 use Rattle.controller.specs.declared.Running.{Running}

@@ -44,8 +44,8 @@ use Rattle.message.proofs.Values.{width-most}
 use Rattle.message.proofs.Writing.{info-len, writable-most}
 use Rattle.message.proofs.WrittenSo.{in-writable}
 use Rattle.plan.specs.declared.setting.Answered.{Answered}
-use Rattle.plan.specs.Record.{bookLen, plansMost, empty, ready}
-use Rattle.plan.specs.Standing.{standingOf}
+use Rattle.record.specs.Record.{bookLen, plansMost, empty, ready}
+use Rattle.checks.specs.Standing.{standingOf}
 use Rattle.plan.specs.Setting.{setTimesCode, setPlanCode, setTimesOf, setPlanOf, planIn}
 use Rattle.plan.specs.Reporting.{reportPlanCode, reportRunningCode}
 use Rattle.plan.proofs.Reportable.{report-times-writable, report-plan-writable, standing-past}

@@ -32,14 +32,15 @@ use Rattle.message.proofs.Layouts.{rows-most}
 use Rattle.message.proofs.ReadSo.{read-so}
 use Rattle.message.proofs.WrittenSo.{written-so}
 use Rattle.message.proofs.RoundTrips.{writing-undoes-reading}
-use Rattle.plan.specs.Record.{recordLen, bookLen, plansMost, empty, ready, kOf, timesEnd, greensAt, readyEnd, Ready}
-use Rattle.plan.specs.Standing.{standingOf, Stands}
+use Rattle.record.specs.Record.{recordLen, bookLen, plansMost, empty, ready, kOf, timesEnd, greensAt, readyEnd, Ready}
+use Rattle.checks.specs.Standing.{standingOf, Stands}
 use Rattle.plan.specs.Reading.{startOf, recordAt}
 use Rattle.plan.specs.Setting.{Setting, setTimesCode, setPlanCode, planIn, countIn, setTimesOf, setPlanOf}
 use Rattle.plan.specs.Reporting.{reportPlanCode, reportRunningCode, timesInfo, planInfo, reportTimesOf, reportPlanOf}
 use Rattle.plan.specs.Promises.{HasTimes, Disagrees14, Disagrees15, TimesJudged, PlanJudged}
-use Rattle.plan.proofs.Laws.{octet-below, octets-part}
-use Rattle.plan.proofs.Stands.{stands-as-it-is}
+use Rattle.record.proofs.Laws.{octet-below}
+use Rattle.plan.proofs.Laws.{octets-part}
+use Rattle.checks.proofs.Stands.{stands-as-it-is}
 use Rattle.plan.proofs.Sets.{read-times, read-plan, times-body, plan-body}
 use Rattle.plan.proofs.Storing.{times-stored-exactly-when}
 use Rattle.plan.proofs.Readying.{stands-has, has-stands, plan-stored-exactly-when}

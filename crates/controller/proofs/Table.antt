@@ -9,7 +9,7 @@ use Rattle.message.specs.Layouts.{layouts, layoutAt, known, numberOf, rowsAt, r
 use Rattle.message.specs.Values.{zeros, placed, firstOut}
 use Rattle.message.specs.Reader.{noMessage, refusedAs, partOf, rangedOf, readPartOf, readOf}
 use Rattle.message.specs.Writer.{infoAs}
-use Rattle.plan.specs.Standing.{timesDisagree, planDisagree, ranged, timesStand, planStands, readyStands, allZero, standingOf}
+use Rattle.checks.specs.Standing.{timesDisagree, planDisagree, ranged, timesStand, planStands, readyStands, allZero, standingOf}
 use Rattle.plan.specs.BuiltIn.{padded, builtIn}
 use Rattle.plan.specs.Reading.{same}
 use Rattle.plan.specs.Reporting.{planInfo, reportPlanOf}

@@ -17,7 +17,7 @@ use Rattle.frame.specs.Frame.{Frame, message, ack, nak, written}
 use Rattle.frame.specs.Decoder.{takenOf, idledOf}
 use Rattle.message.specs.Reader.{codeIn}
 use Rattle.message.specs.Writer.{infoOf}
-use Rattle.plan.specs.Record.{bookLen, cycleOf}
+use Rattle.record.specs.Record.{bookLen, cycleOf}
 use Rattle.lamps.specs.Rows.{rowAt, noRow}
 use Rattle.controller.specs.declared.Running.{Running}
 use Rattle.controller.specs.declared.State.{State}

@@ -11,7 +11,7 @@ use Rattle.octets.specs.Octet.{Octets}
 use Rattle.octets.specs.Refusal as refusal
 use Rattle.frame.specs.declared.decoder.Place.the-variants.{Idle}
 use Rattle.frame.specs.Decoder.{possibleOf}
-use Rattle.plan.specs.Record.{plansMost, bookLen, cycleOf, Ready}
+use Rattle.record.specs.Record.{plansMost, bookLen, cycleOf, Ready}
 use Rattle.plan.specs.BuiltIn.{builtIn}
 use Rattle.controller.specs.declared.Running.{Running}
 use Rattle.controller.specs.declared.State.{State}

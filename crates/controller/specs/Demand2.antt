@@ -17,7 +17,7 @@ use Rattle.frame.specs.Decoder.{takenOf}
 use Rattle.frame.specs.Run.{Outcome, nothing, refused, sound, outcomeOf}
 use Rattle.message.specs.Names.{planAt}
 use Rattle.message.specs.Reader.{codeIn, bodyIn, readOf}
-use Rattle.plan.specs.Record.{bookLen, orderOf, Ready}
+use Rattle.record.specs.Record.{bookLen, orderOf, Ready}
 use Rattle.plan.specs.Promises.{HasTimes, Fit14, Fit15}
 use Rattle.plan.specs.Reading.{recordAt}
 use Rattle.plan.specs.Setting.{setTimesCode, setPlanCode, setTimesOf, setPlanOf, planIn}

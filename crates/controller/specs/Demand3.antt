@@ -19,7 +19,7 @@ use Rattle.frame.specs.Frame.{message, ack, nak}
 use Rattle.frame.specs.Decoder.{freshDecoder, takenOf, idledOf}
 use Rattle.frame.specs.Run.{Outcome, nothing, refused, sound, outcomeOf}
 use Rattle.message.specs.Reader.{codeIn, bodyIn, readOf}
-use Rattle.plan.specs.Record.{bookLen, kOf, Ready}
+use Rattle.record.specs.Record.{bookLen, kOf, Ready}
 use Rattle.plan.specs.BuiltIn.{builtIn}
 use Rattle.plan.specs.Reading.{recordAt}
 use Rattle.plan.specs.Setting.{planIn}

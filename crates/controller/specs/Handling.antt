@@ -15,8 +15,8 @@ use Rattle.message.specs.Reader.{codeIn, bodyIn, readOf}
 use Rattle.message.specs.Values.{placed}
 use Rattle.message.specs.Writer.{writable}
 use Rattle.plan.specs.declared.setting.Answered.{Answered}
-use Rattle.plan.specs.Record.{empty}
-use Rattle.plan.specs.Standing.{standingOf}
+use Rattle.record.specs.Record.{empty}
+use Rattle.checks.specs.Standing.{standingOf}
 use Rattle.plan.specs.Setting.{Setting, setTimesCode, setPlanCode, setTimesOf, setPlanOf, planIn}
 use Rattle.plan.specs.Reporting.{reportPlanCode, reportRunningCode, reportTimesOf, reportPlanOf}
 use Rattle.controller.specs.declared.Running.{Running}

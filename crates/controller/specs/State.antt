@@ -7,8 +7,8 @@ use lib.Dec.{eqb, ltb, leb}
 use Rattle.octets.specs.Choice.{pick, both}
 use Rattle.frame.specs.declared.decoder.Decoder.{Decoder}
 use Rattle.frame.specs.Decoder.{freshDecoder, possibleOf}
-use Rattle.plan.specs.Record.{plansMost, empty, ready, stateOf, cycleOf}
-use Rattle.plan.specs.Standing.{standingOf}
+use Rattle.record.specs.Record.{plansMost, empty, ready, stateOf, cycleOf}
+use Rattle.checks.specs.Standing.{standingOf}
 use Rattle.plan.specs.BuiltIn.{builtIn}
 use Rattle.plan.specs.Reading.{recordAt, same}
 use Rattle.controller.specs.declared.Running.{Running}

@@ -4,7 +4,7 @@ use mathlib.Core.Path.{_≡_}
 use mathlib.Core.List.{List, [], _∷_, _++_}
 use lib.ListN.{take, replicate}
 use Rattle.diagram.specs.Table.{steadyOf, flashingOf}
-use Rattle.plan.specs.Record.{bookLen}
+use Rattle.record.specs.Record.{bookLen}
 use Rattle.plan.specs.BuiltIn.{builtIn}
 use Rattle.lamps.specs.Rows.{secondsOf}
 use Rattle.controller.specs.declared.State.{State}

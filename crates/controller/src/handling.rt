@@ -3,7 +3,7 @@ ghost use mathlib.Core.Path.{_≡_};
 ghost use Prim.Native.Nat.{_≤_};
 ghost use lib.ListN.{length};
 ghost use Rattle.octets.specs.Part.{codeLen};
-ghost use Rattle.plan.specs.Record.{bookLen};
+ghost use Rattle.record.specs.Record.{bookLen};
 ghost use Rattle.message.specs.Reader.{bodyIn};
 ghost use Rattle.plan.specs.Setting.{planIn};
 ghost use Rattle.controller.specs.Handling.{carriedOutReply, refusedReply, accepted, refusedAs, setAs, runAs, queryTimesAs, queryPlanAs, queryRunningAs, Handles, handlingOf};
@@ -14,11 +14,9 @@ use message::Message;
 use message::reader;
 use octets::refusal;
 use plan::book;
-use plan::record;
 use plan::reporting;
 use plan::setting;
 use plan::setting::Answered;
-use plan::standing;
 
 // The first octet of the codes that are handled, and the second of each.
 const CODE_HIGH: u8 = 0x5F;
@@ -146,7 +144,7 @@ fn run(code: u16, requested: u8, book: &[u8], info: &[u8]) -> Handled
     let plan = plan_named(info);
     let own = book::built_in();
     let rec = stepper::record_of(book, &own, plan);
-    if standing::standing(rec) != standing::READY {
+    if checks::standing(rec) != record::READY {
         return refused(code, requested, refusal::NOT_READY, PLAN);
     }
     accepted(plan, carried_out_reply(code))
@@ -163,7 +161,7 @@ fn query_times(code: u16, requested: u8, book: &[u8], info: &[u8]) -> Handled
     let plan = plan_named(info);
     let own = book::built_in();
     let rec = stepper::record_of(book, &own, plan);
-    if standing::standing(rec) == standing::EMPTY {
+    if checks::standing(rec) == record::EMPTY {
         return refused(code, requested, refusal::NOT_READY, PLAN);
     }
     accepted(requested, reporting::report_times(rec, plan))
@@ -180,7 +178,7 @@ fn query_plan(code: u16, requested: u8, book: &[u8], info: &[u8]) -> Handled
     let plan = plan_named(info);
     let own = book::built_in();
     let rec = stepper::record_of(book, &own, plan);
-    if standing::standing(rec) != standing::READY {
+    if checks::standing(rec) != record::READY {
         return refused(code, requested, refusal::NOT_READY, PLAN);
     }
     accepted(

@@ -12,8 +12,8 @@ use frame::decoder::Decoder;
 use lamps::Row;
 use octets::refusal;
 use plan::book;
-use plan::record::BOOK_LEN;
-use plan::record::RECORD_LEN;
+use record::BOOK_LEN;
+use record::RECORD_LEN;
 
 // "FFFF is for all".
 pub const ALL: u16 = 0xFFFF;

@@ -7,9 +7,7 @@ use crate::Running;
 use crate::State;
 use frame::decoder;
 use plan::book;
-use plan::record;
-use plan::record::PLANS_MOST;
-use plan::standing;
+use record::PLANS_MOST;
 
 pub(crate) fn stands(s: State) -> bool
     ensures { λ r. ⌜ r ≡ soundOf s ⌝ }
@@ -41,5 +39,5 @@ fn running_stands(u: Running) -> bool
     if u.plan == 0 {
         return book::is_built_in(&copy);
     }
-    standing::standing(&copy) == standing::READY
+    checks::standing(&copy) == record::READY
 }

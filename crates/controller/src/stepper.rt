@@ -2,16 +2,14 @@
 ghost use mathlib.Core.Path.{_≡_};
 ghost use Prim.Native.Nat.{_<_};
 ghost use lib.ListN.{length};
-ghost use Rattle.plan.specs.Record.{recordLen, bookLen};
+ghost use Rattle.record.specs.Record.{recordLen, bookLen};
 ghost use Rattle.plan.specs.BuiltIn.{builtIn};
 ghost use Rattle.controller.specs.State.{startedAt, RecordOf};
 ghost use Rattle.controller.specs.Calls.{pickedOf, movedOn};
 use crate::Running;
 use octets::refusal;
 use plan::book;
-use plan::record;
-use plan::record::RECORD_LEN;
-use plan::standing;
+use record::RECORD_LEN;
 
 // A plan at its cycle's start.
 pub(crate) fn started(plan: u8, copy: [u8; RECORD_LEN]) -> Running
@@ -47,7 +45,7 @@ fn picked(u: Running, requested: u8, book: &[u8]) -> Running
     let own = book::built_in();
     let rec = record_of(book, &own, requested);
     // Reading judged it, so it stands as its state says.
-    if record::octet_at(rec, 0) == standing::READY {
+    if record::octet_at(rec, 0) == record::READY {
         return started(requested, copied(rec));
     }
     let copy = u.copy;

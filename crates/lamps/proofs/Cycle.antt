@@ -5,7 +5,7 @@ use mathlib.Core.List.{List}
 use native.Mathlib.Omega.{arith}
 use lib.ListN.{getD}
 use Rattle.diagram.specs.Table.{stepsAPhase}
-use Rattle.plan.specs.Record.{Ready, kOf, orderOf, greenOf, yellowOf, allRedOf, walkFlashOf, redManOf, phaseSeconds, sumOf}
+use Rattle.record.specs.Record.{Ready, kOf, orderOf, greenOf, yellowOf, allRedOf, walkFlashOf, redManOf, phaseSeconds, sumOf}
 use Rattle.lamps.specs.declared.Row.{Row}
 use Rattle.lamps.specs.Rows.{phaseTable, stepsOf, secondsOf, rowsFrom, rowsOf, rowAt}
 use Rattle.lamps.specs.Promises.{secondsTo, stepIn, Stretch, GreenWhole, CycleLong, GreenShown, WholePhases}

@@ -8,7 +8,7 @@ use native.Mathlib.Omega.{arith}
 use borrow.Author.Tests.{le-leb, lt-leb}
 use lib.ListN.{length, getD, length-append, List·getD-append}
 use lib.Seq.{getD-append-add}
-use Rattle.plan.specs.Record.{orderOf}
+use Rattle.record.specs.Record.{orderOf}
 use Rattle.lamps.specs.declared.Row.{Row}
 use Rattle.lamps.specs.Rows.{phaseTable, stepsOf, phaseOf, lineOf, secondsOf, rowOf, counted, rowsFrom, rowsOf, noRow, rowAt}
 use Rattle.lamps.specs.Promises.{secondsTo, Due, Shows, Each, Stretch}

@@ -4,7 +4,7 @@ use mathlib.Core.Path.{_≡_, sym, ap, _∙_}
 use native.Mathlib.Decide.{decLt}
 use native.Mathlib.Omega.{arith}
 use lib.ListN.{length, List·getD-eq-default}
-use Rattle.plan.specs.Record.{orderOf}
+use Rattle.record.specs.Record.{orderOf}
 use Rattle.lamps.specs.declared.Row.{Row}
 use Rattle.lamps.specs.Rows.{stepsOf, secondsOf, rowOf, rowsOf, noRow, rowAt}
 use Rattle.lamps.specs.Promises.{secondsTo, Due, LampsOfStep, OneDue, DarkPast, NoZeroStep}

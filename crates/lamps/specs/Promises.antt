@@ -4,7 +4,7 @@ use mathlib.Core.Path.{_≡_}
 use mathlib.Core.List.{List, [], _∷_, _++_}
 use lib.ListN.{length}
 use Rattle.diagram.specs.Table.{stepsAPhase, steadyOf, flashingOf}
-use Rattle.plan.specs.Record.{Ready, kOf, orderOf, greenOf, walkFlashOf, redManOf, yellowOf, allRedOf, cycleOf, sumOf}
+use Rattle.record.specs.Record.{Ready, kOf, orderOf, greenOf, walkFlashOf, redManOf, yellowOf, allRedOf, cycleOf, sumOf}
 use Rattle.lamps.specs.declared.Row.{Row}
 use Rattle.lamps.specs.Rows.{stepsOf, secondsOf, rowOf, rowsOf, noRow, rowAt}
 

@@ -8,7 +8,7 @@ use lib.Dec.{leb}
 use lib.ListN.{getD}
 use Rattle.octets.specs.Choice.{pick, both}
 use Rattle.diagram.specs.Table.{stepsAPhase, steadyOf, flashingOf}
-use Rattle.plan.specs.Record.{kOf, orderOf, greenOf, walkFlashOf, redManOf, yellowOf, allRedOf}
+use Rattle.record.specs.Record.{kOf, orderOf, greenOf, walkFlashOf, redManOf, yellowOf, allRedOf}
 use Rattle.lamps.specs.declared.Row.{Row}
 
 -- Seconds

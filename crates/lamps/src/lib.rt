@@ -26,16 +26,16 @@ fn less(a: u16, b: u8) -> u16
 fn steps(rec: &[u8]) -> u16
     ensures { λ r. ⌜ r ≡ stepsOf (now (rec .entry)) ⌝ }
 {
-    diagram::STEPS_A_PHASE * plan::record::count(rec) as u16
+    diagram::STEPS_A_PHASE * record::count(rec) as u16
 }
 
 // "green less walk flash less red man", and never below 0.
 fn green_less(rec: &[u8], i: u8) -> u16
     ensures { λ r. ⌜ r ≡ greenLess (now (rec .entry)) i ⌝ }
 {
-    let green = plan::record::green(rec, i);
-    let flash = plan::record::walk_flash(rec, i);
-    less(less(green, flash), plan::record::red_man(rec, i))
+    let green = record::green(rec, i);
+    let flash = record::walk_flash(rec, i);
+    less(less(green, flash), record::red_man(rec, i))
 }
 
 // The seconds of a step, the first step being 1; 0 where there is no such step.
@@ -52,10 +52,10 @@ pub fn seconds(rec: &[u8], step: u16) -> u16
     let line = (step - 1) % diagram::STEPS_A_PHASE;
     match line {
         0 => green_less(rec, i),
-        1 => plan::record::walk_flash(rec, i) as u16,
-        2 => plan::record::red_man(rec, i) as u16,
-        3 => plan::record::yellow(rec, i) as u16,
-        _ => plan::record::all_red(rec, i) as u16,
+        1 => record::walk_flash(rec, i) as u16,
+        2 => record::red_man(rec, i) as u16,
+        3 => record::yellow(rec, i) as u16,
+        _ => record::all_red(rec, i) as u16,
     }
 }
 
@@ -80,7 +80,7 @@ pub fn row_at(rec: &[u8], position: u16) -> Row
     for step in 1..end {
         let here = seconds(rec, step);
         if rest < here {
-            return row_of(plan::record::order(rec), step, here - rest);
+            return row_of(record::order(rec), step, here - rest);
         }
         rest = rest - here;
     }

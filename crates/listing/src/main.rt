@@ -10,9 +10,9 @@ use libc::STDIN_FILENO;
 use libc::STDOUT_FILENO;
 use line::Found;
 use line::Line;
-use plan::record::BOOK_LEN;
 use printout::run;
 use printout::run::Run;
+use record::BOOK_LEN;
 
 // The octets of one read at most.
 const BLOCK_LEN: usize = 4096;

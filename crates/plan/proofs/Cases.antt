@@ -14,12 +14,12 @@ use Rattle.diagram.specs.Table.{find, directory, diagramOf}
 use Rattle.message.specs.Layouts.{layouts, layoutAt, known, numberOf, rowsAt, rowsOf}
 use Rattle.message.specs.Values.{zeros, placed, firstOut}
 use Rattle.message.specs.Reader.{noMessage, refusedAs, partOf, rangedOf, readPartOf, readOf}
-use Rattle.plan.specs.Record.{ready, kOf}
-use Rattle.plan.specs.Standing.{timesDisagree, planDisagree, ranged, timesStand, planStands, readyStands, allZero, standingOf}
+use Rattle.record.specs.Record.{ready, kOf}
+use Rattle.checks.specs.Standing.{timesDisagree, planDisagree, ranged, timesStand, planStands, readyStands, allZero, standingOf}
 use Rattle.plan.specs.BuiltIn.{padded, builtIn, PhaseSays, BuiltInIsSo}
 use Rattle.plan.specs.Setting.{notMade, timesRecord, readyRecord, timesField, timesMade, readyMade, keptAs, frontOf, setOf}
 use Rattle.plan.specs.Cases.{answers, dueAnswers, stands, dueStands, PlanCases}
-use Rattle.plan.proofs.Stands.{stands-as-it-is}
+use Rattle.checks.proofs.Stands.{stands-as-it-is}
 
 pub plan-cases : PlanCases
 unfolding firstOf find directory diagramOf layouts layoutAt known numberOf rowsAt rowsOf zeros placed firstOut noMessage refusedAs partOf rangedOf readPartOf readOf timesDisagree planDisagree ranged timesStand planStands readyStands allZero standingOf padded notMade timesRecord readyRecord timesField timesMade readyMade keptAs frontOf setOf answers dueAnswers stands dueStands

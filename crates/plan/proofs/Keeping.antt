@@ -11,7 +11,7 @@ use Rattle.octets.specs.Octet.{Octets}
 use Rattle.octets.specs.Refusal as refusal
 use Rattle.message.specs.Reader.{codeIn, bodyIn}
 use Rattle.plan.specs.declared.setting.Made.{Made}
-use Rattle.plan.specs.Record.{bookLen, plansMost, Empty, TimesSet, Ready}
+use Rattle.record.specs.Record.{bookLen, plansMost, Empty, TimesSet, Ready}
 use Rattle.plan.specs.Reading.{recordAt, readRefusal}
 use Rattle.plan.specs.Setting.{planIn, frontOf, setOf, timesMade, readyMade, setTimesCode, setPlanCode, setTimesOf, setPlanOf}
 use Rattle.plan.specs.Promises.{Stored, OthersRead, SetsLeaveOthers, WellFormed, BookWellFormed, SetsKeepForm}

@@ -1,7 +1,4 @@
 pub mod Laws
-pub mod Fields
-pub mod Stands
-pub mod Judging
 pub mod Sets
 pub mod Storing
 pub mod Readying

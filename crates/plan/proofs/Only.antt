@@ -8,23 +8,8 @@ use denote.Ref.{RefT, now}
 use Rattle.octets.specs.Choice.{pick}
 use Rattle.octets.specs.Part.{PartOf}
 use Rattle.octets.specs.Refusal as refusal
-use Rattle.plan.specs.Record.{recordLen}
+use Rattle.record.specs.Record.{recordLen}
 use Rattle.plan.specs.Reading.{startOf, readRefusal}
-use Rattle.plan.proofs.record.octet_at.Reads as octet-at
-use Rattle.plan.proofs.record.word_at.Reads as word-at
-use Rattle.plan.proofs.record.count.Reads as count
-use Rattle.plan.proofs.record.minimum.Reads as minimum
-use Rattle.plan.proofs.record.maximum.Reads as maximum
-use Rattle.plan.proofs.record.yellow.Reads as yellow
-use Rattle.plan.proofs.record.all_red.Reads as all-red
-use Rattle.plan.proofs.record.walk_flash.Reads as walk-flash
-use Rattle.plan.proofs.record.red_man.Reads as red-man
-use Rattle.plan.proofs.record.direct.Reads as direct
-use Rattle.plan.proofs.record.order.Reads as order
-use Rattle.plan.proofs.record.green.Reads as green
-use Rattle.plan.proofs.record.cycle.Reads as cycle
-use Rattle.plan.proofs.record.offset.Reads as offset
-use Rattle.plan.proofs.standing.standing.Reads as standing
 use Rattle.plan.proofs.book.built_in.Reads as built-in
 use Rattle.plan.proofs.book.is_built_in.Reads as is-built-in
 use Rattle.plan.proofs.reporting.report_times.Reads as report-times
@@ -32,51 +17,6 @@ use Rattle.plan.proofs.reporting.report_plan.Reads as report-plan
 use Rattle.plan.proofs.setting.set_times.Reads as set-times
 use Rattle.plan.proofs.setting.set_plan.Reads as set-plan
 use Rattle.plan.proofs.book.read_plan.Reads as read-plan
-
-only-octet-at : (κs : _) (a : _) (r s : _) (x y : _) → octet-at.Post κs a r x → octet-at.Post κs a s y → r ≡ s
-only-octet-at κs a r s x y p q = p ∙ sym q
-
-only-word-at : (κs : _) (a : _) (r s : _) (x y : _) → word-at.Post κs a r x → word-at.Post κs a s y → r ≡ s
-only-word-at κs a r s x y p q = p ∙ sym q
-
-only-count : (κs : _) (a : _) (r s : _) (x y : _) → count.Post κs a r x → count.Post κs a s y → r ≡ s
-only-count κs a r s x y p q = p ∙ sym q
-
-only-minimum : (κs : _) (a : _) (r s : _) (x y : _) → minimum.Post κs a r x → minimum.Post κs a s y → r ≡ s
-only-minimum κs a r s x y p q = p ∙ sym q
-
-only-maximum : (κs : _) (a : _) (r s : _) (x y : _) → maximum.Post κs a r x → maximum.Post κs a s y → r ≡ s
-only-maximum κs a r s x y p q = p ∙ sym q
-
-only-yellow : (κs : _) (a : _) (r s : _) (x y : _) → yellow.Post κs a r x → yellow.Post κs a s y → r ≡ s
-only-yellow κs a r s x y p q = p ∙ sym q
-
-only-all-red : (κs : _) (a : _) (r s : _) (x y : _) → all-red.Post κs a r x → all-red.Post κs a s y → r ≡ s
-only-all-red κs a r s x y p q = p ∙ sym q
-
-only-walk-flash : (κs : _) (a : _) (r s : _) (x y : _) → walk-flash.Post κs a r x → walk-flash.Post κs a s y → r ≡ s
-only-walk-flash κs a r s x y p q = p ∙ sym q
-
-only-red-man : (κs : _) (a : _) (r s : _) (x y : _) → red-man.Post κs a r x → red-man.Post κs a s y → r ≡ s
-only-red-man κs a r s x y p q = p ∙ sym q
-
-only-direct : (κs : _) (a : _) (r s : _) (x y : _) → direct.Post κs a r x → direct.Post κs a s y → r ≡ s
-only-direct κs a r s x y p q = p ∙ sym q
-
-only-order : (κs : _) (a : _) (r s : _) (x y : _) → order.Post κs a r x → order.Post κs a s y → r ≡ s
-only-order κs a r s x y p q = p ∙ sym q
-
-only-green : (κs : _) (a : _) (r s : _) (x y : _) → green.Post κs a r x → green.Post κs a s y → r ≡ s
-only-green κs a r s x y p q = p ∙ sym q
-
-only-cycle : (κs : _) (a : _) (r s : _) (x y : _) → cycle.Post κs a r x → cycle.Post κs a s y → r ≡ s
-only-cycle κs a r s x y p q = p ∙ sym q
-
-only-offset : (κs : _) (a : _) (r s : _) (x y : _) → offset.Post κs a r x → offset.Post κs a s y → r ≡ s
-only-offset κs a r s x y p q = p ∙ sym q
-
-only-standing : (κs : _) (a : _) (r s : _) (x y : _) → standing.Post κs a r x → standing.Post κs a s y → r ≡ s
-only-standing κs a r s x y p q = p ∙ sym q
 
 only-built-in : (κs : _) (a : _) (r s : _) (x y : _) → built-in.Post κs a r x → built-in.Post κs a s y → r ≡ s
 only-built-in κs a r s x y p q = p ∙ sym q

@@ -15,8 +15,8 @@ use Rattle.octets.proofs.Laws.{put-stored, stored-then}
 use Rattle.message.specs.declared.Message.{Message}
 use Rattle.message.specs.declared.Read.{Read}
 use Rattle.message.specs.Reader.{noMessage, readOf}
-use Rattle.plan.specs.Record.{recordLen, kOf, timesEnd, greensAt, readyEnd, directOf, orderOf}
-use Rattle.plan.specs.Standing.{between}
+use Rattle.record.specs.Record.{recordLen, kOf, timesEnd, greensAt, readyEnd, directOf, orderOf}
+use Rattle.checks.specs.Standing.{between}
 use Rattle.plan.specs.Reporting.{infoMost, reportTimesCode, timesInfo, planInfo, reportTimesOf, reportPlanOf}
 
 -- two runs of octets, one after the other, from the front

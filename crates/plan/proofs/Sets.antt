@@ -25,12 +25,12 @@ use Rattle.message.proofs.Search.{getD-past}
 use Rattle.message.proofs.Accepted.{Accepted, accepted-in}
 use Rattle.plan.specs.declared.setting.Answered.{Answered}
 use Rattle.plan.specs.declared.setting.Made.{Made}
-use Rattle.plan.specs.Record.{recordLen, bookLen, empty, timesSet, ready, octetAt, wordAt, kOf, timesEnd, Within, ZeroFrom}
-use Rattle.plan.specs.Standing.{between, timesDisagree, planDisagree, standingOf}
+use Rattle.record.specs.Record.{recordLen, bookLen, empty, timesSet, ready, octetAt, wordAt, kOf, timesEnd, Within, ZeroFrom}
+use Rattle.checks.specs.Standing.{between, timesDisagree, planDisagree, standingOf}
 use Rattle.plan.specs.BuiltIn.{padded}
 use Rattle.plan.specs.Reading.{startOf, recordAt}
 use Rattle.plan.specs.Setting.{planIn, countIn, Times14, Plan15, timesRecord, readyRecord, made, notMade, timesField, planField, timesMade, readyMade, Setting, Did, answered, keptAs, setTimesCode, setPlanCode, frontOf, setOf}
-use Rattle.plan.proofs.Fields.{size-append, size-repeated, Read1, pass-all}
+use Rattle.checks.proofs.Fields.{size-append, size-repeated, Read1, pass-all}
 
 -- What any set refuses
 

@@ -16,14 +16,14 @@ use Rattle.message.specs.declared.Message.{Message}
 use Rattle.message.specs.declared.Read.{Read}
 use Rattle.message.specs.Layouts.{layouts, layoutAt, numberOf, rowsAt, rowsOf}
 use Rattle.message.specs.Reader.{readAs, partOf, kIn, codeIn, bodyIn, readOf}
-use Rattle.plan.specs.Record.{recordLen, bookLen, timesSet, ready, kOf, timesEnd, greensAt, readyEnd, directOf, orderOf}
-use Rattle.plan.specs.Standing.{between}
+use Rattle.record.specs.Record.{recordLen, bookLen, timesSet, ready, kOf, timesEnd, greensAt, readyEnd, directOf, orderOf}
+use Rattle.checks.specs.Standing.{between}
 use Rattle.plan.specs.BuiltIn.{padded}
 use Rattle.plan.specs.Reading.{startOf, recordAt}
 use Rattle.plan.specs.Setting.{planIn, countIn, Setting, timesRecord, readyRecord, setTimesCode, setPlanCode, setTimesOf, setPlanOf}
 use Rattle.plan.specs.Reporting.{reportTimesCode, reportPlanCode, reportRunningCode, timesInfo, planInfo, reportTimesOf, reportPlanOf}
 use Rattle.plan.specs.Promises.{Fit14, directIn, orderIn, Fit15, Holds15, Reports, TimesReported, PlanReported}
-use Rattle.plan.proofs.Fields.{Read1}
+use Rattle.checks.proofs.Fields.{Read1}
 use Rattle.plan.proofs.Sets.{times-at}
 use Rattle.plan.proofs.Storing.{stored-here, read-as, long-enough, fit-read, fit-stored, record-long, times-number, times-count}
 use Rattle.plan.proofs.Readying.{ranges-to, has-long, has-fit, m-holds, m-long, fit-done, plan-number, plan-count}

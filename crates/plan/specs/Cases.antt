@@ -6,8 +6,8 @@ use lib.ListN.{replicate}
 use Rattle.octets.specs.Refusal as refusal
 use Rattle.message.specs.Reader.{bodyIn}
 use Rattle.plan.specs.declared.setting.Answered.{Answered}
-use Rattle.plan.specs.Record.{bookLen, timesSet, ready}
-use Rattle.plan.specs.Standing.{standingOf}
+use Rattle.record.specs.Record.{bookLen, timesSet, ready}
+use Rattle.checks.specs.Standing.{standingOf}
 use Rattle.plan.specs.Setting.{timesRecord, readyRecord, answered, setTimesOf, setPlanOf}
 
 abbrev emptyBook : List ℕ

@@ -1,5 +1,3 @@
-pub mod Record
-pub mod Standing
 pub mod BuiltIn
 pub mod Reading
 pub mod Setting

@@ -10,8 +10,8 @@ use Rattle.diagram.specs.Table.{phasesOf}
 use Rattle.message.specs.declared.Message.{Message}
 use Rattle.message.specs.Names.{planAt, maximumAt, redManAt, planCountAt, greenAt, cycleAt, offsetAt}
 use Rattle.message.specs.Reader.{codeIn, bodyIn, readOf}
-use Rattle.plan.specs.Record.{recordLen, bookLen, plansMost, empty, ready, octetAt, wordAt, kOf, minimumOf, maximumOf, yellowOf, allRedOf, walkFlashOf, redManOf, directOf, orderOf, greenOf, cycleOf, offsetOf, Within, AllTimesFit, Empty, TimesSet, Ready}
-use Rattle.plan.specs.Standing.{standingOf}
+use Rattle.record.specs.Record.{recordLen, bookLen, plansMost, empty, ready, octetAt, wordAt, kOf, minimumOf, maximumOf, yellowOf, allRedOf, walkFlashOf, redManOf, directOf, orderOf, greenOf, cycleOf, offsetOf, Within, AllTimesFit, Empty, TimesSet, Ready}
+use Rattle.checks.specs.Standing.{standingOf}
 use Rattle.plan.specs.Reading.{recordAt, readRefusal}
 use Rattle.plan.specs.Reporting.{reportTimesCode, reportPlanCode, reportRunningCode, timesInfo, planInfo, reportTimesOf, reportPlanOf}
 use Rattle.plan.specs.Setting.{planIn, countIn, setTimesCode, setPlanCode, setTimesOf, setPlanOf}

@@ -13,8 +13,8 @@ use denote.Ref.{RefT, now}
 use Rattle.octets.specs.Choice.{pick, both}
 use Rattle.octets.specs.Part.{PartOf}
 use Rattle.octets.specs.Refusal as refusal
-use Rattle.plan.specs.Record.{recordLen, plansMost, bookLen, empty}
-use Rattle.plan.specs.Standing.{standingOf}
+use Rattle.record.specs.Record.{recordLen, plansMost, bookLen, empty}
+use Rattle.checks.specs.Standing.{standingOf}
 use Rattle.plan.specs.BuiltIn.{builtIn}
 
 -- "Plan p, 1 to 48, has 80 octets from 80(p-1)"

@@ -7,8 +7,8 @@ use Rattle.octets.specs.Choice.{pick, both}
 use Rattle.octets.specs.Word.{highOf, lowOf}
 use Rattle.message.specs.declared.Message.{Message}
 use Rattle.message.specs.Reader.{noMessage, readOf}
-use Rattle.plan.specs.Record.{recordLen, kOf, timesEnd, greensAt, readyEnd, directOf, orderOf}
-use Rattle.plan.specs.Standing.{between}
+use Rattle.record.specs.Record.{recordLen, kOf, timesEnd, greensAt, readyEnd, directOf, orderOf}
+use Rattle.checks.specs.Standing.{between}
 
 -- the octets of a report are no more
 abbrev pub infoMost : ℕ

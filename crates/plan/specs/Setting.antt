@@ -13,8 +13,8 @@ use Rattle.message.specs.Names.{planAt, maximumAt, redManAt, planCountAt}
 use Rattle.message.specs.Reader.{codeIn, bodyIn, readOf}
 use Rattle.plan.specs.declared.setting.Answered.{Answered}
 use Rattle.plan.specs.declared.setting.Made.{Made}
-use Rattle.plan.specs.Record.{recordLen, bookLen, plansMost, empty, timesSet, ready, octetAt, kOf, timesEnd, Within}
-use Rattle.plan.specs.Standing.{between, timesDisagree, planDisagree, standingOf}
+use Rattle.record.specs.Record.{recordLen, bookLen, plansMost, empty, timesSet, ready, octetAt, kOf, timesEnd, Within}
+use Rattle.checks.specs.Standing.{between, timesDisagree, planDisagree, standingOf}
 use Rattle.plan.specs.BuiltIn.{padded}
 use Rattle.plan.specs.Reading.{startOf, recordAt}
 

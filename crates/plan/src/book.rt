@@ -2,15 +2,14 @@
 ghost use mathlib.Core.Path.{_≡_};
 ghost use Prim.Native.Nat.{_≤_};
 ghost use lib.ListN.{length};
-ghost use Rattle.plan.specs.Record.{recordLen, bookLen, plansMost};
+ghost use Rattle.record.specs.Record.{recordLen, bookLen, plansMost};
 ghost use Rattle.plan.specs.BuiltIn.{builtIn};
 ghost use Rattle.plan.specs.Reading.{startOf, recordAt, same, readRefusal, PartRead, PlanRead};
-ghost use Rattle.plan.specs.Standing.{standingOf};
-use crate::record::BOOK_LEN;
-use crate::record::PLANS_MOST;
-use crate::record::RECORD_LEN;
-use crate::standing;
+ghost use Rattle.checks.specs.Standing.{standingOf};
 use octets::refusal;
+use record::BOOK_LEN;
+use record::PLANS_MOST;
+use record::RECORD_LEN;
 
 // Plan 0: how many phases, the times of each, and direct, order, both greens, cycle, offset.
 const BUILT_IN_K: u8 = 2;
@@ -24,7 +23,7 @@ pub fn built_in() -> [u8; RECORD_LEN]
     ensures { λ r. ⌜ r ≡ builtIn ⌝ }
 {
     let mut rec = [0u8; RECORD_LEN];
-    rec[0] = standing::READY;
+    rec[0] = record::READY;
     rec[1] = BUILT_IN_K;
     octets::put(&BUILT_IN_TIMES, &mut rec, 2);
     octets::put(&BUILT_IN_TIMES, &mut rec, 9);
@@ -83,7 +82,7 @@ fn read_refusal(book: &[u8], own: &[u8], plan: u8) -> u8
         }
         return refusal::NOT_READY;
     }
-    if standing_of(book, plan) == standing::EMPTY {
+    if standing_of(book, plan) == record::EMPTY {
         return refusal::NOT_READY;
     }
     refusal::NONE
@@ -96,7 +95,7 @@ pub(crate) fn standing_of(book: &[u8], plan: u8) -> u8
 {
     let at = start(plan);
     let end = at + RECORD_LEN;
-    standing::standing(&book[at..end])
+    checks::standing(&book[at..end])
 }
 
 // Are the octets the built-in record?

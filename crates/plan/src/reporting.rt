@@ -6,9 +6,8 @@ ghost use mathlib.Core.List.{_++_};
 ghost use lib.ListN.{length};
 ghost use Rattle.message.specs.Reader.{noMessage, readOf};
 ghost use Rattle.plan.specs.Reporting.{infoMost, reportTimesOf, reportPlanOf};
-use crate::record;
-use crate::record::RECORD_LEN;
 use message::Message;
+use record::RECORD_LEN;
 
 // The most octets of a report, and room to spare: a code, a plan, and a record.
 const INFO_MOST: usize = RECORD_LEN + 6;

@@ -4,14 +4,12 @@ ghost use Prim.Native.Nat.{_+_, _*_, _≤_};
 ghost use lib.ListN.{length};
 ghost use lib.Seq.{sets};
 ghost use Rattle.plan.specs.Reading.{startOf};
-ghost use Rattle.plan.specs.Record.{recordLen, bookLen, plansMost, kOf, timesEnd};
+ghost use Rattle.record.specs.Record.{recordLen, bookLen, plansMost, kOf, timesEnd};
 ghost use Rattle.plan.specs.Setting.{Times14, Plan15, timesRecord, readyRecord, notMade, timesField, timesMade, readyMade, answered, Did, keptAs, frontOf, setTimesOf, setPlanOf};
 use crate::book;
-use crate::record;
-use crate::record::BOOK_LEN;
-use crate::record::RECORD_LEN;
-use crate::standing;
 use octets::refusal;
+use record::BOOK_LEN;
+use record::RECORD_LEN;
 
 // What a set answers: the refusal, and the number of the field that it names.
 pub struct Answered {
@@ -104,7 +102,7 @@ fn made_times(body: &[u8]) -> Made
     requires { ⌜ Times14 (now body) ⌝ }
     ensures { λ r. ⌜ r ≡ timesMade (now (body .entry)) ⌝ }
 {
-    let n = standing::times_disagree(body);
+    let n = checks::times_disagree(body);
     if n != 0 {
         return not_made(refusal::DISAGREE, times_field(n));
     }
@@ -133,14 +131,14 @@ fn made_ready(old: &[u8], body: &[u8]) -> Made
     requires { ⌜ (length (now old) ≡ recordLen) × (Plan15 (now body)) ⌝ }
     ensures { λ r. ⌜ r ≡ readyMade (now (old .entry)) (now (body .entry)) ⌝ }
 {
-    if standing::standing(old) == standing::EMPTY {
+    if checks::standing(old) == record::EMPTY {
         return not_made(refusal::NOT_READY, PLAN);
     }
     if record::octet_at(body, 3) != record::count(old) {
         return not_made(refusal::DISAGREE, PLAN_COUNT);
     }
     let rec = ready_record(old, body);
-    let n = standing::plan_disagree(&rec);
+    let n = checks::plan_disagree(&rec);
     if n != 0 {
         return not_made(refusal::DISAGREE, n as u8 + PLAN_COUNT - 1);
     }
@@ -157,7 +155,7 @@ fn times_record(body: &[u8]) -> [u8; RECORD_LEN]
     ensures { λ r. ⌜ r ≡ timesRecord (now (body .entry)) ⌝ }
 {
     let mut rec = [0u8; RECORD_LEN];
-    rec[0] = standing::TIMES_SET;
+    rec[0] = record::TIMES_SET;
     octets::put(&body[1..], &mut rec, 1);
     rec
 }
@@ -168,7 +166,7 @@ fn ready_record(old: &[u8], body: &[u8]) -> [u8; RECORD_LEN]
     ensures { λ r. ⌜ r ≡ readyRecord (now (old .entry)) (now (body .entry)) ⌝ }
 {
     let mut made = [0u8; RECORD_LEN];
-    made[0] = standing::READY;
+    made[0] = record::READY;
     let end = record::times_end(old);
     let p = octets::put(&old[1..end], &mut made, 1);
     let q = octets::put(&body[1..3], &mut made, p);

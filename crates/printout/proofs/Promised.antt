@@ -15,8 +15,8 @@ use Rattle.message.specs.Layouts.{layouts, layoutAt, known, numberOf, rowsAt}
 use Rattle.message.specs.Layouts as message
 use Rattle.message.specs.Values.{zeros, placed, firstOut}
 use Rattle.message.specs.Reader.{noMessage, refusedAs, partOf, rangedOf, readPartOf, readOf}
-use Rattle.plan.specs.Record.{bookLen, orderOf}
-use Rattle.plan.specs.Standing.{timesDisagree, planDisagree, ranged, timesStand, planStands, readyStands, allZero, standingOf}
+use Rattle.record.specs.Record.{bookLen, orderOf}
+use Rattle.checks.specs.Standing.{timesDisagree, planDisagree, ranged, timesStand, planStands, readyStands, allZero, standingOf}
 use Rattle.plan.specs.BuiltIn.{padded, builtIn}
 use Rattle.plan.specs.Reading.{same}
 use Rattle.lamps.specs.declared.Row.{Row}

@@ -4,7 +4,7 @@ use mathlib.Core.Path.{_≡_}
 use mathlib.Core.List.{List, [], _∷_, _++_}
 use lib.ListN.{length, take, replicate}
 use Rattle.octets.specs.Put.{Put}
-use Rattle.plan.specs.Record.{bookLen}
+use Rattle.record.specs.Record.{bookLen}
 use Rattle.controller.specs.declared.State.{State}
 use Rattle.controller.specs.State.{outputLen, freshOf}
 use Rattle.controller.specs.Calls.{octetOf, secondOf}

@@ -4,7 +4,7 @@ use mathlib.Core.Path.{_≡_, ap, _∙_}
 use native.Mathlib.Omega.{arith}
 use borrow.Author.Needs.{needs}
 use lib.ListN.{getD}
-use Rattle.plan.specs.Record.{orderOf}
+use Rattle.record.specs.Record.{orderOf}
 use Rattle.lamps.specs.Rows.{secondsOf, rowOf, rowsFrom, noRow, rowAt}
 use Rattle.lamps.proofs.Laws.{search-begins, search-ends, search-stops, search-goes}
 use Rattle.lamps.proofs.row_at.Statement.{statement}

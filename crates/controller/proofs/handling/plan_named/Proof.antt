@@ -3,7 +3,7 @@ use mathlib.Core.Path.{_∙_, ap}
 use Prim.Native.Nat.{ℕ}
 use mathlib.Core.List.{List}
 use borrow.Author.Needs.{needs}
-use Rattle.plan.specs.Record.{octetAt}
+use Rattle.record.specs.Record.{octetAt}
 use Rattle.controller.proofs.handling.plan_named.Statement.{statement}
 use Rattle.controller.proofs.handling.plan_named.Tie as tie
 

@@ -1,7 +1,7 @@
 -- `controller::stepper::copied` meets its contract: a run of 80 octets fills the copy.
 use borrow.Author.Needs.{needs}
 use lib.ListN.{replicate}
-use Rattle.plan.specs.Record.{recordLen}
+use Rattle.record.specs.Record.{recordLen}
 use Rattle.controller.proofs.Laws.{filled}
 use Rattle.controller.proofs.stepper.copied.Statement.{statement}
 use Rattle.controller.proofs.stepper.copied.Tie as tie

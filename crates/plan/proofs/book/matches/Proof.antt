@@ -5,9 +5,10 @@ use mathlib.Core.Logic.{⊎-elim}
 use borrow.Author.Needs.{needs}
 use lib.ListN.{length, drop}
 use Rattle.octets.specs.Choice.{both}
-use Rattle.plan.specs.Record.{recordLen}
+use Rattle.record.specs.Record.{recordLen}
 use Rattle.plan.specs.Reading.{same}
-use Rattle.plan.proofs.Laws.{length-built-in, both-none, both-all, same-stops, same-goes, same-ends}
+use Rattle.checks.proofs.Laws.{both-none, both-all}
+use Rattle.plan.proofs.Laws.{length-built-in, same-stops, same-goes, same-ends}
 use Rattle.plan.proofs.book.matches.Statement.{statement}
 use Rattle.plan.proofs.book.matches.Tie as tie
 

@@ -8,7 +8,7 @@ use borrow.Author.Tests.{eq-eqb, ne-eqb}
 use lib.ListN.{length, take, drop}
 use lib.Seq.{take-all}
 use Rattle.octets.specs.Refusal as refusal
-use Rattle.plan.specs.Record.{recordLen}
+use Rattle.record.specs.Record.{recordLen}
 use Rattle.plan.specs.Reading.{readRefusal}
 use Rattle.plan.proofs.Laws.{read-sound, record-from}
 use Rattle.plan.proofs.book.part_read.Statement.{statement}

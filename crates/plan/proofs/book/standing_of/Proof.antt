@@ -1,7 +1,7 @@
 -- `plan::book::standing_of` meets its contract: the part that is judged is the plan's record.
 use mathlib.Core.Path.{ap, _∙_}
 use borrow.Author.Needs.{needs}
-use Rattle.plan.specs.Standing.{standingOf}
+use Rattle.checks.specs.Standing.{standingOf}
 use Rattle.plan.proofs.Laws.{record-from}
 use Rattle.plan.proofs.book.standing_of.Statement.{statement}
 use Rattle.plan.proofs.book.standing_of.Tie as tie

@@ -3,9 +3,9 @@ use mathlib.Core.Path.{_≡_, sym, ap, _∙_}
 use Prim.Native.Nat.{_≤_}
 use native.Mathlib.Omega.{arith}
 use borrow.Author.Needs.{needs}
-use Rattle.plan.specs.Standing.{planDisagree}
+use Rattle.checks.specs.Standing.{planDisagree}
 use Rattle.plan.specs.Setting.{readyRecord}
-use Rattle.plan.proofs.Stands.{plan-first}
+use Rattle.checks.proofs.Stands.{plan-first}
 use Rattle.plan.proofs.Sets.{ready-k, ready-unset, ready-count, ready-not, ready-is}
 use Rattle.plan.proofs.setting.made_ready.Statement.{statement}
 use Rattle.plan.proofs.setting.made_ready.Tie as tie

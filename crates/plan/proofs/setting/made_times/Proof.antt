@@ -2,7 +2,7 @@
 use native.Mathlib.Omega.{arith}
 use borrow.Author.Needs.{needs}
 use mathlib.Core.Path.{_∙_}
-use Rattle.plan.proofs.Stands.{times-first}
+use Rattle.checks.proofs.Stands.{times-first}
 use Rattle.plan.proofs.Sets.{times-not, times-is}
 use Rattle.plan.proofs.setting.made_times.Statement.{statement}
 use Rattle.plan.proofs.setting.made_times.Tie as tie

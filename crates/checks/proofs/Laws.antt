@@ -1,0 +1,113 @@
+-- What follows from the definitions of specs/: one law for each way through.
+use Prim.Native.Nat.{ℕ, _+_, _-_, _≤_, _<_}
+use mathlib.Core.Path.{_≡_, refl, ap, _∙_}
+use mathlib.Core.Bool.{Bool, true, false, not}
+use mathlib.Core.List.{List}
+use native.Mathlib.Numerals.{add-one}
+use native.Mathlib.Omega.{arith}
+use borrow.Author.Tests.{eq-eqb, ne-eqb, le-leb, lt-leb}
+use lib.Dec.{eqb, leb}
+use lib.ListN.{length, drop, getD, drop-of-length-le}
+use lib.Seq.{drop-cons}
+use Rattle.octets.specs.Choice.{pick, both}
+use Rattle.octets.proofs.Laws.{drop-next}
+use Rattle.diagram.specs.Table.{phasesOf}
+use Rattle.record.specs.Record.{recordLen, empty, timesSet, ready, stateOf, kOf, timesEnd, readyEnd, orderOf, cycleOf, offsetOf, sumOf}
+use Rattle.checks.specs.Standing.{greenFails, planFails, timesStand, planStands, readyStands, allZero, every, standingOf}
+
+-- The checks
+
+module _ (rec : List ℕ) (c : ℕ) {k : ℕ} (ek : k ≡ kOf rec) where
+  pub fails-count : c ≡ 0 → {n : ℕ} → n ≡ phasesOf (orderOf rec) → not (eqb k n) ≡ planFails rec c
+  fails-count z e = rw (eq-eqb c 0 z, ek, e)
+
+  pub fails-green : (c ≡ 0 → ⊥) → c ≤ k → {t : Bool} → t ≡ greenFails rec (c - 1) → t ≡ planFails rec c
+  fails-green n h e = let h′ : c ≤ kOf rec = omega arith in rw (ne-eqb c 0 n, le-leb c (kOf rec) h′) e
+
+  pub fails-cycle : c ≡ k + 1 → {a b : ℕ} → a ≡ cycleOf rec → b ≡ sumOf rec (kOf rec) → not (eqb a b) ≡ planFails rec c
+  fails-cycle e ea eb =
+      let n : c ≡ 0 → ⊥ = λ z. omega arith in
+      let l : k < c = omega arith in
+      rw (ne-eqb c 0 n, ea, eb, ← ek, lt-leb c k l, eq-eqb c (k + 1) e)
+
+  pub fails-offset : k < c → (c ≡ k + 1 → ⊥) → {a b : ℕ} → a ≡ cycleOf rec → b ≡ offsetOf rec → leb a b ≡ planFails rec c
+  fails-offset l n ea eb = let z : c ≡ 0 → ⊥ = λ z. omega arith in rw (ne-eqb c 0 z, ea, eb, ← ek, lt-leb c k l, ne-eqb c (k + 1) n)
+
+-- Every octet is looked at: what was found so far, and what the rest says
+
+pub both-none : (a : Bool) → both a false ≡ false
+both-none true = refl
+both-none false = refl
+
+pub both-all : (a : Bool) → both a true ≡ a
+both-all true = refl
+both-all false = refl
+
+-- The rest of a record
+
+module _ (rec : List ℕ) (i : ℕ) where
+  pub zero-stops : i < length rec → (getD rec i 0 ≡ 0 → ⊥) → false ≡ allZero (drop i rec)
+  unfolding allZero
+  zero-stops h n = rw (drop-next rec i h, ne-eqb (getD rec i 0) 0 n)
+
+  pub zero-goes : i < length rec → getD rec i 0 ≡ 0 → allZero (drop (i + 1) rec) ≡ allZero (drop i rec)
+  unfolding allZero
+  zero-goes h e = rw (drop-next rec i h, eq-eqb (getD rec i 0) 0 e)
+
+  pub zero-ends : length rec ≤ i → true ≡ allZero (drop i rec)
+  unfolding allZero
+  zero-ends h = rw (drop-of-length-le rec h)
+
+-- All checks
+
+module _ (bs : List Bool) (i : ℕ) where
+  pub every-stops : i < length bs → getD bs i false ≡ false → false ≡ every (drop i bs)
+  unfolding every
+  every-stops h e = rw (drop-cons bs i false h, e)
+
+  pub every-goes : i < length bs → getD bs i false ≡ true → every (drop (i + 1) bs) ≡ every (drop i bs)
+  unfolding every
+  every-goes h e = rw (add-one i, drop-cons bs i false h, e)
+
+  pub every-ends : length bs ≤ i → true ≡ every (drop i bs)
+  unfolding every
+  every-ends h = rw (drop-of-length-le bs h)
+
+-- The parts of a record
+
+module _ (rec : List ℕ) where
+  module _ {t : Bool} (et : t ≡ planStands rec) where
+    pub ready-out : t ≡ false → false ≡ readyStands rec
+    unfolding readyStands
+    ready-out f = rw (← et, f)
+
+    pub ready-zero : t ≡ true → {end : ℕ} → end ≡ readyEnd rec → {z : Bool} → z ≡ allZero (drop end rec) → z ≡ readyStands rec
+    unfolding readyStands
+    ready-zero f ee e = rw (← et, f) (e ∙ ap (λ (n : ℕ). allZero (drop n rec)) ee)
+
+  -- How it stands
+
+  pub stands-long : (length rec ≡ recordLen → ⊥) → empty ≡ standingOf rec
+  unfolding standingOf
+  stands-long n = rw (ne-eqb (length rec) recordLen n)
+
+  module _ (h : length rec ≡ recordLen) {t : Bool} (et : t ≡ timesStand rec) where
+    pub stands-not : t ≡ false → empty ≡ standingOf rec
+    unfolding standingOf
+    stands-not f = rw (eq-eqb (length rec) recordLen h, ← et, f)
+
+    module _ (f : t ≡ true) {s : ℕ} (es : s ≡ stateOf rec) where
+      pub stands-times : s ≡ timesSet → {end : ℕ} → end ≡ timesEnd rec → {z : Bool} → z ≡ allZero (drop end rec) → pick z timesSet empty ≡ standingOf rec
+      unfolding standingOf
+      stands-times e ee ez =
+          rw (eq-eqb (length rec) recordLen h, ← et, f, ← es, eq-eqb s timesSet e, ← (ez ∙ ap (λ (n : ℕ). allZero (drop n rec)) ee))
+
+      pub stands-ready : s ≡ ready → {z : Bool} → z ≡ readyStands rec → pick z ready empty ≡ standingOf rec
+      unfolding standingOf
+      stands-ready e ez =
+          let n : s ≡ timesSet → ⊥ = λ (q : s ≡ timesSet). omega arith in
+          rw (eq-eqb (length rec) recordLen h, ← et, f, ← es, ne-eqb s timesSet n, eq-eqb s ready e, ez)
+
+      pub stands-else : (s ≡ timesSet → ⊥) → (s ≡ ready → ⊥) → empty ≡ standingOf rec
+      unfolding standingOf
+      stands-else n m = rw (eq-eqb (length rec) recordLen h, ← et, f, ← es, ne-eqb s timesSet n, ne-eqb s ready m)

@@ -1,0 +1,5 @@
+pub mod Laws
+pub mod Fields
+pub mod Stands
+pub mod Judging
+pub mod Only
