@@ -1,9 +1,10 @@
 -- What follows from the definitions of specs/: one law for each way through.
 use Prim.Native.Nat.{ℕ, _+_, _-_, _≤_, _<_}
-use mathlib.Core.Path.{_≡_, refl, ap, _∙_}
+use mathlib.Core.Path.{_≡_, refl, sym, ap, _∙_}
 use mathlib.Core.Bool.{Bool, true, false, not}
 use mathlib.Core.List.{List}
 use native.Mathlib.Numerals.{add-one}
+use native.Mathlib.Decide.{decLt}
 use native.Mathlib.Omega.{arith}
 use borrow.Author.Tests.{eq-eqb, ne-eqb, le-leb, lt-leb}
 use lib.Dec.{eqb, leb}
@@ -57,6 +58,50 @@ module _ (rec : List ℕ) (i : ℕ) where
   pub zero-ends : length rec ≤ i → true ≡ allZero (drop i rec)
   unfolding allZero
   zero-ends h = rw (drop-of-length-le rec h)
+
+-- The last octet that is not 0: the rest from a place on is zero exactly where that octet stands before it
+
+module _ (rec : List ℕ) (at : ℕ) where
+  -- what the octets from i on say of it
+  abbrev pub restFrom : ℕ → Bool
+  restFrom i = pick (leb at i) (allZero (drop i rec)) (allZero (drop at rec))
+
+  here : (i : ℕ) → at ≤ i → restFrom i ≡ allZero (drop i rec)
+  here i h = rw (le-leb at i h)
+
+  later : (i : ℕ) → i ≤ at → restFrom i ≡ allZero (drop at rec)
+  later i h = by (decLt i at)
+    where
+      by : Dec (i < at) → restFrom i ≡ allZero (drop at rec)
+      by (yes l) = rw (lt-leb at i l)
+      by (no n) = let e : i ≡ at = omega arith in rw (e, le-leb at at (omega arith))
+
+  pub last-none : both (leb 0 at) (restFrom 0) ≡ allZero (drop at rec)
+  last-none = rw (le-leb 0 at (omega arith)) (later 0 (omega arith))
+
+  module _ (end i : ℕ) (h : i < length rec) (e : both (leb end at) (restFrom i) ≡ allZero (drop at rec)) where
+    pub last-is : (getD rec i 0 ≡ 0 → ⊥) → both (leb (i + 1) at) (restFrom (i + 1)) ≡ allZero (drop at rec)
+    last-is n = by (decLt i at)
+      where
+        by : Dec (i < at) → both (leb (i + 1) at) (restFrom (i + 1)) ≡ allZero (drop at rec)
+        by (yes l) = rw (le-leb (i + 1) at (omega arith)) (later (i + 1) (omega arith))
+        by (no m) =
+            rw (lt-leb (i + 1) at (omega arith))
+            (sym (both-none (leb end at)) ∙ (ap (both (leb end at)) (zero-stops rec i h n ∙ sym (here i (omega arith))) ∙ e))
+
+    pub last-stays : end ≤ i → getD rec i 0 ≡ 0 → both (leb end at) (restFrom (i + 1)) ≡ allZero (drop at rec)
+    last-stays l z = by (decLt i at)
+      where
+        by : Dec (i < at) → both (leb end at) (restFrom (i + 1)) ≡ allZero (drop at rec)
+        by (yes m) = rw (le-leb end at (omega arith)) (later (i + 1) (omega arith))
+        by (no m) = ap (both (leb end at)) (here (i + 1) (omega arith) ∙ (zero-goes rec i h z ∙ sym (here i (omega arith)))) ∙ e
+
+  pub last-of-all : (end i : ℕ) → end ≤ i → length rec ≤ i → both (leb end at) (restFrom i) ≡ allZero (drop at rec) → leb end at ≡ allZero (drop at rec)
+  last-of-all end i l h e = by (decLt i at)
+    where
+      by : Dec (i < at) → leb end at ≡ allZero (drop at rec)
+      by (yes m) = le-leb end at (omega arith) ∙ zero-ends rec at (omega arith)
+      by (no m) = sym (both-all (leb end at)) ∙ (ap (both (leb end at)) (zero-ends rec i h ∙ sym (here i (omega arith))) ∙ e)
 
 -- All checks
 

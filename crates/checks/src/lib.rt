@@ -44,19 +44,20 @@ fn ready_stands(rec: &[u8]) -> bool
     zero_from(rec, record::ready_end(rec))
 }
 
-// "the rest zero". Every octet is looked at, as in `book::matches`.
+// "the rest zero": the last octet that is not 0 stands before it. Every octet is looked at, and counted in one octet, so that
+// the compiler looks at many at once.
 fn zero_from(rec: &[u8], at: usize) -> bool
+    requires { ⌜ length (now rec) ≡ recordLen ⌝ }
     ensures { λ r. ⌜ r ≡ allZero (drop at (now (rec .entry))) ⌝ }
 {
-    let mut zero = true;
-    let mut i = at;
-    while i < rec.len() {
-        if rec[i] != 0 {
-            zero = false;
+    let n = record::RECORD_LEN as u8;
+    let mut end: u8 = 0;
+    for i in 0..n {
+        if rec[i as usize] != 0 {
+            end = i + 1;
         }
-        i += 1;
     }
-    zero
+    end as usize <= at
 }
 
 // "k, the 7k octets of 5F 14": in their ranges, and in agreement

@@ -1,35 +1,43 @@
--- `checks::zero_from` meets its contract: the octets so far and what is left are all zero exactly where the whole is.
-use Prim.Native.Nat.{_-_}
-use mathlib.Core.Path.{_≡_, refl, sym, ap, _∙_}
+-- `checks::zero_from` meets its contract: the last octet so far that is not 0 and what is left say the same as the whole.
+use Prim.Native.Nat.{_≤_, _-_}
+use mathlib.Core.Path.{_≡_, _∙_}
 use mathlib.Core.Logic.{⊎-elim}
 use borrow.Author.Needs.{needs}
+use lib.Dec.{leb}
 use lib.ListN.{length, drop}
 use Rattle.octets.specs.Choice.{both}
 use Rattle.checks.specs.Standing.{allZero}
-use Rattle.checks.proofs.Laws.{both-none, both-all, zero-stops, zero-goes, zero-ends}
+use Rattle.checks.proofs.Laws.{restFrom, last-none, last-is, last-stays, last-of-all}
 use Rattle.checks.proofs.zero_from.Statement.{statement}
 use Rattle.checks.proofs.zero_from.Tie as tie
 
 abbrev Inv-loop : tie.InvT-loop
-Inv-loop rec at zero₀ i₀ zero i = both zero (allZero (drop i rec)) ≡ allZero (drop at rec)
+Inv-loop rec at n end₀ i₀ end i = (i ≤ length rec) × (end ≤ i) × (both (leb end at) (restFrom rec at i) ≡ allZero (drop at rec))
 
 abbrev μ-loop : tie.MeasureT-loop
-μ-loop rec at zero₀ i₀ zero i = length rec - i
+μ-loop rec at n end₀ i₀ end i = length rec - i
+
+loop-holds : tie.Need-loop-holds Inv-loop μ-loop
+loop-holds c = (search needs, search needs, last-none (c .args .rec .now) (c .args .at))
 
 loop-again : tie.Need-loop-again Inv-loop μ-loop
 loop-again c =
     let d = c .before .before .before in
     let v = d .loop in
-    let rec = d .before .args .rec .now in
-    ⊎-elim
-    (λ w. rw (w .1) (sym (both-none (v .zero)) ∙ (ap (both (v .zero)) (zero-stops rec (v .i) (search needs) (w .0 .taken)) ∙ v .inv)))
-    (λ w. rw (w .1, zero-goes rec (v .i) (search needs) (w .0 .left)) (v .inv))
-    (c .if1 .came)
+    let a = d .before .args in
+    let l = v .inv .2 in (
+      search needs,
+      ⊎-elim (λ w. rw (w .1) (search needs)) (λ w. rw (w .1) (search needs)) (c .if1 .came),
+      ⊎-elim (λ w. rw (w .1) (last-is (a .rec .now) (a .at) (v .end) (v .i) (search needs) l (w .0 .taken)))
+      (λ w. rw (w .1) (last-stays (a .rec .now) (a .at) (v .end) (v .i) (search needs) l (v .inv .1) (w .0 .left)))
+      (c .if1 .came),
+    )
 
 returns : tie.Need-returns Inv-loop μ-loop
 returns c =
     let v = c .before .loop in
-    sym (both-all (v .zero)) ∙ (ap (both (v .zero)) (zero-ends (c .before .before .args .rec .now) (v .i) (search needs)) ∙ v .inv)
+    let a = c .before .before .args in
+    last-of-all (a .rec .now) (a .at) (v .end) (v .i) (v .inv .1) (search needs) (v .inv .2)
 
 pub zero-from-spec : {M : Type 1} → statement M
 zero-from-spec =
@@ -37,9 +45,13 @@ zero-from-spec =
     (tie.spec
     Inv-loop
     μ-loop
-    (λ c. refl)
+    (λ c. search needs)
+    loop-holds
+    (λ c. search needs)
+    (λ c. search needs)
     (λ c. search needs)
     (λ c. search needs)
     (λ c. search needs)
     loop-again
+    (λ c. search needs)
     returns)
