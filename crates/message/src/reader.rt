@@ -1,14 +1,13 @@
-// 01, "Messages": "The fields of a message are read left to right".
+// 01, "Messages": "The fields of a message are read left to right", each by a reader of INFO.
 ghost use mathlib.Core.Path.{_≡_};
 ghost use Prim.Native.Nat.{_≤_};
-ghost use lib.ListN.{getD, drop};
-ghost use Rattle.message.specs.Fields.{valueOf};
 ghost use Rattle.message.specs.Layouts.{layoutAt, rowsAt, mostAt};
 ghost use Rattle.message.specs.Values.{valuesOf, placed};
 ghost use Rattle.message.specs.Reader.{refusedAs, kIn, rangedOf, readPartOf, readOf};
 use crate::FIELDS_MOST;
 use crate::Message;
 use crate::Read;
+use crate::info;
 use crate::layout;
 use octets::refusal;
 
@@ -19,14 +18,14 @@ pub fn read(info: &[u8]) -> Read
     if info.len() < octets::CODE_LEN {
         return refused(refusal::LENGTH_WRONG, 0);
     }
-    let l = layout::find(octets::word(info[0], info[1]));
+    let l = layout::find(info::value_at(info, 0, true));
     let body = octets::body(info);
     let k = count_in(l, body);
     read_part(l, k, body)
 }
 
 // The fields of a layout, by its number, for k, that stand in the part.
-pub fn read_part(l: usize, k: usize, part: &[u8]) -> Read
+fn read_part(l: usize, k: usize, part: &[u8]) -> Read
     ensures { λ r. ⌜ r ≡ readPartOf l k (now (part .entry)) ⌝ }
 {
     if !layout::known(l) {
@@ -95,30 +94,8 @@ fn values(l: usize, k: usize, body: &[u8]) -> [u16; FIELDS_MOST]
     let mut at: usize = 0;
     for i in 0..n {
         let two = layout::two_at(l, k, i);
-        v[i] = value_at(body, at, two);
+        v[i] = info::value_at(body, at, two);
         at += layout::width(two);
     }
     v
-}
-
-// The value that stands at a place; an octet that is not there is 0.
-fn value_at(body: &[u8], at: usize, two: bool) -> u16
-    ensures { λ r. ⌜ r ≡ valueOf two (drop at (now (body .entry))) ⌝ }
-{
-    if body.len() <= at {
-        return 0;
-    }
-    if two {
-        return octets::word(body[at], octet_at(body, at + 1));
-    }
-    body[at] as u16
-}
-
-fn octet_at(body: &[u8], at: usize) -> u8
-    ensures { λ r. ⌜ r ≡ getD (now (body .entry)) at 0 ⌝ }
-{
-    if body.len() <= at {
-        return 0;
-    }
-    body[at]
 }

@@ -11,9 +11,9 @@ returns c = c .refused .ensures ∙ read-11 (c .before .before .before .args .in
 
 returns-2 : tie.Need-returns-2
 returns-2 c =
-    let b = c .before .before .before .before .before .before .before in
+    let b = c .before .before .before .before .before in
     c .read-part .ensures
-    ∙ read-body (b .before .before .args .info .now) (b .if1 .left) (c .before .before .before .find .ensures ∙ ap numberOf (c .before .before .before .before .word .ensures))
+    ∙ read-body (b .before .before .args .info .now) (b .if1 .left) (c .before .before .before .find .ensures ∙ ap numberOf (c .before .before .before .before .value-at .ensures))
     (c .before .before .body .ensures .octets) (c .before .count-in .ensures)
 
 pub read-spec : {M : Type 1} → statement M
@@ -22,8 +22,6 @@ read-spec =
     (tie.spec
     (λ c κs. search needs)
     returns
-    (λ c. search needs)
-    (λ c. search needs)
     (λ c κs. search needs)
     (λ c κs. search needs)
     (λ c κs. search needs)

@@ -1,0 +1,96 @@
+// 01, "Messages": "The fields of a message are read left to right by a reader that holds the INFO octets and its place."
+ghost use mathlib.Core.Path.{_≡_};
+ghost use lib.ListN.{length, drop};
+ghost use Rattle.octets.specs.Part.{PartFrom};
+ghost use Rattle.message.specs.Fields.{valueOf};
+ghost use Rattle.message.specs.Info.{opened, ahead, nextOctet, nextWord};
+
+// The octets, and the place at which the next field stands.
+pub struct Reader<'a> {
+    pub src: &'a [u8],
+    pub at: usize,
+}
+
+impl<'a> Reader<'a> {
+    pub fn open(info: &'a [u8], at: usize) -> Reader<'a>
+        ensures { λ r. ⌜ r ≡ opened (info .entry) at ⌝ }
+    {
+        Reader { src: info, at }
+    }
+
+    // The next octet; one that is not there is 0.
+    pub fn octet(self) -> u8
+        ensures { λ r. ⌜ r ≡ nextOctet (self .entry) ⌝ }
+    {
+        octet_at(self.src, self.at)
+    }
+
+    // The next two octets as one number, high octet first.
+    pub fn word(self) -> u16
+        ensures { λ r. ⌜ r ≡ nextWord (self .entry) ⌝ }
+    {
+        word_at(self.src, self.at)
+    }
+
+    // How many octets are left.
+    pub fn left(self) -> usize
+        ensures { λ r. ⌜ r ≡ length (ahead (self .entry)) ⌝ }
+    {
+        left_at(self.src, self.at)
+    }
+
+    // The octets that are left, as a part.
+    pub fn rest(self) -> &'a [u8]
+        ensures { λ r. ⌜ PartFrom (self .entry .src) (self .entry .at) r ⌝ }
+    {
+        rest_at(self.src, self.at)
+    }
+}
+
+// The value of the field that stands at a place. Its parameters are plain: whoever reads a field calls it.
+pub(crate) fn value_at(info: &[u8], at: usize, two: bool) -> u16
+    ensures { λ r. ⌜ r ≡ valueOf two (drop at (now (info .entry))) ⌝ }
+{
+    let r = Reader::open(info, at);
+    if two {
+        return r.word();
+    }
+    r.octet() as u16
+}
+
+fn octet_at(s: &[u8], at: usize) -> u8
+    ensures { λ r. ⌜ r ≡ nextOctet (opened (s .entry) at) ⌝ }
+{
+    if s.len() <= at {
+        return 0;
+    }
+    s[at]
+}
+
+fn word_at(s: &[u8], at: usize) -> u16
+    ensures { λ r. ⌜ r ≡ nextWord (opened (s .entry) at) ⌝ }
+{
+    if s.len() <= at {
+        return 0;
+    }
+    octets::word(s[at], octet_at(s, at + 1))
+}
+
+fn left_at(s: &[u8], at: usize) -> usize
+    ensures { λ r. ⌜ r ≡ length (ahead (opened (s .entry) at)) ⌝ }
+{
+    if s.len() <= at {
+        return 0;
+    }
+    s.len() - at
+}
+
+fn rest_at<'a>(s: &'a [u8], at: usize) -> &'a [u8]
+    ensures { λ r. ⌜ PartFrom (s .entry) at r ⌝ }
+{
+    let end = s.len();
+    if end < at {
+        return &s[end..];
+    }
+    &s[at..]
+}
