@@ -1,5 +1,6 @@
 // 01, "Messages": the layouts. One table has the rows of all fields, and one says for each layout which of them are its own.
 ghost use mathlib.Core.Path.{_≡_};
+ghost use mathlib.Core.Bool.{not};
 ghost use Prim.Native.Nat.{_+_, _*_, _≤_};
 ghost use lib.ListN.{length, getD};
 ghost use Rattle.message.specs.Fields.{twoOf, widthOf, passes, noField};
@@ -17,9 +18,9 @@ pub enum Field {
 }
 
 // "k is 1 to 8"
-const K_FEWEST: usize = 1;
+const K_FEWEST: u8 = 1;
 
-const K_MOST: usize = 8;
+const K_MOST: u8 = 8;
 
 const CODE: Field = Field::Two(0, 65_535);
 
@@ -110,7 +111,7 @@ const FIELDS: [Field; ROWS] = [
 // A line of the table of layouts. In order: the code; the first row; how many rows stand before those that come k times,
 // how many those are, and how many stand after them; the number of the field that is the count k, 0 for none; the least k
 // and the greatest.
-struct Entry(u16, usize, usize, usize, usize, usize, usize, usize);
+struct Entry(u16, u8, u8, u8, u8, u8, u8, u8);
 
 const LAYOUTS: usize = 14;
 
@@ -154,13 +155,13 @@ pub(crate) fn layout_at(l: usize) -> Layout
         let e = ENTRIES[l];
         return Layout {
             code: e.0,
-            from: e.1,
-            head: e.2,
-            group: e.3,
-            tail: e.4,
-            count: e.5,
-            fewest: e.6,
-            most: e.7,
+            from: e.1 as usize,
+            head: e.2 as usize,
+            group: e.3 as usize,
+            tail: e.4 as usize,
+            count: e.5 as usize,
+            fewest: e.6 as usize,
+            most: e.7 as usize,
         };
     }
     Layout {
@@ -299,17 +300,29 @@ pub fn passes(f: Field, v: u16) -> bool
     }
 }
 
+// Is the value at place i out of range? The layout has n fields; a place past them is looked up in no table.
+fn out(l: usize, k: usize, n: usize, i: usize, v: u16) -> bool
+    requires { ⌜ (k ≤ mostAt l) × (n ≡ length (rowsAt l k)) ⌝ }
+    ensures { λ r. ⌜ r ≡ not (passes (getD (rowsAt l k) i noField) v) ⌝ }
+{
+    if n <= i {
+        return !passes(NO_FIELD, v);
+    }
+    !passes(row(l, k, i), v)
+}
+
 // "The search over fields stops at the first that fails and yields its number", 0 where none fails.
 pub(crate) fn first_out(l: usize, k: usize, values: [u16; FIELDS_MOST]) -> usize
     requires { ⌜ k ≤ mostAt l ⌝ }
     ensures { λ r. ⌜ r ≡ firstOut (rowsAt l k) values ⌝ }
 {
+    let n = fields(l, k);
     let mut i: usize = 0;
     loop {
         if FIELDS_MOST <= i {
             break 0;
         }
-        if !passes(row(l, k, i), values[i]) {
+        if out(l, k, n, i, values[i]) {
             break i + 1;
         }
         i += 1;

@@ -1,12 +1,8 @@
 -- `message::layout::first_out` meets its contract: what is left of the search yields what the whole does.
 use Prim.Native.Nat.{_-_}
-use mathlib.Core.Path.{_≡_, refl, sym, ap, _∙_}
-use mathlib.Core.Bool.{not}
+use mathlib.Core.Path.{_≡_, refl, sym, _∙_}
 use borrow.Author.Needs.{needs}
-use lib.ListN.{getD}
 use Rattle.octets.specs.First.{firstOf}
-use Rattle.message.specs.declared.layout.Field.{Field}
-use Rattle.message.specs.Fields.{passes}
 use Rattle.message.specs.Layouts.{rowsAt}
 use Rattle.message.specs.Values.{fieldsMost, outAt, firstOut}
 use Rattle.message.proofs.Search.{search-ends, search-stops, search-goes}
@@ -14,37 +10,35 @@ use Rattle.message.proofs.layout.first_out.Statement.{statement}
 use Rattle.message.proofs.layout.first_out.Tie as tie
 
 abbrev Inv-loop : tie.InvT-loop
-Inv-loop l k values i₀ i = firstOf (outAt (rowsAt l k) values) i (fieldsMost - i) ≡ firstOut (rowsAt l k) values
+Inv-loop l k values n i₀ i = firstOf (outAt (rowsAt l k) values) i (fieldsMost - i) ≡ firstOut (rowsAt l k) values
 
 abbrev μ-loop : tie.MeasureT-loop
-μ-loop l k values i₀ i = fieldsMost - i
+μ-loop l k values n i₀ i = fieldsMost - i
 
 loop-holds : tie.Need-loop-holds Inv-loop μ-loop
 unfolding firstOut
 loop-holds c = refl
 
 -- the test of the turn is the search's
-judged : (c : tie.After-passes Inv-loop μ-loop)
-    → (let a = c .before .before .before .before .args in not (c .passes .result) ≡ outAt (rowsAt (a .l) (a .k)) (a .t3) (c .before .before .before .loop .i))
-judged c =
-    let v = getD (c .before .before .before .before .args .t3) (c .before .before .before .loop .i) 0 in
-    ap not (c .passes .ensures ∙ ap (λ (f : Field). passes f v) (c .before .row .ensures))
+judged : (c : tie.After-out Inv-loop μ-loop)
+    → (let a = c .before .before .before .before .args in c .out .result ≡ outAt (rowsAt (a .l) (a .k)) (a .t3) (c .before .before .loop .i))
+judged c = c .out .ensures
 
 loop-again : tie.Need-loop-again Inv-loop μ-loop
 loop-again c =
+    let v = c .before .before .before .loop in
     let a = c .before .before .before .before .before .args in
-    let v = c .before .before .before .before .loop in
     sym (search-goes (outAt (rowsAt (a .l) (a .k)) (a .t3)) fieldsMost (v .i) (search needs) (sym (judged (c .before)) ∙ c .if2 .left)) ∙ v .inv
 
 returns : tie.Need-returns Inv-loop μ-loop
 returns c =
-    let a = c .before .before .args in
+    let a = c .before .before .before .args in
     sym (search-ends (outAt (rowsAt (a .l) (a .k)) (a .t3)) fieldsMost (c .before .loop .i) (c .if1 .taken)) ∙ c .before .loop .inv
 
 returns-2 : tie.Need-returns-2 Inv-loop μ-loop
 returns-2 c =
+    let v = c .before .before .before .loop in
     let a = c .before .before .before .before .before .args in
-    let v = c .before .before .before .before .loop in
     sym (search-stops (outAt (rowsAt (a .l) (a .k)) (a .t3)) fieldsMost (v .i) (search needs) (sym (judged (c .before)) ∙ c .if2 .taken)) ∙ v .inv
 
 pub first-out-spec : {M : Type 1} → statement M
@@ -53,8 +47,8 @@ first-out-spec =
     (tie.spec
     Inv-loop
     μ-loop
-    loop-holds
     (λ c κs. search needs)
+    loop-holds
     (λ c. search needs)
     (λ c. search needs)
     (λ c κs. search needs)

@@ -1,6 +1,7 @@
 -- `message::layout::layout_at` meets its contract: what the lines of the code's table cut out are the layouts, by computation.
 use mathlib.Core.Path.{refl}
 use mathlib.Core.List.{List, [], _∷_}
+use native.Mathlib.Omega.{arith}
 use borrow.Author.Needs.{needs}
 use Rattle.diagram.proofs.Every.{every}
 use Rattle.message.specs.declared.layout.Entry.{Entry}
@@ -32,11 +33,24 @@ entries =
 
 returns : tie.Need-returns
 unfolding entries layouts table cut every
-returns c = kept entries refl refl (c .before .before .args .l)
+returns c = kept entries refl refl (c .before .before .before .before .before .before .before .before .before .args .l)
 
 returns-2 : tie.Need-returns-2
 unfolding layouts
 returns-2 c = kept-none (c .if1 .left)
 
 pub layout-at-spec : {M : Type 1} → statement M
-layout-at-spec = tie.close (tie.spec (λ c. search needs) (λ c. search needs) returns returns-2)
+layout-at-spec =
+    tie.close
+    (tie.spec
+    (λ c. search needs)
+    (λ c. search needs)
+    (λ c. record { fits = omega (arith, c .struct-known .given) })
+    (λ c. record { fits = omega (arith, c .struct-known2 .given) })
+    (λ c. record { fits = omega (arith, c .struct-known3 .given) })
+    (λ c. record { fits = omega (arith, c .struct-known4 .given) })
+    (λ c. record { fits = omega (arith, c .struct-known5 .given) })
+    (λ c. record { fits = omega (arith, c .struct-known6 .given) })
+    (λ c. record { fits = omega (arith, c .struct-known7 .given) })
+    returns
+    returns-2)
