@@ -38,10 +38,6 @@ value-one os at = rw (getD-drop, add-zero)
 pub value-two : (os : List ℕ) (at : ℕ) → valueOf true (drop at os) ≡ wordOf (getD os at 0) (getD os (at + 1) 0)
 value-two os at = rw (getD-drop at os 0 0, getD-drop at os 1 0, add-zero)
 
-pub value-none : (t : Bool) → valueOf t [] ≡ 0
-value-none false = refl
-value-none true = refl
-
 pub length-values : (fs : List Field) (os : List ℕ) → length (valuesOf fs os) ≡ length fs
 length-values [] os = refl
 length-values (f ∷ fs) os = ap suc (length-values fs (drop (widthOf (twoOf f)) os))
