@@ -74,29 +74,32 @@ module _ (rec : List ℕ) (i : ℕ) {a b c d e f g h : Bool} where
         );
       }
 
-module _ (rec : List ℕ) {a b c d e f : Bool} where
-  pub told-greens : Tells a (Within 0 (directOf rec) 7) → Tells b (kOf rec ≡ phasesOf (orderOf rec)) → Tells c (GreensWithin rec)
-      → Tells d (Within 1 (cycleOf rec) 900) → Tells e (cycleOf rec ≡ sumOf rec (kOf rec)) → Tells f (offsetOf rec < cycleOf rec)
-      → {t : Bool} → t ≡ every (a ∷ b ∷ c ∷ d ∷ e ∷ f ∷ []) → Tells t (GreensFit rec)
+-- what holds anyway need not be told
+pub told-after : {t : Bool} {P Q : Type 0} → P → Tells t Q → Tells t (P × Q)
+told-after p q = record { holds = λ h. (p, q .holds h); told = λ w. q .told (w .1) }
+
+module _ (rec : List ℕ) {a b c d e : Bool} where
+  pub told-greens : Tells a (Within 0 (directOf rec) 7) → Tells b (kOf rec ≡ phasesOf (orderOf rec)) 
+      → Tells c (GreensWithin rec × (cycleOf rec ≡ sumOf rec (kOf rec))) → Tells d (Within 1 (cycleOf rec) 900) → Tells e (offsetOf rec < cycleOf rec)
+      → {t : Bool} → t ≡ every (a ∷ b ∷ c ∷ d ∷ e ∷ []) → Tells t (GreensFit rec)
   unfolding every
-  told-greens pa pb pc pd pe pf q =
-      let bs = a ∷ b ∷ c ∷ d ∷ e ∷ f ∷ [] in
+  told-greens pa pb pc pd pe q =
+      let bs = a ∷ b ∷ c ∷ d ∷ e ∷ [] in
       record {
         holds = λ p. record {
           direct = pa .holds (every-at bs 0 (sym q ∙ p));
           count = pb .holds (every-at bs 1 (sym q ∙ p));
-          green = pc .holds (every-at bs 2 (sym q ∙ p));
-          cycle = pe .holds (every-at bs 4 (sym q ∙ p));
+          green = pc .holds (every-at bs 2 (sym q ∙ p)) .0;
+          cycle = pc .holds (every-at bs 2 (sym q ∙ p)) .1;
           most = pd .holds (every-at bs 3 (sym q ∙ p)) .most;
-          offset = pf .holds (every-at bs 5 (sym q ∙ p));
+          offset = pe .holds (every-at bs 4 (sym q ∙ p));
         };
         told = λ w. q ∙ rw (
           pa .told (w .direct),
           pb .told (w .count),
-          pc .told (w .green),
+          pc .told (w .green, w .cycle),
           pd .told (record { least = omega (arith, w .offset); most = w .most }),
-          pe .told (w .cycle),
-          pf .told (w .offset),
+          pe .told (w .offset),
         );
       }
 

@@ -107,25 +107,26 @@ fn plan_stands(rec: &[u8]) -> bool
     let checks = [
         layout::passes(layout::DIRECT, record::direct(rec) as u16),
         record::count(rec) == diagram::phases(record::order(rec)),
-        greens_stand(rec),
+        greens_stand(rec, cycle),
         layout::passes(layout::CYCLE, cycle),
-        cycle as u32 == sum(rec),
         record::offset(rec) < cycle,
     ];
     every(&checks)
 }
 
-// "each green within its phase's bounds"
-fn greens_stand(rec: &[u8]) -> bool
-    ensures { λ r. ⌜ Tells r (GreensWithin (now (rec .entry))) ⌝ }
+// "each green within its phase's bounds; cycle equal to the sum of green, yellow and all-red", in one pass over the phases
+fn greens_stand(rec: &[u8], cycle: u16) -> bool
+    ensures { λ r. ⌜ Tells r (GreensWithin (now (rec .entry)) × (cycle ≡ sumOf (now (rec .entry)) (kOf (now (rec .entry))))) ⌝ }
 {
     let k = record::count(rec);
+    let mut s: u32 = 0;
     for i in 0..k {
         if green_fails(rec, i) {
             return false;
         }
+        s += phase_seconds(rec, i);
     }
-    true
+    cycle as u32 == s
 }
 
 fn every(checks: &[bool]) -> bool

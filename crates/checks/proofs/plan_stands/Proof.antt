@@ -10,8 +10,7 @@ use Rattle.checks.proofs.plan_stands.Tie as tie
 returns : tie.Need-returns
 returns c =
     let offset = c .before .before in
-    let sum = offset .before in
-    let p2 = sum .before in
+    let p2 = offset .before in
     let greens = p2 .before in
     let phases = greens .before in
     let order = phases .before in
@@ -23,9 +22,8 @@ returns c =
     plan-told rec (s .pre .0) (omega (arith, order .order .ensures)) (s .pre .1)
     (told-greens rec (told-within (p1 .before .direct .ensures) (p1 .passes .ensures))
     (told-eq (count .count .ensures) (phases .phases .ensures ∙ ap phasesOf (order .order .ensures)))
-    (greens .greens-stand .ensures)
+    (rw (← (cycle .cycle .ensures)) (greens .greens-stand .ensures))
     (told-within (cycle .cycle .ensures) (p2 .passes2 .ensures))
-    (told-eq (cycle .cycle .ensures) (sum .sum .ensures))
     (told-lt (offset .offset .ensures) (cycle .cycle .ensures))
     (c .every .ensures))
 
@@ -41,8 +39,6 @@ plan-stands-spec =
     (λ c κs. search needs)
     (λ c κs. search needs)
     (λ c κs. search needs)
-    (λ c κs. search needs)
-    (λ c. search needs)
     (λ c κs. search needs)
     (λ c κs. search needs)
     (λ c. search needs)
