@@ -79,7 +79,7 @@ pub told-after : {t : Bool} {P Q : Type 0} → P → Tells t Q → Tells t (P ×
 told-after p q = record { holds = λ h. (p, q .holds h); told = λ w. q .told (w .1) }
 
 module _ (rec : List ℕ) {a b c d e : Bool} where
-  pub told-greens : Tells a (Within 0 (directOf rec) 7) → Tells b (kOf rec ≡ phasesOf (orderOf rec)) 
+  pub told-greens : Tells a (Within 0 (directOf rec) 7) → Tells b (kOf rec ≡ phasesOf (orderOf rec))
       → Tells c (GreensWithin rec × (cycleOf rec ≡ sumOf rec (kOf rec))) → Tells d (Within 1 (cycleOf rec) 900) → Tells e (offsetOf rec < cycleOf rec)
       → {t : Bool} → t ≡ every (a ∷ b ∷ c ∷ d ∷ e ∷ []) → Tells t (GreensFit rec)
   unfolding every

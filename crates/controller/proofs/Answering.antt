@@ -20,6 +20,7 @@ use Rattle.frame.specs.declared.decoder.Found.{Found}
 use Rattle.frame.specs.declared.decoder.Found.the-variants as found
 use Rattle.frame.specs.Frame.{Frame}
 use Rattle.frame.specs.Decoder.{takenOf}
+use Rattle.frame.specs.Run.{told, outcomeOf}
 use Rattle.frame.proofs.Laws.{idled-done}
 use Rattle.message.specs.declared.Read.{Read}
 use Rattle.message.specs.Reader as reader
@@ -39,15 +40,15 @@ use Rattle.controller.specs.declared.State.{State}
 use Rattle.controller.specs.declared.Event.{Event}
 use Rattle.controller.specs.declared.Event.the-variants as event
 use Rattle.controller.specs.declared.handling.Handled.{Handled}
-use Rattle.controller.specs.State.{all, outputLen, planRecord, readyIn, freshOf, soundOf, withDecoder}
+use Rattle.controller.specs.State.{all, outputLen, planRecord, readyIn, freshOf, soundOf}
 use Rattle.controller.specs.Handling as handling
 use Rattle.controller.specs.Handling.{Handling, setAs, unlessUnread, runAs, queryTimesAs, queryPlanAs, queryRunningAs, handlingOf}
-use Rattle.controller.specs.Calls.{Call, sent, callOf, refusedCall, errOf, naks, acks, forUs, isAnswer, repliesOf, repliedOf, messageOf, eventFor, broughtOf, doneOf, startedOf, octetOf, secondOf, noSecond}
+use Rattle.controller.specs.Calls.{Call, sent, refusedCall, errOf, naks, acks, forUs, isAnswer, repliesOf, CanFind, Bringing, unchanged, leaves, repliedOf, messageOf, eventFor, broughtOf, madeOf, startedOf, octetOf, secondOf, noSecond}
 use Rattle.controller.specs.Demand1.{Sound, SoundAsItIs, OctetRefused, InDone, OctetsAnswered, SecondRefused, SecondsAnswered, IdlesAnswered, StartsAnswered, RefusedLeavesBook, OutputsLeft}
-use Rattle.controller.proofs.Laws.{octet-7, octet-8, octet-9, octet-done, idle-7, idle-done, second-7, second-8, second-done}
+use Rattle.controller.proofs.Laws.{octet-7, octet-8, octet-9, octet-brings, idle-7, idle-done, second-7, second-8, second-done}
 use Rattle.controller.proofs.Judging.{RunningParts, SoundParts, sound-parts, parts-sound}
 use Rattle.controller.proofs.Keeping.{fresh-sound}
-use Rattle.controller.proofs.Replying.{CanBring, can-bring, handling-by, reply-fits, nak-fits, ack-fits, sent-most}
+use Rattle.controller.proofs.Replying.{can-find, handling-by, reply-fits, nak-fits, ack-fits, sent-most}
 
 -- Which states are sound
 
@@ -212,16 +213,6 @@ module _ (u : Running) (requested : ℕ) (book info : List ℕ) where
 
 -- The octet call
 
--- a call that leaves the state t and what a message brought
-abbrev handledCall : State → Handling → List Frame → List ℕ → Call
-handledCall t h fs out = callOf t (h .handled .refusal) (h .handled .parameter) event.Nothing fs (h .book) out
-
--- what a call that is done comes to: a frame refused or dropped, an ACK, an event; or a message handled
-data Done (u : Running) (requested : ℕ) (book out : List ℕ) : Call → Type 0 where
-  told : (t : State) (n : ℕ) (e : Event) (fs : List Frame) → n ≤ refusal.lenWrong → length (sent fs) ≤ outputLen → Done u requested book out (callOf t n 0 e fs book out)
-  handled : (t : State) (info : List ℕ) (fs : List Frame) → length (sent fs) ≤ outputLen
-      → Done u requested book out (handledCall t (handlingOf u requested book info) fs out)
-
 abbrev FramesFit : List Frame → Type 0
 FramesFit fs = length (sent fs) ≤ outputLen
 
@@ -236,41 +227,54 @@ naks-fit Nak own n seq addr = none-fit
 acks-fit : (own seq addr : ℕ) → FramesFit (acks own seq addr)
 acks-fit own seq addr = pick-by FramesFit (eqb addr own) (λ _. ack-fits seq own) (λ _. none-fit)
 
-module _ (s : State) (book out : List ℕ) (u : RunningParts (s .running)) (hb : length book ≡ bookLen) where
-  abbrev D : Call → Type 0
-  D = Done (s .running) (s .requested) book out
+-- what is brought names a refusal that a call that is done may name, leaves the book where it names one, and writes what fits
+record Right (book : List ℕ) (w : Bringing) : Type 0 where
+  names : InDone (w .result .refusal)
+  leaves : (w .result .refusal ≡ refusal.none → ⊥) → w .book ≡ book
+  fits : FramesFit (w .result .frames)
 
-  message-done : (seq addr : ℕ) (info : List ℕ) → D (messageOf s seq addr info book out)
-  unfolding messageOf repliedOf
-  message-done seq addr info =
-      let reply = infoOf (handlingOf (s .running) (s .requested) book info .handled .reply) in
-      pick-by D (forUs (s .own) addr)
-      (λ _. pick-by D (isAnswer (codeIn info)) (λ _. told s refusal.none event.Nothing (acks (s .own) seq addr) (omega arith) (acks-fit (s .own) seq addr))
-      (λ _. pick-by D (eqb addr (s .own))
-      (λ _. handled _ info (repliesOf seq (s .seq) (s .own) reply) (sent-most seq (s .seq) (s .own) reply (reply-fits (s .running) (s .requested) book info (u .checks) (u .plan) hb)))
-      (λ _. handled _ info [] none-fit)))
-      (λ _. told s refusal.none event.Nothing [] (omega arith) none-fit)
+module _ (own ours requested : ℕ) (u : Running) (book : List ℕ) where
+  -- a frame refused or dropped, an ACK, an event
+  unchanged-right : (n : ℕ) (e : Event) (fs : List Frame) → n ≤ refusal.lenWrong → FramesFit fs → Right book (leaves book (unchanged n e fs ours requested))
+  unchanged-right n e fs l f = record { names = inl l; leaves = λ _. refl; fits = f }
 
-  brought-done : (f : Found) → CanBring f → D (broughtOf f s book out)
-  brought-done found.Nothing c = told s refusal.none event.Nothing [] (omega arith) none-fit
-  brought-done (found.Refused n k seq addr) c = told s n event.Nothing (naks k (s .own) n seq addr) c (naks-fit k (s .own) n seq addr)
-  brought-done (found.Message seq addr n) c = message-done seq addr (take n (s .decoder .info))
-  brought-done (found.Ack seq addr) c = told s refusal.none (eventFor (s .own) addr (event.Ack seq)) [] (omega arith) none-fit
-  brought-done (found.Nak seq addr err) c = told s refusal.none (eventFor (s .own) addr (event.Nak seq err)) [] (omega arith) none-fit
+  module _ (p : RunningParts u) (hb : length book ≡ bookLen) where
+    message-right : (seq addr : ℕ) (info : List ℕ) → Right book (messageOf own ours requested u seq addr info book)
+    unfolding messageOf repliedOf
+    message-right seq addr info =
+        pick-by (Right book) (forUs own addr)
+        (λ _. pick-by (Right book) (isAnswer (codeIn info)) (λ _. unchanged-right refusal.none event.Nothing (acks own seq addr) (omega arith) (acks-fit own seq addr))
+        (λ _. record { names = handled-in-done u requested book info hb; leaves = handled-leaves u requested book info; fits = frames }))
+        (λ _. unchanged-right refusal.none event.Nothing [] (omega arith) none-fit)
+      where
+        reply : List ℕ
+        reply = infoOf (handlingOf u requested book info .handled .reply)
 
-octet-is-done : (s : State) (book out : List ℕ) (b : ℕ) → soundOf s ≡ true → length book ≡ bookLen → outputLen ≤ length out
-    → Done (s .running) (s .requested) book out (octetOf s book out b)
-unfolding doneOf
-octet-is-done s book out b h hb ho =
-    let p = sound-parts s h in
-    let t = takenOf (s .decoder) b in
-    rw (octet-done s book out b h hb ho) (brought-done (withDecoder s (t .decoder)) book out (p .running) hb (t .found) (can-bring (s .decoder) b (p .decoder)))
+        frames : FramesFit (pick (eqb addr own) (repliesOf seq ours own reply) [])
+        frames = pick-by FramesFit (eqb addr own) (λ _. sent-most seq ours own reply (reply-fits u requested book info (p .checks) (p .plan) hb)) (λ _. none-fit)
+
+    brought-right : (f : Found) (kept : List ℕ) → CanFind f → Right book (broughtOf (told f kept) own ours requested u book)
+    brought-right found.Nothing kept c = unchanged-right refusal.none event.Nothing [] (omega arith) none-fit
+    brought-right (found.Refused n k seq addr) kept c = unchanged-right n event.Nothing (naks k own n seq addr) c (naks-fit k own n seq addr)
+    brought-right (found.Message seq addr n) kept c = message-right seq addr (take n kept)
+    brought-right (found.Ack seq addr) kept c = unchanged-right refusal.none (eventFor own addr (event.Ack seq)) [] (omega arith) none-fit
+    brought-right (found.Nak seq addr err) kept c = unchanged-right refusal.none (eventFor own addr (event.Nak seq err)) [] (omega arith) none-fit
+
+module _ (s : State) (book out : List ℕ) (b : ℕ) where
+  abbrev brought : Bringing
+  brought = broughtOf (outcomeOf (takenOf (s .decoder) b)) (s .own) (s .seq) (s .requested) (s .running) book
+
+  octet-right : soundOf s ≡ true → length book ≡ bookLen → Right book brought
+  octet-right h hb =
+      let p = sound-parts s h in
+      let t = takenOf (s .decoder) b in
+      brought-right (s .own) (s .seq) (s .requested) (s .running) book (p .running) hb (t .found) (t .decoder .info) (can-find (s .decoder) b (p .decoder))
 
 pub octets-answered : OctetsAnswered
 octets-answered s book out b =
     record {
       refused = λ n r. refused r;
-      done = λ h hb ho. in-done hb (octet-is-done s book out b h hb ho);
+      done = λ h hb ho. rw (octet-brings s book out b h hb ho refl) (octet-right s book out b h hb .names);
       either = by (soundOf s) refl (ℕ-discrete (length book) bookLen) (decLt (length out) outputLen);
     }
   where
@@ -279,10 +283,6 @@ octets-answered s book out b =
     refused (OctetRefused.book h n) = octet-8 s book out b h n
     refused (OctetRefused.output h e l) = octet-9 s book out b h e l
 
-    in-done : length book ≡ bookLen → {w : Call} → Done (s .running) (s .requested) book out w → InDone (w .answer .refusal)
-    in-done hb (told t n e fs l f) = inl l
-    in-done hb (handled t info fs f) = handled-in-done (s .running) (s .requested) book info hb
-
     by : (t : Bool) → soundOf s ≡ t → Dec (length book ≡ bookLen) → Dec (length out < outputLen)
         → ((n : ℕ) × OctetRefused s book out n) ⊎ ((soundOf s ≡ true) × (length book ≡ bookLen) × (outputLen ≤ length out))
     by false h d d′ = inl (refusal.stateUnsound, OctetRefused.unsound h)
@@ -290,23 +290,19 @@ octets-answered s book out b =
     by true h (yes e) (yes l) = inl (refusal.outputShort, OctetRefused.output h e l)
     by true h (yes e) (no g) = inr (h, e, omega arith)
 
--- what holds of every refused call and of every call that is done holds of every octet call
+-- what holds of every refused call, and of every call that is done with what is right, holds of every octet call
 octet-by : (P : Call → Type 0) (s : State) (book out : List ℕ) (b : ℕ) → ((n : ℕ) → P (refusedCall s n book out))
-    → (outputLen ≤ length out → (w : Call) → Done (s .running) (s .requested) book out w → P w) → P (octetOf s book out b)
+    → (outputLen ≤ length out → (w : Bringing) → Right book w → P (madeOf s (takenOf (s .decoder) b .decoder) w out)) → P (octetOf s book out b)
 octet-by P s book out b r d = by (octets-answered s book out b .either)
   where
     by : ((n : ℕ) × OctetRefused s book out n) ⊎ ((soundOf s ≡ true) × (length book ≡ bookLen) × (outputLen ≤ length out)) → P (octetOf s book out b)
     by (inl x) = rw (octets-answered s book out b .refused (x .0) (x .1)) (r (x .0))
-    by (inr x) = d (x .2) (octetOf s book out b) (octet-is-done s book out b (x .0) (x .1) (x .2))
+    by (inr x) = rw (octet-brings s book out b (x .0) (x .1) (x .2) refl) (d (x .2) (brought s book out b) (octet-right s book out b (x .0) (x .1)))
 
 -- What is left alone
 
 pub refused-leaves-book : RefusedLeavesBook
-refused-leaves-book s book out b = octet-by (λ w. (w .answer .refusal ≡ refusal.none → ⊥) → w .book ≡ book) s book out b (λ n _. refl) (λ _ w d. leaves d)
-  where
-    leaves : {w : Call} → Done (s .running) (s .requested) book out w → (w .answer .refusal ≡ refusal.none → ⊥) → w .book ≡ book
-    leaves (told t n e fs l f) h = refl
-    leaves (handled t info fs f) h = handled-leaves (s .running) (s .requested) book info h
+refused-leaves-book s book out b = octet-by (λ w. (w .answer .refusal ≡ refusal.none → ⊥) → w .book ≡ book) s book out b (λ n _. refl) (λ _ w r. r .leaves)
 
 -- the frames stand at the front of the output, and the rest of it stays
 module _ (vs out : List ℕ) (h : length vs ≤ length out) where
@@ -327,17 +323,14 @@ record Leaves (out : List ℕ) (w : Call) : Type 0 where
 
 pub outputs-left : OutputsLeft
 outputs-left s book out b =
-    let l = octet-by (Leaves out) s book out b (λ n. none) (λ ho w d. leaves ho d) in
+    let l = octet-by (Leaves out) s book out b (λ n. none) (λ ho w r. some ho w (r .fits)) in
     record { beyond = l .beyond; long = l .long; within = l .within; most = l .most }
   where
-    none : {t : State} {n m : ℕ} {e : Event} {book : List ℕ} → Leaves out (callOf t n m e [] book out)
+    none : {n : ℕ} → Leaves out (refusedCall s n book out)
     none = record { beyond = refl; long = refl; within = omega arith; most = omega arith }
 
-    some : {t : State} {n m : ℕ} {e : Event} {book : List ℕ} (fs : List Frame) → FramesFit fs → outputLen ≤ length out → Leaves out (callOf t n m e fs book out)
-    some fs f ho =
-        let h : length (sent fs) ≤ length out = omega arith in
-        record { beyond = written-drop (sent fs) out h; long = length-sets out 0 (sent fs); within = h; most = f }
-
-    leaves : outputLen ≤ length out → {w : Call} → Done (s .running) (s .requested) book out w → Leaves out w
-    leaves ho (told t n e fs l f) = some fs f ho
-    leaves ho (handled t info fs f) = some fs f ho
+    some : outputLen ≤ length out → (w : Bringing) → FramesFit (w .result .frames) → Leaves out (madeOf s (takenOf (s .decoder) b .decoder) w out)
+    some ho w f =
+        let vs = sent (w .result .frames) in
+        let h : length vs ≤ length out = omega arith in
+        record { beyond = written-drop vs out h; long = length-sets out 0 vs; within = h; most = f }

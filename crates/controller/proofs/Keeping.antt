@@ -7,17 +7,15 @@ use native.Mathlib.Decide.{decLt}
 use native.Mathlib.Omega.{arith}
 use borrow.Author.Tests.{eq-eqb, ne-eqb, eqb-true, eqb-false, leb-true}
 use lib.Dec.{eqb, leb}
-use lib.ListN.{length, take}
+use lib.ListN.{length}
 use Rattle.octets.specs.Choice.{pick, both}
 use Rattle.octets.specs.Refusal as refusal
 use Rattle.octets.proofs.Laws.{pick-by, clash}
 use Rattle.frame.specs.declared.decoder.Decoder.{Decoder}
-use Rattle.frame.specs.declared.decoder.Found.{Found}
-use Rattle.frame.specs.declared.decoder.Found.the-variants as found
 use Rattle.frame.specs.declared.decoder.Taken.{Taken}
 use Rattle.frame.specs.Frame.{message, ack, nak}
 use Rattle.frame.specs.Decoder.{takenOf, idledOf}
-use Rattle.frame.specs.Run.{Outcome, nothing, refused, sound, told, outcomeOf}
+use Rattle.frame.specs.Run.{Outcome, nothing, refused, sound, outcomeOf}
 use Rattle.frame.proofs.Possible.{possible-kept}
 use Rattle.message.specs.Reader.{codeIn, bodyIn, readOf}
 use Rattle.plan.specs.declared.setting.Answered.{Answered}
@@ -34,7 +32,7 @@ use Rattle.controller.specs.declared.State.{State}
 use Rattle.controller.specs.declared.handling.Handled.{Handled}
 use Rattle.controller.specs.State.{all, outputLen, freshOf, soundOf, readyIn, planRecord, startedAt, withDecoder, withRunning}
 use Rattle.controller.specs.Handling.{Handling, unlessUnread, runCode, queryTimesCode, queryPlanCode, queryRunningCode, setAs, runAs, queryTimesAs, queryPlanAs, queryRunningAs, handlingOf}
-use Rattle.controller.specs.Calls.{Call, refusedCall, forUs, isAnswer, repliedOf, messageOf, broughtOf, doneOf, octetOf, lineIdleOf, pickedOf, movedOn, secondShown, noSecond, secondOf}
+use Rattle.controller.specs.Calls.{refusedCall, forUs, isAnswer, Bringing, repliedOf, messageOf, broughtOf, doneOf, octetOf, lineIdleOf, pickedOf, movedOn, secondShown, noSecond, secondOf}
 use Rattle.controller.specs.declared.Answer.{Answer}
 use Rattle.controller.specs.declared.Shown.{Shown}
 use Rattle.controller.specs.Demand1.{SoundKept}
@@ -109,37 +107,33 @@ module _ (u : Running) (requested : ℕ) (book info : List ℕ) where
       (λ _. pick-by P (eqb code queryPlanCode) (λ _. other-leaves plan-leaves d)
       (λ _. pick-by P (eqb code queryRunningCode) (λ _. other-leaves running-leaves d) (λ _. other-leaves refl d))))))
 
-module _ (s : State) where
-  abbrev After : List ℕ → Outcome → Call → Type 0
-  After book o w = Left (s .own) (s .running) (s .decoder) (latestAfter (s .own) book (s .requested) o) (w .answer .state)
-
-  message-left : (seq addr : ℕ) (info book out : List ℕ) → After book (sound (message seq addr info)) (messageOf s seq addr info book out)
+module _ (own ours requested : ℕ) (u : Running) (book : List ℕ) where
+  message-asks : (seq addr : ℕ) (info : List ℕ)
+      → messageOf own ours requested u seq addr info book .result .requested ≡ latestAfter own book requested (sound (message seq addr info))
   unfolding messageOf repliedOf
-  message-left seq addr info book out =
-      let P : Call → Type 0 = After book (sound (message seq addr info)) in
-      pick-by P (forUs (s .own) addr)
-      (λ f. pick-by P (isAnswer (codeIn info))
-      (λ a. record { own = refl; running = refl; decoder = refl; requested = rw (f, ne-eqb (codeIn info) runCode (answers a)) })
-      (λ _. pick-by P (eqb addr (s .own))
-      (λ _. record { own = refl; running = refl; decoder = refl; requested = rw f (handled-leaves (s .running) (s .requested) book info) })
-      (λ _. record { own = refl; running = refl; decoder = refl; requested = rw f (handled-leaves (s .running) (s .requested) book info) })))
-      (λ f. record { own = refl; running = refl; decoder = refl; requested = rw f })
+  message-asks seq addr info =
+      let P : Bringing → Type 0 = λ w. w .result .requested ≡ latestAfter own book requested (sound (message seq addr info)) in
+      pick-by P (forUs own addr)
+      (λ f. pick-by P (isAnswer (codeIn info)) (λ a. rw (f, ne-eqb (codeIn info) runCode (answers a))) (λ _. rw f (handled-leaves u requested book info)))
+      (λ f. rw f)
     where
       answers : isAnswer (codeIn info) ≡ true → codeIn info ≡ runCode → ⊥
       answers a e = clash refl (rw e at a)
 
-  brought-left : (f : Found) (book out : List ℕ) → After book (told f (s .decoder .info)) (broughtOf f s book out)
-  brought-left found.Nothing book out = record { own = refl; running = refl; decoder = refl; requested = refl }
-  brought-left (found.Refused n k seq addr) book out = record { own = refl; running = refl; decoder = refl; requested = refl }
-  brought-left (found.Message seq addr n) book out = message-left seq addr (take n (s .decoder .info)) book out
-  brought-left (found.Ack seq addr) book out = record { own = refl; running = refl; decoder = refl; requested = refl }
-  brought-left (found.Nak seq addr err) book out = record { own = refl; running = refl; decoder = refl; requested = refl }
+  -- what an octet brings requests the latest run message carried out
+  brought-asks : (o : Outcome) → broughtOf o own ours requested u book .result .requested ≡ latestAfter own book requested o
+  brought-asks nothing = refl
+  brought-asks (refused n k seq addr) = refl
+  brought-asks (sound (message seq addr info)) = message-asks seq addr info
+  brought-asks (sound (ack seq addr)) = refl
+  brought-asks (sound (nak seq addr err)) = refl
 
 -- a call that is done: the decoder has taken the octet, and the latest run message carried out is requested
 pub done-left : (s : State) (t : Taken) (book out : List ℕ)
     → Left (s .own) (s .running) (t .decoder) (latestAfter (s .own) book (s .requested) (outcomeOf t)) (doneOf s t book out .answer .state)
 unfolding doneOf
-done-left s t book out = brought-left (withDecoder s (t .decoder)) (t .found) book out
+done-left s t book out =
+    record { own = refl; running = refl; decoder = refl; requested = brought-asks (s .own) (s .seq) (s .requested) (s .running) book (outcomeOf t) }
 
 module _ (s : State) (book out : List ℕ) (b : ℕ) where
   -- was the octet taken? Where not, the state is as it was

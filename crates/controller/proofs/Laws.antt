@@ -15,9 +15,10 @@ use Rattle.octets.specs.Part.{PartOf}
 use Rattle.octets.specs.Put.{Put}
 use Rattle.octets.specs.Refusal as refusal
 use Rattle.octets.proofs.Laws.{put-stored}
-use Rattle.frame.specs.declared.decoder.Found.{Found}
 use Rattle.frame.specs.declared.decoder.Taken.{Taken}
-use Rattle.frame.specs.Decoder.{possibleOf, takenOf, idledOf}
+use Rattle.frame.specs.Decoder.{drops, possibleOf, takenOf, idledOf}
+use Rattle.frame.specs.Run.{Outcome, outcomeOf}
+use Rattle.frame.proofs.Laws.{taken-dropped}
 use Rattle.message.specs.declared.Message.{Message}
 use Rattle.message.specs.declared.Read.{Read}
 use Rattle.message.specs.Names.{planAt}
@@ -36,20 +37,21 @@ use Rattle.plan.proofs.Reportable.{standing-none, standing-past}
 use Rattle.plan.proofs.Cases.{built-in-stands}
 use Rattle.controller.specs.declared.Running.{Running}
 use Rattle.controller.specs.declared.State.{State}
+use Rattle.controller.specs.declared.Event.the-variants as event
 use Rattle.controller.specs.declared.handling.Handled.{Handled}
 use Rattle.controller.specs.State.{all, outputLen, runningSound, soundOf, readyIn, planRecord, RecordOf, startedAt, withDecoder}
 use Rattle.controller.specs.Handling.{runCode, queryTimesCode, queryPlanCode, queryRunningCode, carriedOutReply, accepted, refusedAs, setAs, unlessUnread, runAs, queryTimesAs, queryPlanAs, queryRunningAs, Handles, handlingOf}
-use Rattle.controller.specs.Calls.{refusedCall, quiet, broughtOf, doneOf, octetOf, lineIdleOf, pickedOf, movedOn, noSecond, secondShown, secondOf}
+use Rattle.controller.specs.Calls.{refusedCall, quiet, acks, forUs, isAnswer, unchanged, leaves, handledOf, messageOf, broughtOf, madeOf, doneOf, octetOf, lineIdleOf, pickedOf, movedOn, noSecond, secondShown, secondOf}
 
 -- Tests
 
-both-true : (b : Bool) → both b true ≡ b
-both-true true = refl
-both-true false = refl
+and-true : (b : Bool) → both b true ≡ b
+and-true true = refl
+and-true false = refl
 
-both-false : (b : Bool) → both b false ≡ false
-both-false true = refl
-both-false false = refl
+and-false : (b : Bool) → both b false ≡ false
+and-false true = refl
+and-false false = refl
 
 -- The octet call
 
@@ -69,6 +71,35 @@ module _ (s : State) (book out : List ℕ) (b : ℕ) where
   pub octet-done : soundOf s ≡ true → length book ≡ bookLen → outputLen ≤ length out → octetOf s book out b ≡ doneOf s (takenOf (s .decoder) b) book out
   unfolding octetOf
   octet-done h n l = rw (h, eq-eqb (length book) bookLen n, le-leb outputLen (length out) l)
+
+  -- an octet that is dropped leaves everything as it is
+  pub octet-dropped : drops (s .decoder .head .place) b ≡ true → doneOf s (takenOf (s .decoder) b) book out ≡ refusedCall s refusal.none book out
+  unfolding doneOf
+  octet-dropped h = ap (λ (t : Taken). doneOf s t book out) (taken-dropped (s .decoder) b h)
+
+  -- what the octet ended decides what the call makes of the state
+  pub octet-brings : soundOf s ≡ true → length book ≡ bookLen → outputLen ≤ length out → {o : Outcome} → outcomeOf (takenOf (s .decoder) b) ≡ o
+      → octetOf s book out b ≡ madeOf s (takenOf (s .decoder) b .decoder) (broughtOf o (s .own) (s .seq) (s .requested) (s .running) book) out
+  unfolding doneOf
+  octet-brings h n l e = octet-done h n l ∙ rw e
+
+-- A message frame
+
+module _ (own ours requested : ℕ) (u : Running) (seq addr : ℕ) (info book : List ℕ) where
+  pub message-other : forUs own addr ≡ false → messageOf own ours requested u seq addr info book ≡ leaves book (unchanged refusal.none event.Nothing [] ours requested)
+  unfolding messageOf
+  message-other f = rw f
+
+  module _ (f : forUs own addr ≡ true) where
+    pub message-answer : isAnswer (codeIn info) ≡ true
+        → messageOf own ours requested u seq addr info book ≡ leaves book (unchanged refusal.none event.Nothing (acks own seq addr) ours requested)
+    unfolding messageOf
+    message-answer a = rw (f, a)
+
+    pub message-handled : isAnswer (codeIn info) ≡ false
+        → messageOf own ours requested u seq addr info book ≡ handledOf own ours seq addr (handlingOf u requested book info)
+    unfolding messageOf
+    message-handled a = rw (f, a)
 
 -- The line-idle call
 
@@ -293,12 +324,12 @@ module _ (u : Running) where
                 let s : standingOf (u .copy) ≡ ready = rw (same-is (u .copy) builtIn (sym e)) built-in-stands in
                 rw (← ec, lt-ltb (u .position) c hc, le-leb (u .plan) plansMost hp, eq-eqb (standingOf (u .copy)) ready s, eq-eqb (u .plan) 0 z) e
             by false e =
-                rw (← ec, lt-ltb (u .position) c hc, le-leb (u .plan) plansMost hp, eq-eqb (u .plan) 0 z, ← e) (sym (both-false (eqb (standingOf (u .copy)) ready)))
+                rw (← ec, lt-ltb (u .position) c hc, le-leb (u .plan) plansMost hp, eq-eqb (u .plan) 0 z, ← e) (sym (and-false (eqb (standingOf (u .copy)) ready)))
 
         pub other-plan : (u .plan ≡ 0 → ⊥) → {n : ℕ} → n ≡ standingOf (u .copy) → eqb n ready ≡ runningSound u
         unfolding runningSound
         other-plan z {n} e =
-            rw (← ec, lt-ltb (u .position) c hc, le-leb (u .plan) plansMost hp, ne-eqb (u .plan) 0 z, ← e) (sym (both-true (eqb n ready)))
+            rw (← ec, lt-ltb (u .position) c hc, le-leb (u .plan) plansMost hp, ne-eqb (u .plan) 0 z, ← e) (sym (and-true (eqb n ready)))
 
 module _ (s : State) where
   pub own-all : s .own ≡ all → false ≡ soundOf s
@@ -353,9 +384,3 @@ module _ (info : List ℕ) {j : ℕ} where
 
   pub code-is : getD info 0 0 ≡ 0x5F → getD info 1 0 ≡ j → codeIn info ≡ 0x5F00 + j
   code-is h e = omega (arith, h, e)
-
--- what the decoder found decides what a call does
-pub brings : (s : State) (book out : List ℕ) (b : ℕ) {t : Taken} {f : Found} → t ≡ takenOf (s .decoder) b → t .found ≡ f
-    → doneOf s (takenOf (s .decoder) b) book out ≡ broughtOf f (withDecoder s (t .decoder)) book out
-unfolding doneOf
-brings s book out b e h = rw (← e, h)

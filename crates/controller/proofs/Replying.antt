@@ -1,5 +1,5 @@
 -- What an octet call writes: every reply is a message that the writer writes, its INFO fits a frame, and the frames fit the output.
-use Prim.Native.Nat.{ℕ, zero, suc, _+_, _*_, _-_, _≤_, _<_}
+use Prim.Native.Nat.{ℕ, zero, suc, _*_, _≤_, _<_}
 use mathlib.Core.Path.{_≡_, refl, subst, _∙_}
 use mathlib.Core.Bool.{Bool, true, false}
 use mathlib.Core.Logic.{inl, inr}
@@ -7,27 +7,23 @@ use mathlib.Core.List.{List, [], _∷_}
 use native.Mathlib.Decide.{decLt}
 use native.Mathlib.Nat.{mod-eq-of-lt}
 use native.Mathlib.Omega.{arith}
-use borrow.Author.Tests.{ne-eqb, eqb-true, eqb-false, leb-true}
-use lib.Dec.{eqb, leb}
-use lib.ListN.{length, length-append, List·getD-eq-default}
+use borrow.Author.Tests.{ne-eqb, eqb-true, eqb-false}
+use lib.Dec.{eqb}
+use lib.ListN.{length, take, length-append, List·getD-eq-default}
+use lib.Seq.{length-take-le}
 use Rattle.octets.specs.Choice.{pick}
 use Rattle.octets.specs.First.{firstOf}
 use Rattle.octets.specs.Part.{codeLen}
 use Rattle.octets.specs.Refusal as refusal
 use Rattle.octets.specs.Word.{highOf, lowOf}
-use Rattle.octets.proofs.Laws.{pick-by, both-left, both-right}
-use Rattle.frame.specs.declared.Kind.{Kind}
+use Rattle.octets.proofs.Laws.{pick-by}
 use Rattle.frame.specs.declared.Kind.the-variants.{Message, Ack, Nak}
-use Rattle.frame.specs.declared.decoder.Place.{Place}
-use Rattle.frame.specs.declared.decoder.Place.the-variants.{Idle, LoneAa, Seq, AddrHigh, AddrLow, LenHigh, LenLow, Info, InfoAa, CloseAa, CloseCc, Err, Cks}
 use Rattle.frame.specs.declared.decoder.Decoder.{Decoder}
 use Rattle.frame.specs.declared.decoder.Found.{Found}
 use Rattle.frame.specs.declared.decoder.Found.the-variants as found
-use Rattle.frame.specs.declared.decoder.Taken.{Taken}
-use Rattle.frame.specs.Frame.{ack, nak, infoLeast, infoMost, messageLen, lenFits, frontOf, sentOf, twice, doubled, written}
-use Rattle.frame.specs.Decoder.{headOf, possibleOf, cksDue, afterAa, stored, cksIn, stepOf, takenOf}
-use Rattle.frame.proofs.Laws.{message-len, taken-done}
-use Rattle.frame.proofs.Possible.{at}
+use Rattle.frame.specs.Frame.{ack, nak, infoMost, frontOf, sentOf, twice, doubled, written}
+use Rattle.frame.specs.Decoder.{possibleOf, takenOf}
+use Rattle.frame.proofs.Finding.{finds}
 use Rattle.message.specs.declared.Message as message
 use Rattle.message.specs.declared.layout.Field.{Field}
 use Rattle.message.specs.Fields as field
@@ -53,66 +49,24 @@ use Rattle.controller.specs.declared.Running.{Running}
 use Rattle.controller.specs.declared.handling.Handled.{Handled}
 use Rattle.controller.specs.State.{outputLen, planRecord, readyIn}
 use Rattle.controller.specs.Handling.{Handling, accepted, reads, sets, runCode, queryTimesCode, queryPlanCode, queryRunningCode, carriedOutReply, refusedReply, refusedAs, setAs, unlessUnread, runAs, queryTimesAs, queryPlanAs, queryRunningAs, handlingOf}
-use Rattle.controller.specs.Calls.{sent, repliesOf}
+use Rattle.controller.specs.Calls.{sent, repliesOf, CanFind}
 
--- What an octet brings
+-- What the decoder finds
 
--- a frame is refused 1 to 3, and a message frame has INFO of 2 to 256 octets
-abbrev pub CanBring : Found → Type 0
-CanBring found.Nothing = Unit
-CanBring (found.Refused n k seq addr) = n ≤ refusal.lenWrong
-CanBring (found.Message seq addr n) = (codeLen ≤ n) × (n ≤ infoMost)
-CanBring (found.Ack seq addr) = Unit
-CanBring (found.Nak seq addr err) = Unit
+pub can-find : (d : Decoder) (b : ℕ) → possibleOf (d .head) ≡ true → CanFind (takenOf d b .found)
+can-find =
+    finds {P = CanFind}
+    (record {
+      nothing = tt;
+      refused = λ n k seq addr h. h;
+      message = λ seq addr n least most. (least, most);
+      ack = λ seq addr. tt;
+      nak = λ seq addr err. tt;
+    })
 
-abbrev Brings : Taken → Type 0
-Brings t = CanBring (t .found)
-
-after-aa : (d : Decoder) (b : ℕ) (f : Found) → CanBring f → Brings (afterAa d b f)
-after-aa d b f h =
-    pick-by Brings (eqb b 0xAA) (λ _. h)
-    (λ _. pick-by Brings (eqb b 0xBB) (λ _. h)
-    (λ _. pick-by Brings (eqb b 0xDD) (λ _. h)
-    (λ _. pick-by Brings (eqb b 0xEE) (λ _. h) (λ _. h))))
-
-module _ (s e a n g : ℕ) (l : List ℕ) (b : ℕ) where
-  after-stored : (p : Place) (k : Kind) → Brings (stored (at p k s e a n g l) b)
-  after-stored p k = pick-by Brings (leb infoMost g) (λ _. tt) (λ _. tt)
-
-  cks-found : (k : Kind) → cksDue k n g ≡ true → Brings (stepOf (at Cks k s e a n g l) b)
-  unfolding stepOf
-  cks-found Message h =
-      let f = both-left (lenFits Message n) (eqb g (n - messageLen)) h in
-      let w = eqb-true g (n - messageLen) (both-right (lenFits Message n) (eqb g (n - messageLen)) h) in
-      let least = message-len n f in
-      let most = leb-true n (messageLen + infoMost) (both-right (leb (messageLen + infoLeast) n) (leb n (messageLen + infoMost)) f) in
-      pick-by Brings (eqb (cksIn (at Cks Message s e a n g l)) b) (λ _. (omega arith, omega arith)) (λ _. omega arith)
-  cks-found Ack h = pick-by Brings (eqb (cksIn (at Cks Ack s e a n g l)) b) (λ _. tt) (λ _. omega arith)
-  cks-found Nak h = pick-by Brings (eqb (cksIn (at Cks Nak s e a n g l)) b) (λ _. tt) (λ _. omega arith)
-
-  step-found : (p : Place) (k : Kind) → possibleOf (headOf p k s e a n g) ≡ true → Brings (stepOf (at p k s e a n g l) b)
-  unfolding possibleOf stepOf
-  step-found Idle k h = pick-by Brings (eqb b 0xAA) (λ _. tt) (λ _. tt)
-  step-found LoneAa k h = after-aa (at LoneAa k s e a n g l) b found.Nothing tt
-  step-found Seq k h = tt
-  step-found AddrHigh k h = tt
-  step-found AddrLow k h = tt
-  step-found LenHigh k h = tt
-  step-found LenLow k h = pick-by Brings (lenFits k _) (λ _. tt) (λ _. omega arith)
-  step-found Info k h = pick-by Brings (eqb b 0xAA) (λ _. tt) (λ _. after-stored Info k)
-  step-found InfoAa k h = pick-by Brings (eqb b 0xAA) (λ _. after-stored InfoAa k) (λ _. after-aa (at InfoAa k s e a n g l) b (found.Refused refusal.closingWrong k s a) (omega arith))
-  step-found CloseAa k h = pick-by Brings (eqb b 0xAA) (λ _. tt) (λ _. omega arith)
-  step-found CloseCc k h = pick-by Brings (eqb b 0xCC) (λ _. tt) (λ _. after-aa (at CloseCc k s e a n g l) b (found.Refused refusal.closingWrong k s a) (omega arith))
-  step-found Err k h = tt
-  step-found Cks k h = cks-found k h
-
-pub can-bring : (d : Decoder) (b : ℕ) → possibleOf (d .head) ≡ true → CanBring (takenOf d b .found)
-can-bring d b h =
-    let q = d .head in
-    rw (taken-done d b h) (step-found (q .seq) (q .err) (q .addr) (q .len) (q .got) (d .info) b (q .place) (q .kind) h)
-
-pub message-fits : (d : Decoder) (b seq addr n : ℕ) → possibleOf (d .head) ≡ true → takenOf d b .found ≡ found.Message seq addr n → (codeLen ≤ n) × (n ≤ infoMost)
-message-fits d b seq addr n h e = subst CanBring e (can-bring d b h)
+-- so its INFO is as long as it says
+pub info-found : {f : Found} {seq addr n : ℕ} (kept : List ℕ) → f ≡ found.Message seq addr n → CanFind f → length kept ≡ infoMost → (codeLen ≤ n) × (length (take n kept) ≡ n)
+info-found kept e c l = let h = subst CanFind e c in (h .0, length-take-le _ kept (omega (arith, h .1, l)))
 
 -- The replies 0F 80 and 0F 81
 

@@ -9,18 +9,17 @@ use native.Mathlib.Omega.{arith}
 use borrow.Author.Tests.{eq-eqb, ne-eqb}
 use lib.Dec.{eqb}
 use lib.ListN.{length, take, drop, replicate, length-replicate}
-use lib.Seq.{take-at}
+use lib.Seq.{sets, take-at}
 use Rattle.octets.specs.Octet.{Octets}
 use Rattle.octets.specs.Refusal as refusal
 use Rattle.octets.specs.Writing.{Writing}
 use Rattle.octets.proofs.Laws.{pick-by}
 use Rattle.frame.specs.declared.Kind.{Kind}
 use Rattle.frame.specs.declared.Kind.the-variants.{Message, Ack, Nak}
-use Rattle.frame.specs.declared.decoder.Found.{Found}
-use Rattle.frame.specs.declared.decoder.Found.the-variants as found
+use Rattle.frame.specs.declared.decoder.Decoder.{Decoder}
 use Rattle.frame.specs.Frame.{Frame, message, ack, nak, infoMost}
 use Rattle.frame.specs.Decoder.{takenOf}
-use Rattle.frame.specs.Run.{Outcome, nothing, refused, sound, told, outcomeOf}
+use Rattle.frame.specs.Run.{Outcome, sound, outcomeOf}
 use Rattle.message.specs.declared.Message as message
 use Rattle.message.specs.declared.Read.{Read}
 use Rattle.message.specs.Names.{planAt}
@@ -51,71 +50,34 @@ use Rattle.controller.specs.declared.Running.{Running}
 use Rattle.controller.specs.declared.State.{State}
 use Rattle.controller.specs.declared.Event.{Event}
 use Rattle.controller.specs.declared.Event.the-variants as event
-use Rattle.controller.specs.State.{all, outputLen, planRecord, soundOf, withDecoder}
+use Rattle.controller.specs.State.{all, outputLen, planRecord, soundOf}
 use Rattle.controller.specs.Handling as handling
 use Rattle.controller.specs.Handling.{Handling, carriedOutCode, refusedCode, runCode, queryTimesCode, queryPlanCode, queryRunningCode, carriedOutReply, setAs, runAs, queryTimesAs, queryPlanAs, queryRunningAs, handlingOf}
-use Rattle.controller.specs.Calls.{Call, sent, callOf, errOf, naks, acks, forUs, isAnswer, repliesOf, repliedOf, messageOf, eventFor, broughtOf, doneOf, octetOf}
+use Rattle.controller.specs.Calls.{Call, sent, errOf, naks, forUs, isAnswer, repliesOf, Bringing, repliedOf, handledOf, messageOf, broughtOf, madeOf, octetOf}
 use Rattle.controller.specs.Demand1.{InDone}
 use Rattle.controller.specs.Demand2.{Wrote, Err, IsAnswer, RepliesSo, Replies, Answers, CarriedOut, Reported, Refused, HandledSo, Handles, SecondsShow}
 use Rattle.controller.proofs.Judging.{RunningParts, sound-parts, record-octets}
-use Rattle.controller.proofs.Laws.{octet-done, second-done}
+use Rattle.controller.proofs.Laws.{octet-brings, message-other, message-answer, message-handled, second-done}
 use Rattle.controller.proofs.Replying.{carried-out-info, refused-info, plan-most, reply-fits, nak-fits, ack-fits, sent-most}
 use Rattle.controller.proofs.Answering.{read-in-done, written-take}
 
--- The octet call by its outcome
+-- Whom a message is for
 
-abbrev pub byOutcome : Outcome → State → List ℕ → List ℕ → Call
-byOutcome nothing s book out = callOf s refusal.none 0 event.Nothing [] book out
-byOutcome (refused n k seq addr) s book out = callOf s n 0 event.Nothing (naks k (s .own) n seq addr) book out
-byOutcome (sound (message seq addr info)) s book out = messageOf s seq addr info book out
-byOutcome (sound (ack seq addr)) s book out = callOf s refusal.none 0 (eventFor (s .own) addr (event.Ack seq)) [] book out
-byOutcome (sound (nak seq addr err)) s book out = callOf s refusal.none 0 (eventFor (s .own) addr (event.Nak seq err)) [] book out
+module _ (own addr : ℕ) where
+  for-us : (addr ≡ own) ⊎ (addr ≡ all) → forUs own addr ≡ true
+  for-us (inl e) = rw (eq-eqb addr own e)
+  for-us (inr e) = pick-by (λ (t : Bool). t ≡ true) (eqb addr own) (λ _. refl) (λ _. eq-eqb addr all e)
 
-brought-so : (f : Found) (s : State) (book out : List ℕ) → broughtOf f s book out ≡ byOutcome (told f (s .decoder .info)) s book out
-brought-so found.Nothing s book out = refl
-brought-so (found.Refused n k seq addr) s book out = refl
-brought-so (found.Message seq addr n) s book out = refl
-brought-so (found.Ack seq addr) s book out = refl
-brought-so (found.Nak seq addr err) s book out = refl
-
--- the state with the octet taken
-abbrev pub takenIn : State → ℕ → State
-takenIn s b = withDecoder s (takenOf (s .decoder) b .decoder)
-
-pub octet-brings : (s : State) (book out : List ℕ) (b : ℕ) → soundOf s ≡ true → length book ≡ bookLen → outputLen ≤ length out
-    → {o : Outcome} → outcomeOf (takenOf (s .decoder) b) ≡ o → octetOf s book out b ≡ byOutcome o (takenIn s b) book out
-unfolding doneOf
-octet-brings s book out b h hb ho e =
-    octet-done s book out b h hb ho ∙ brought-so (takenOf (s .decoder) b .found) (takenIn s b) book out
-    ∙ ap (λ (o : Outcome). byOutcome o (takenIn s b) book out) e
-
--- A message, way by way
-
-module _ (s : State) (seq addr : ℕ) (info book out : List ℕ) where
-  for-us : (addr ≡ s .own) ⊎ (addr ≡ all) → forUs (s .own) addr ≡ true
-  for-us (inl e) = rw (eq-eqb addr (s .own) e)
-  for-us (inr e) = pick-by (λ (t : Bool). t ≡ true) (eqb addr (s .own)) (λ _. refl) (λ _. eq-eqb addr all e)
-
-  pub message-other : (addr ≡ s .own → ⊥) → (addr ≡ all → ⊥) → messageOf s seq addr info book out ≡ callOf s refusal.none 0 event.Nothing [] book out
-  unfolding messageOf
-  message-other n m = rw (ne-eqb addr (s .own) n, ne-eqb addr all m)
-
-  pub message-answer : (addr ≡ s .own) ⊎ (addr ≡ all) → isAnswer (codeIn info) ≡ true
-      → messageOf s seq addr info book out ≡ callOf s refusal.none 0 event.Nothing (acks (s .own) seq addr) book out
-  unfolding messageOf
-  message-answer a e = rw (for-us a, e)
-
-  pub message-handled : (addr ≡ s .own) ⊎ (addr ≡ all) → isAnswer (codeIn info) ≡ false
-      → messageOf s seq addr info book out ≡ repliedOf s seq addr (handlingOf (s .running) (s .requested) book info) out
-  unfolding messageOf
-  message-handled a e = rw (for-us a, e)
+  for-another : (addr ≡ own → ⊥) → (addr ≡ all → ⊥) → forUs own addr ≡ false
+  for-another n m = rw (ne-eqb addr own n, ne-eqb addr all m)
 
 -- whatever a message does, it is no event
-message-event : (s : State) (seq addr : ℕ) (info book out : List ℕ) → messageOf s seq addr info book out .answer .event ≡ event.Nothing
+message-event : (own ours requested : ℕ) (u : Running) (seq addr : ℕ) (info book : List ℕ)
+    → messageOf own ours requested u seq addr info book .result .event ≡ event.Nothing
 unfolding messageOf repliedOf
-message-event s seq addr info book out =
-    let P : Call → Type 0 = λ w. w .answer .event ≡ event.Nothing in
-    pick-by P (forUs (s .own) addr) (λ _. pick-by P (isAnswer (codeIn info)) (λ _. refl) (λ _. pick-by P (eqb addr (s .own)) (λ _. refl) (λ _. refl))) (λ _. refl)
+message-event own ours requested u seq addr info book =
+    let P : Bringing → Type 0 = λ w. w .result .event ≡ event.Nothing in
+    pick-by P (forUs own addr) (λ _. pick-by P (isAnswer (codeIn info)) (λ _. refl) (λ _. refl)) (λ _. refl)
 
 -- 0F 80 and 0F 81
 is-answer : (info : List ℕ) → IsAnswer info → isAnswer (codeIn info) ≡ true
@@ -132,12 +94,12 @@ err-so Err.len = refl
 
 -- What is written
 
-wrote : {s : State} {n m : ℕ} {e : Event} {book : List ℕ} (out : List ℕ) (fs : List Frame) → outputLen ≤ length out → length (sent fs) ≤ outputLen
-    → Wrote (callOf s n m e fs book out) fs
-wrote out fs ho h = record { count = refl; octets = written-take (sent fs) out (omega arith) }
+wrote : {w : Call} (out : List ℕ) (fs : List Frame) → outputLen ≤ length out → length (sent fs) ≤ outputLen
+    → w .answer .count ≡ length (sent fs) → w .out ≡ sets out 0 (sent fs) → Wrote w fs
+wrote out fs ho h c e = record { count = c; octets = rw (c, e) (written-take (sent fs) out (omega arith)) }
 
-wrote-none : {s : State} {n m : ℕ} {e : Event} {book out : List ℕ} → Wrote (callOf s n m e [] book out) []
-wrote-none = record { count = refl; octets = refl }
+wrote-none : {w : Call} → w .answer .count ≡ 0 → Wrote w []
+wrote-none c = record { count = c; octets = rw c }
 
 -- a message handled, and its reply where it was for us, with our address and SEQ
 pub record Served (own ours seq addr : ℕ) (h : Handling) (w : Call) : Type 0 where
@@ -148,48 +110,48 @@ pub record Served (own ours seq addr : ℕ) (h : Handling) (w : Call) : Type 0 w
   pub reply : addr ≡ own → Wrote w (repliesOf seq ours own (infoOf (h .handled .reply))) × (w .answer .state .seq ≡ (ours + 1) % 256)
   pub silent : (addr ≡ own → ⊥) → Wrote w [] × (w .answer .state .seq ≡ ours)
 
-module _ (s : State) (seq addr : ℕ) (h : Handling) (out : List ℕ) (ho : outputLen ≤ length out) where
-  served : length (infoOf (h .handled .reply)) ≤ infoMost → Served (s .own) (s .seq) seq addr h (repliedOf s seq addr h out)
+module _ (s : State) (d : Decoder) (seq addr : ℕ) (h : Handling) (out : List ℕ) (ho : outputLen ≤ length out) where
+  abbrev made : Call
+  made = madeOf s d (handledOf (s .own) (s .seq) seq addr h) out
+
+  served : length (infoOf (h .handled .reply)) ≤ infoMost → Served (s .own) (s .seq) seq addr h made
   unfolding repliedOf
-  served f = by (ℕ-discrete addr (s .own))
+  served f =
+      record {
+        names = refl;
+        parameter = refl;
+        requested = refl;
+        book = refl;
+        reply = λ e.
+            rw (eq-eqb addr (s .own) e) (wrote out (repliesOf seq (s .seq) (s .own) info) ho (sent-most seq (s .seq) (s .own) info f) refl refl, refl);
+        silent = λ n. rw (ne-eqb addr (s .own) n) (wrote-none refl, refl);
+      }
     where
       info : List ℕ
       info = infoOf (h .handled .reply)
-
-      by : Dec (addr ≡ s .own) → Served (s .own) (s .seq) seq addr h (repliedOf s seq addr h out)
-      by (yes e) =
-          rw (eq-eqb addr (s .own) e)
-          (record {
-            names = refl;
-            parameter = refl;
-            requested = refl;
-            book = refl;
-            reply = λ _. (wrote out (repliesOf seq (s .seq) (s .own) info) ho (sent-most seq (s .seq) (s .own) info f), refl);
-            silent = λ n. absurd (n e);
-          })
-      by (no n) =
-          rw (ne-eqb addr (s .own) n)
-          (record { names = refl; parameter = refl; requested = refl; book = refl; reply = λ e. absurd (n e); silent = λ _. (wrote-none, refl) })
 
 module _ (s : State) (book out : List ℕ) (b : ℕ) (h : soundOf s ≡ true) (hb : length book ≡ bookLen) (ho : outputLen ≤ length out) where
   abbrev w : Call
   w = octetOf s book out b
 
-  abbrev Brings : Outcome → Type 0
-  Brings o = outcomeOf (takenOf (s .decoder) b) ≡ o
+  abbrev d : Decoder
+  d = takenOf (s .decoder) b .decoder
 
-  brings : {o : Outcome} → Brings o → w ≡ byOutcome o (takenIn s b) book out
+  abbrev Ends : Outcome → Type 0
+  Ends o = outcomeOf (takenOf (s .decoder) b) ≡ o
+
+  brings : {o : Outcome} → Ends o → w ≡ madeOf s d (broughtOf o (s .own) (s .seq) (s .requested) (s .running) book) out
   brings e = octet-brings s book out b h hb ho e
 
   other : all ≡ s .own → ⊥
   other e = sound-parts s h .own (sym e)
 
-  pub message-served : (seq addr : ℕ) (info : List ℕ) → Brings (sound (message seq addr info)) → (addr ≡ s .own) ⊎ (addr ≡ all)
+  pub message-served : (seq addr : ℕ) (info : List ℕ) → Ends (sound (message seq addr info)) → (addr ≡ s .own) ⊎ (addr ≡ all)
       → isAnswer (codeIn info) ≡ false → Served (s .own) (s .seq) seq addr (handlingOf (s .running) (s .requested) book info) w
   message-served seq addr info e a n =
       let u = sound-parts s h .running in
-      rw (brings e, message-handled (takenIn s b) seq addr info book out a n)
-      (served (takenIn s b) seq addr (handlingOf (s .running) (s .requested) book info) out ho (reply-fits (s .running) (s .requested) book info (u .checks) (u .plan) hb))
+      rw (brings e, message-handled (s .own) (s .seq) (s .requested) (s .running) seq addr info book (for-us (s .own) addr a) n)
+      (served s d seq addr (handlingOf (s .running) (s .requested) book info) out ho (reply-fits (s .running) (s .requested) book info (u .checks) (u .plan) hb))
 
   no-naks : (n : ℕ) (k : Kind) (seq addr : ℕ) → (k ≡ Message → ⊥) ⊎ (addr ≡ s .own → ⊥) → naks k (s .own) n seq addr ≡ []
   no-naks n Message seq addr (inl g) = absurd (g refl)
@@ -197,30 +159,30 @@ module _ (s : State) (book out : List ℕ) (b : ℕ) (h : soundOf s ≡ true) (h
   no-naks n Ack seq addr g = refl
   no-naks n Nak seq addr g = refl
 
-  for-all : (seq : ℕ) (info : List ℕ) → Brings (sound (message seq all info)) → (t : Bool) → isAnswer (codeIn info) ≡ t → Wrote w [] × (w .answer .state .seq ≡ s .seq)
-  for-all seq info e true a = rw (brings e, message-answer (takenIn s b) seq all info book out (inr refl) a, ne-eqb all (s .own) other) (wrote-none, refl)
+  for-all : (seq : ℕ) (info : List ℕ) → Ends (sound (message seq all info)) → (t : Bool) → isAnswer (codeIn info) ≡ t → Wrote w [] × (w .answer .state .seq ≡ s .seq)
+  for-all seq info e true a = rw (brings e, message-answer (s .own) (s .seq) (s .requested) (s .running) seq all info book (for-us (s .own) all (inr refl)) a, ne-eqb all (s .own) other) (wrote-none refl, refl)
   for-all seq info e false a = message-served seq all info e (inr refl) a .silent other
 
   octet-replies : RepliesSo s book b (outcomeOf (takenOf (s .decoder) b)) w
   octet-replies =
       record {
-        quiet = λ e. rw (brings e) (wrote-none, refl, record { state = refl; book = refl }, refl);
-        nakForUs = λ n err seq g e. rw (brings e, eq-eqb (s .own) (s .own) refl, err-so g) (wrote out (nak seq (s .own) err ∷ []) ho (nak-fits seq (s .own) err));
-        noNak = λ n k seq addr e g. rw (brings e, no-naks n k seq addr g) wrote-none;
+        quiet = λ e. rw (brings e) (wrote-none refl, refl, record { state = refl; book = refl }, refl);
+        nakForUs = λ n err seq g e. rw (brings e, eq-eqb (s .own) (s .own) refl, err-so g) (wrote out (nak seq (s .own) err ∷ []) ho (nak-fits seq (s .own) err) refl refl);
+        noNak = λ n k seq addr e g. rw (brings e, no-naks n k seq addr g) (wrote-none refl);
         named = λ n k seq addr e. rw (brings e) (refl, record { state = refl; book = refl }, refl);
         ackOnly = λ seq info e a.
-            rw (brings e, message-answer (takenIn s b) seq (s .own) info book out (inl refl) (is-answer info a), eq-eqb (s .own) (s .own) refl)
-            (wrote out (ack seq (s .own) ∷ []) ho (ack-fits seq (s .own)), refl, record { state = refl; book = refl });
+            rw (brings e, message-answer (s .own) (s .seq) (s .requested) (s .running) seq (s .own) info book (for-us (s .own) (s .own) (inl refl)) (is-answer info a), eq-eqb (s .own) (s .own) refl)
+            (wrote out (ack seq (s .own) ∷ []) ho (ack-fits seq (s .own)) refl refl, refl, record { state = refl; book = refl });
         replied = λ seq info e a.
             let v = message-served seq (s .own) info e (inl refl) (no-answer info a) .reply refl in
             (infoOf (handlingOf (s .running) (s .requested) book info .handled .reply), v .0, v .1);
         forAll = λ seq info e. for-all seq info e (isAnswer (codeIn info)) refl;
-        dropped = λ seq addr info e n m. rw (brings e, message-other (takenIn s b) seq addr info book out n m) (wrote-none, refl, record { state = refl; book = refl });
-        noEvent = λ seq addr info e. rw (brings e) (message-event (takenIn s b) seq addr info book out);
+        dropped = λ seq addr info e n m. rw (brings e, message-other (s .own) (s .seq) (s .requested) (s .running) seq addr info book (for-another (s .own) addr n m)) (wrote-none refl, refl, record { state = refl; book = refl });
+        noEvent = λ seq addr info e. rw (brings e) (message-event (s .own) (s .seq) (s .requested) (s .running) seq addr info book);
         ackEvent = λ seq e. rw (brings e, eq-eqb (s .own) (s .own) refl);
         nakEvent = λ seq err e. rw (brings e, eq-eqb (s .own) (s .own) refl);
-        ackQuiet = λ seq addr e. rw (brings e) (wrote-none, refl, record { state = refl; book = refl });
-        nakQuiet = λ seq addr err e. rw (brings e) (wrote-none, refl, record { state = refl; book = refl });
+        ackQuiet = λ seq addr e. rw (brings e) (wrote-none refl, refl, record { state = refl; book = refl });
+        nakQuiet = λ seq addr err e. rw (brings e) (wrote-none refl, refl, record { state = refl; book = refl });
         ackOther = λ seq addr e n. rw (brings e, ne-eqb addr (s .own) n);
         nakOther = λ seq addr err e n. rw (brings e, ne-eqb addr (s .own) n);
       }

@@ -1,7 +1,7 @@
--- What the frame and message writers leave in an output that is long enough, and the calls that write it.
+-- What the frame and message writers leave in an output that is long enough, and what is told of it.
 use Prim.Native.Nat.{ℕ, _+_, _%_, _≤_}
 use mathlib.Core.Path.{_≡_, refl, sym, ap, _∙_}
-use mathlib.Core.Bool.{Bool, true, false}
+use mathlib.Core.Bool.{true, false}
 use mathlib.Core.List.{List, [], _∷_, _++_, append-nil}
 use native.Mathlib.Omega.{arith}
 use borrow.Author.Tests.{eq-eqb, ne-eqb, le-leb}
@@ -16,18 +16,20 @@ use Rattle.octets.proofs.Laws.{stored-then}
 use Rattle.frame.specs.declared.Kind.{Kind}
 use Rattle.frame.specs.declared.Kind.the-variants.{Message, Ack, Nak}
 use Rattle.frame.specs.Frame.{Frame, message, ack, nak, infoFits, infoLeast, infoMost, written}
+use Rattle.frame.specs.declared.decoder.Taken.{Taken}
+use Rattle.frame.specs.Run.{outcomeOf}
 use Rattle.frame.specs.Writer as frame
 use Rattle.message.specs.declared.Message as message
-use Rattle.message.specs.Reader.{codeIn}
 use Rattle.message.specs.Writer.{writable, infoOf}
 use Rattle.message.specs.Writer as writer
 use Rattle.controller.specs.declared.State.{State}
-use Rattle.controller.specs.declared.Answer.{Answer}
+use Rattle.controller.specs.declared.Event.{Event}
 use Rattle.controller.specs.declared.Event.the-variants as event
 use Rattle.controller.specs.declared.handling.Handled.{Handled}
-use Rattle.controller.specs.Handling.{Handling, Handles, handlingOf}
-use Rattle.controller.specs.Calls.{Did, Answers, sent, naks, acks, errOf, forUs, isAnswer, quiet, repliesOf, repliedOf, messageOf}
-use Rattle.controller.specs.State.{outputLen, withRequested, withSeq}
+use Rattle.controller.specs.declared.replies.Brought.{Brought}
+use Rattle.controller.specs.State.{outputLen}
+use Rattle.controller.specs.Handling.{Handling, Handles}
+use Rattle.controller.specs.Calls.{Did, sent, naks, acks, errOf, repliesOf, Tells, Brings, unchangedAs, unchanged, answeredBy, repliedOf, handledOf, broughtOf, doneOf}
 use Rattle.controller.proofs.Replying.{info-fits, ack-fits, nak-fits, reply-frames-fit}
 
 -- Frames
@@ -78,57 +80,34 @@ module _ (m : message.Message) {r : Written} {info : List ℕ} (h : writable m �
       (w .out ∙ ap (λ (x : Writing). x .out) info-written) ∙ sets-eq (infoOf m) (replicate infoMost 0) 0 (omega (arith, info-fits m h .1, length-replicate {A = ℕ} infoMost 0)) in
       rw e (take-at (infoOf m) (drop (0 + length (infoOf m)) (replicate infoMost 0)) (r .count) (sym info-count))
 
--- The calls
-
-module _ (s : State) (seq addr : ℕ) (out : List ℕ) {r : Answer} {o : List ℕ} where
-  -- what is written does not depend on the book
-  pub replied-book : {h : Handled} {b : List ℕ} (w : Handling) → Did (repliedOf s seq addr (record { handled = h; book = [] }) out) r [] o → Handles w h b
-      → Did (repliedOf s seq addr w out) r b o
-  unfolding repliedOf
-  replied-book {h} {b} w d e = by (eqb addr (s .own)) refl
-    where
-      by : (t : Bool) → eqb addr (s .own) ≡ t → Did (repliedOf s seq addr w out) r b o
-      by true q =
-          let d′ = rw q at d in
-          rw q (record { answer = d′ .answer ∙ rw (e .handled); book = e .book; out = d′ .out ∙ rw (e .handled) })
-      by false q =
-          let d′ = rw q at d in
-          rw q (record { answer = d′ .answer ∙ rw (e .handled); book = e .book; out = d′ .out })
-
-module _ (s : State) (seq addr : ℕ) (info book out : List ℕ) {t : Bool} (et : t ≡ forUs (s .own) addr) {r : Answer} where
-  pub message-dropped : t ≡ false → r ≡ quiet s refusal.none → Did (messageOf s seq addr info book out) r book out
-  unfolding messageOf
-  message-dropped h e = rw (← et, h) (record { answer = e; book = refl; out = refl })
-
-  module _ (h : t ≡ true) {c : ℕ} (ec : c ≡ codeIn info) {a : Bool} (ea : a ≡ isAnswer c) {o : List ℕ} where
-    pub message-answer : a ≡ true → Answers s refusal.none (acks (s .own) seq addr) out r o → Did (messageOf s seq addr info book out) r book o
-    unfolding messageOf
-    message-answer g e = rw (← et, h, ← ec, ← ea, g) (record { answer = e .answer; book = refl; out = e .out })
-
-    pub message-done : {b : List ℕ} → a ≡ false → Did (repliedOf s seq addr (handlingOf (s .running) (s .requested) book info) out) r b o
-        → Did (messageOf s seq addr info book out) r b o
-    unfolding messageOf
-    message-done g e = rw (← et, h, ← ec, ← ea, g) e
-
--- ACK and NAK
+-- What is told
 
 -- what is stored from the start on is counted
 stored-count : {A : Type 0} {vs out o : List ℕ} {count : ℕ} → Stored vs 0 out count o → (f : ℕ → A) → f count ≡ f (length vs)
 stored-count p f = ap f (p .place ∙ omega arith)
 
-pub stored-answers : (s : State) (n : ℕ) {fs : List Frame} {out o : List ℕ} {count : ℕ} → Stored (sent fs) 0 out count o
-    → Answers s n fs out (record { state = s; refusal = n; parameter = 0; event = event.Nothing; count = count }) o
-stored-answers s n p = record { answer = stored-count p (λ k. record { state = s; refusal = n; parameter = 0; event = event.Nothing; count = k }); out = p .holds }
+module _ (n : ℕ) (e : Event) (fs : List Frame) (ours requested : ℕ) {out o : List ℕ} {count : ℕ} {r : Brought} where
+  pub stored-tells : Stored (sent fs) 0 out count o → r ≡ unchangedAs n e count ours requested → Tells (unchanged n e fs ours requested) out r o
+  stored-tells p h = record { told = h ∙ stored-count p (λ k. unchangedAs n e k ours requested); out = p .holds }
 
-module _ (s : State) (seq addr : ℕ) (out : List ℕ) where
-  pub ack-none : (addr ≡ s .own → ⊥) → {r : Answer} → r ≡ quiet s refusal.none → Answers s refusal.none (acks (s .own) seq addr) out r out
-  ack-none n e = rw (ne-eqb addr (s .own) n) (record { answer = e; out = refl })
+-- a call tells of the state what was brought
+pub done-did : (s : State) (t : Taken) (book out : List ℕ) {r : Brought} {b o : List ℕ}
+    → Brings (broughtOf (outcomeOf t) (s .own) (s .seq) (s .requested) (s .running) book) out r b o
+    → Did (doneOf s t book out) (answeredBy s (t .decoder) r) b o
+unfolding doneOf
+done-did s t book out h = record { answer = ap (answeredBy s (t .decoder)) (h .tells .told); book = h .book; out = h .tells .out }
 
-  pub ack-only : addr ≡ s .own → outputLen ≤ length out → {w : Written} {o : List ℕ} → Wrote (frame.writeOf (ack seq (s .own)) 0 out) w o
-      → Answers s refusal.none (acks (s .own) seq addr) out (record { state = s; refusal = refusal.none; parameter = 0; event = event.Nothing; count = w .count }) o
-  ack-only e h w =
-      let f : 0 + length (written (ack seq (s .own))) ≤ length out = omega (arith, h, ack-fits seq (s .own), ap length (append-nil (written (ack seq (s .own))))) in
-      rw (eq-eqb addr (s .own) e) (stored-answers s refusal.none (sent-one (ack seq (s .own)) (frame-stored (ack seq (s .own)) 0 out refl f w (omega arith))))
+-- ACK and NAK
+
+module _ (own seq addr : ℕ) (out : List ℕ) where
+  pub ack-other : (addr ≡ own → ⊥) → Stored (sent (acks own seq addr)) 0 out 0 out
+  ack-other n = rw (ne-eqb addr own n) sent-none
+
+  pub ack-stored : addr ≡ own → outputLen ≤ length out → {w : Written} {o : List ℕ} → Wrote (frame.writeOf (ack seq own) 0 out) w o
+      → Stored (sent (acks own seq addr)) 0 out (w .count) o
+  ack-stored e h w =
+      let f : 0 + length (written (ack seq own)) ≤ length out = omega (arith, h, ack-fits seq own, ap length (append-nil (written (ack seq own)))) in
+      rw (eq-eqb addr own e) (sent-one (ack seq own) (frame-stored (ack seq own) 0 out refl f w (omega arith)))
 
 module _ {kind : Kind} (own n seq addr : ℕ) (out : List ℕ) where
   pub nak-stored : kind ≡ Message → addr ≡ own → outputLen ≤ length out → {e : ℕ} → e ≡ errOf n → {w : Written} {o : List ℕ} → Wrote (frame.writeOf (nak seq own e) 0 out) w o
@@ -178,17 +157,20 @@ module _ (seq ours own : ℕ) (m : message.Message) (out : List ℕ) (h : writab
     pub reply-stored : Stored (sent (repliesOf seq ours own (infoOf m))) 0 out (a .count + w .count) o
     reply-stored = sent-two (ack seq own) (message ours own (infoOf m)) ack-in (frame-stored (message ours own (infoOf m)) (a .count) p info-right message-room wrote-it refl)
 
-module _ (s : State) (seq addr : ℕ) (h : Handled) (out : List ℕ) where
-  pub replied-ours : addr ≡ s .own → {count q : ℕ} {o : List ℕ} → Stored (sent (repliesOf seq (s .seq) (s .own) (infoOf (h .reply)))) 0 out count o → q ≡ (s .seq + 1) % 256
-      → Did (repliedOf s seq addr (record { handled = h; book = [] }) out)
-      (record { state = withSeq (withRequested s (h .requested)) q; refusal = h .refusal; parameter = h .parameter; event = event.Nothing; count = count }) [] o
-  unfolding repliedOf
-  replied-ours e p eq =
-      rw (eq-eqb addr (s .own) e)
-      (record { answer = rw eq (stored-count p (λ k. record { state = withSeq (withRequested s (h .requested)) ((s .seq + 1) % 256); refusal = h .refusal; parameter = h .parameter; event = event.Nothing; count = k })); book = refl; out = p .holds })
+module _ (own ours seq addr : ℕ) (h : Handled) (out : List ℕ) where
+  abbrev replyAs : ℕ → ℕ → Brought
+  replyAs count q = record { refusal = h .refusal; parameter = h .parameter; event = event.Nothing; count = count; seq = q; requested = h .requested }
 
-  pub replied-all : (addr ≡ s .own → ⊥)
-      → Did (repliedOf s seq addr (record { handled = h; book = [] }) out)
-      (record { state = withRequested s (h .requested); refusal = h .refusal; parameter = h .parameter; event = event.Nothing; count = 0 }) [] out
+  pub replied-ours : eqb addr own ≡ true → {count q : ℕ} {o : List ℕ} → Stored (sent (repliesOf seq ours own (infoOf (h .reply)))) 0 out count o → q ≡ (ours + 1) % 256
+      → Tells (repliedOf own ours seq addr h) out (replyAs count q) o
   unfolding repliedOf
-  replied-all n = rw (ne-eqb addr (s .own) n) (record { answer = refl; book = refl; out = refl })
+  replied-ours e p eq = rw e (record { told = rw eq (stored-count p (λ k. replyAs k ((ours + 1) % 256))); out = p .holds })
+
+  pub replied-all : eqb addr own ≡ false → Tells (repliedOf own ours seq addr h) out (replyAs 0 ours) out
+  unfolding repliedOf
+  replied-all e = rw e (record { told = refl; out = refl })
+
+-- a message carried out, and what is told of it
+pub handled-brings : (own ours seq addr : ℕ) {h : Handled} (w : Handling) {out : List ℕ} {r : Brought} {b o : List ℕ} → Tells (repliedOf own ours seq addr h) out r o → Handles w h b
+    → Brings (handledOf own ours seq addr w) out r b o
+handled-brings own ours seq addr w t e = record { tells = rw (e .handled) at t; book = e .book }

@@ -1,20 +1,23 @@
 -- 01, "Replies" and "Lamps and seconds": what each call answers, and what it leaves in the state, the book and the output.
-use Prim.Native.Nat.{ℕ, _+_, _%_}
+use Prim.Native.Nat.{ℕ, _+_, _%_, _≤_}
 use mathlib.Core.Path.{_≡_}
 use mathlib.Core.Bool.{Bool, true}
 use mathlib.Core.List.{List, [], _∷_, _++_}
 use lib.Dec.{eqb, ltb, leb}
-use lib.ListN.{length, take}
+use lib.ListN.{length}
 use lib.Seq.{sets}
 use Rattle.octets.specs.Choice.{pick}
+use Rattle.octets.specs.Part.{codeLen}
 use Rattle.octets.specs.Refusal as refusal
 use Rattle.frame.specs.declared.Kind.{Kind}
 use Rattle.frame.specs.declared.Kind.the-variants.{Message, Ack, Nak}
+use Rattle.frame.specs.declared.decoder.Decoder.{Decoder}
 use Rattle.frame.specs.declared.decoder.Found.{Found}
 use Rattle.frame.specs.declared.decoder.Found.the-variants as found
 use Rattle.frame.specs.declared.decoder.Taken.{Taken}
-use Rattle.frame.specs.Frame.{Frame, message, ack, nak, written}
+use Rattle.frame.specs.Frame.{Frame, message, ack, nak, infoMost, written}
 use Rattle.frame.specs.Decoder.{takenOf, idledOf}
+use Rattle.frame.specs.Run.{Outcome, nothing, refused, sound, outcomeOf}
 use Rattle.message.specs.Reader.{codeIn}
 use Rattle.message.specs.Writer.{infoOf}
 use Rattle.record.specs.Record.{bookLen, cycleOf}
@@ -26,7 +29,9 @@ use Rattle.controller.specs.declared.Event.{Event}
 use Rattle.controller.specs.declared.Event.the-variants as event
 use Rattle.controller.specs.declared.Answer.{Answer}
 use Rattle.controller.specs.declared.Shown.{Shown}
-use Rattle.controller.specs.State.{all, outputLen, freshOf, soundOf, startedAt, planRecord, readyIn, withDecoder, withRunning, withRequested, withSeq}
+use Rattle.controller.specs.declared.handling.Handled.{Handled}
+use Rattle.controller.specs.declared.replies.Brought.{Brought}
+use Rattle.controller.specs.State.{all, outputLen, freshOf, soundOf, startedAt, planRecord, readyIn, withDecoder, withRunning}
 use Rattle.controller.specs.Handling.{Handling, carriedOutCode, refusedCode, handlingOf}
 
 -- The fresh start: "fresh start with address FFFF: a fresh state but for own address FFFF, so unsound"
@@ -59,11 +64,6 @@ answerOf s n parameter e fs = record { state = s; refusal = n; parameter = param
 
 abbrev pub callOf : State → ℕ → ℕ → Event → List Frame → List ℕ → List ℕ → Call
 callOf s n parameter e fs book out = record { answer = answerOf s n parameter e fs; book = book; out = sets out 0 (sent fs) }
-
--- r is the answer of a call that writes the frames fs, with no parameter and no event, and the output is so before and after
-pub record Answers (s : State) (n : ℕ) (fs : List Frame) (before : List ℕ) (r : Answer) (after : List ℕ) : Type 0 where
-  pub answer : r ≡ answerOf s n 0 event.Nothing fs
-  pub out : after ≡ sets before 0 (sent fs)
 
 -- "same state, nothing written"; "Other numbers in a refused call's result are 0."
 abbrev pub quiet : State → ℕ → Answer
@@ -99,37 +99,105 @@ isAnswer code = pick (eqb code carriedOutCode) true (eqb code refusedCode)
 abbrev pub repliesOf : ℕ → ℕ → ℕ → List ℕ → List Frame
 repliesOf seq ours own info = ack seq own ∷ message ours own info ∷ []
 
+-- what the decoder can find: a frame is refused 1 to 3, and a message frame has INFO of 2 to 256 octets
+abbrev pub CanFind : Found → Type 0
+CanFind found.Nothing = Unit
+CanFind (found.Refused n k seq addr) = n ≤ refusal.lenWrong
+CanFind (found.Message seq addr n) = (codeLen ≤ n) × (n ≤ infoMost)
+CanFind (found.Ack seq addr) = Unit
+CanFind (found.Nak seq addr err) = Unit
+
+-- what an octet brings: the refusal that the result names and its parameter, the event, the frames written, and the SEQ and the
+-- request that the state then has
+pub record Result : Type 0 where
+  pub refusal : ℕ
+  pub parameter : ℕ
+  pub event : Event
+  pub frames : List Frame
+  pub seq : ℕ
+  pub requested : ℕ
+
+-- and the book then
+pub record Bringing : Type 0 where
+  pub result : Result
+  pub book : List ℕ
+
+-- what is told of it: its frames are counted
+abbrev pub toldAs : Result → Brought
+toldAs w = record { refusal = w .refusal; parameter = w .parameter; event = w .event; count = length (sent (w .frames)); seq = w .seq; requested = w .requested }
+
+-- r tells the result w, and the output is so before and after
+pub record Tells (w : Result) (before : List ℕ) (r : Brought) (after : List ℕ) : Type 0 where
+  pub told : r ≡ toldAs w
+  pub out : after ≡ sets before 0 (sent (w .frames))
+
+-- and b is left in the book, as it should
+pub record Brings (w : Bringing) (before : List ℕ) (r : Brought) (b after : List ℕ) : Type 0 where
+  pub tells : Tells (w .result) before r after
+  pub book : b ≡ w .book
+
+-- where no message is handled there is no parameter; SEQ, request and book stay
+abbrev pub unchangedAs : ℕ → Event → ℕ → ℕ → ℕ → Brought
+unchangedAs n e count ours requested = record { refusal = n; parameter = 0; event = e; count = count; seq = ours; requested = requested }
+
+abbrev pub unchanged : ℕ → Event → List Frame → ℕ → ℕ → Result
+unchanged n e fs ours requested = record { refusal = n; parameter = 0; event = e; frames = fs; seq = ours; requested = requested }
+
+abbrev pub leaves : List ℕ → Result → Bringing
+leaves book w = record { result = w; book = book }
+
 -- "Our SEQ .. grows by one per message frame written, and after 255 comes 0."
-unfoldable pub repliedOf : State → ℕ → ℕ → Handling → List ℕ → Call
-repliedOf s seq addr h out =
-    let t = withRequested s (h .handled .requested) in
-    pick (eqb addr (s .own))
-    (callOf (withSeq t ((s .seq + 1) % 256)) (h .handled .refusal) (h .handled .parameter) event.Nothing
-    (repliesOf seq (s .seq) (s .own) (infoOf (h .handled .reply))) (h .book) out)
-    (callOf t (h .handled .refusal) (h .handled .parameter) event.Nothing [] (h .book) out)
+unfoldable pub repliedOf : ℕ → ℕ → ℕ → ℕ → Handled → Result
+repliedOf own ours seq addr h =
+    record {
+      refusal = h .refusal;
+      parameter = h .parameter;
+      event = event.Nothing;
+      frames = pick (eqb addr own) (repliesOf seq ours own (infoOf (h .reply))) [];
+      seq = pick (eqb addr own) ((ours + 1) % 256) ours;
+      requested = h .requested;
+    }
+
+-- a message carried out and replied to
+abbrev pub handledOf : ℕ → ℕ → ℕ → ℕ → Handling → Bringing
+handledOf own ours seq addr h = record { result = repliedOf own ours seq addr (h .handled); book = h .book }
 
 -- a sound message frame; "A sound frame for another address is dropped silently."
-unfoldable pub messageOf : State → ℕ → ℕ → List ℕ → List ℕ → List ℕ → Call
-messageOf s seq addr info book out =
-    pick (forUs (s .own) addr)
-    (pick (isAnswer (codeIn info)) (callOf s refusal.none 0 event.Nothing (acks (s .own) seq addr) book out)
-    (repliedOf s seq addr (handlingOf (s .running) (s .requested) book info) out))
-    (callOf s refusal.none 0 event.Nothing [] book out)
+unfoldable pub messageOf : ℕ → ℕ → ℕ → Running → ℕ → ℕ → List ℕ → List ℕ → Bringing
+messageOf own ours requested u seq addr info book =
+    pick (forUs own addr)
+    (pick (isAnswer (codeIn info)) (leaves book (unchanged refusal.none event.Nothing (acks own seq addr) ours requested))
+    (handledOf own ours seq addr (handlingOf u requested book info)))
+    (leaves book (unchanged refusal.none event.Nothing [] ours requested))
 
 -- "A sound ACK or NAK for us is handed to the host as an event and changes nothing; one to FFFF is dropped."
 abbrev pub eventFor : ℕ → ℕ → Event → Event
 eventFor own addr e = pick (eqb addr own) e event.Nothing
 
--- by what the octet brought
-abbrev pub broughtOf : Found → State → List ℕ → List ℕ → Call
-broughtOf found.Nothing s book out = callOf s refusal.none 0 event.Nothing [] book out
-broughtOf (found.Refused n k seq addr) s book out = callOf s n 0 event.Nothing (naks k (s .own) n seq addr) book out
-broughtOf (found.Message seq addr n) s book out = messageOf s seq addr (take n (s .decoder .info)) book out
-broughtOf (found.Ack seq addr) s book out = callOf s refusal.none 0 (eventFor (s .own) addr (event.Ack seq)) [] book out
-broughtOf (found.Nak seq addr err) s book out = callOf s refusal.none 0 (eventFor (s .own) addr (event.Nak seq err)) [] book out
+-- by what the octet ended, at this own address, with our SEQ, the requested and the running plan so
+abbrev pub broughtOf : Outcome → ℕ → ℕ → ℕ → Running → List ℕ → Bringing
+broughtOf nothing own ours requested u book = leaves book (unchanged refusal.none event.Nothing [] ours requested)
+broughtOf (refused n k seq addr) own ours requested u book = leaves book (unchanged n event.Nothing (naks k own n seq addr) ours requested)
+broughtOf (sound (message seq addr info)) own ours requested u book = messageOf own ours requested u seq addr info book
+broughtOf (sound (ack seq addr)) own ours requested u book = leaves book (unchanged refusal.none (eventFor own addr (event.Ack seq)) [] ours requested)
+broughtOf (sound (nak seq addr err)) own ours requested u book = leaves book (unchanged refusal.none (eventFor own addr (event.Nak seq err)) [] ours requested)
+
+-- the answer that the state s makes of it, whose decoder is then d; and the call
+abbrev pub answeredBy : State → Decoder → Brought → Answer
+answeredBy s d r =
+    record {
+      state = record { own = s .own; seq = r .seq; requested = r .requested; decoder = d; running = s .running };
+      refusal = r .refusal;
+      parameter = r .parameter;
+      event = r .event;
+      count = r .count;
+    }
+
+abbrev pub madeOf : State → Decoder → Bringing → List ℕ → Call
+madeOf s d w out = record { answer = answeredBy s d (toldAs (w .result)); book = w .book; out = sets out 0 (sent (w .result .frames)) }
 
 unfoldable pub doneOf : State → Taken → List ℕ → List ℕ → Call
-doneOf s t book out = broughtOf (t .found) (withDecoder s (t .decoder)) book out
+doneOf s t book out = madeOf s (t .decoder) (broughtOf (outcomeOf t) (s .own) (s .seq) (s .requested) (s .running) book) out
 
 -- "Order: 7, 8, 9 in a call"
 unfoldable pub octetOf : State → List ℕ → List ℕ → ℕ → Call

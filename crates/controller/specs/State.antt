@@ -30,18 +30,12 @@ startedAt plan rec = record { plan = plan; position = 0; copy = rec }
 unfoldable pub freshOf : ℕ → State
 freshOf own = record { own = own; seq = 0; requested = 0; decoder = freshDecoder; running = startedAt 0 builtIn }
 
--- the state with another decoder, another running plan, another request
+-- the state with another decoder, another running plan
 abbrev pub withDecoder : State → Decoder → State
 withDecoder s d = record { own = s .own; seq = s .seq; requested = s .requested; decoder = d; running = s .running }
 
 abbrev pub withRunning : State → Running → State
 withRunning s u = record { own = s .own; seq = s .seq; requested = s .requested; decoder = s .decoder; running = u }
-
-abbrev pub withRequested : State → ℕ → State
-withRequested s p = record { own = s .own; seq = s .seq; requested = p; decoder = s .decoder; running = s .running }
-
-abbrev pub withSeq : State → ℕ → State
-withSeq s q = record { own = s .own; seq = q; requested = s .requested; decoder = s .decoder; running = s .running }
 
 -- the record of plan p: "Plan 0 is built in", all others stand in the book
 abbrev pub planRecord : List ℕ → ℕ → List ℕ

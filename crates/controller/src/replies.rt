@@ -1,24 +1,23 @@
 // 01, "Replies": what is done with that which an octet brought, and what is written. "All frames we write carry our own address."
 ghost use mathlib.Core.Path.{_≡_};
 ghost use mathlib.Core.Bool.{true};
-ghost use mathlib.Core.List.{[], _∷_};
-ghost use Prim.Native.Nat.{_+_, _≤_};
-ghost use lib.ListN.{length, take};
-ghost use lib.Seq.{sets};
+ghost use Prim.Native.Nat.{_≤_};
+ghost use lib.ListN.{length};
 ghost use Rattle.octets.specs.Part.{codeLen};
 ghost use Rattle.octets.specs.Put.{Stored};
-ghost use Rattle.frame.specs.Frame.{message, written, infoMost};
+ghost use Rattle.frame.specs.Frame.{infoMost};
 ghost use Rattle.frame.specs.Decoder.{takenOf};
-ghost use Rattle.message.specs.Reader.{codeIn};
+ghost use Rattle.frame.specs.Run.{told};
 ghost use Rattle.message.specs.Writer.{writable, infoOf};
 ghost use Rattle.record.specs.Record.{plansMost, bookLen, ready};
 ghost use Rattle.checks.specs.Standing.{standingOf};
 ghost use Rattle.controller.specs.State.{outputLen, soundOf};
 ghost use Rattle.controller.specs.Handling.{Sendable};
-ghost use Rattle.controller.specs.Calls.{sent, answerOf, Did, Answers, errOf, naks, acks, forUs, isAnswer, eventFor, repliesOf, repliedOf, messageOf, doneOf};
+ghost use Rattle.controller.specs.Calls.{Did, sent, errOf, naks, acks, forUs, isAnswer, eventFor, repliesOf, CanFind, Tells, Brings, unchangedAs, repliedOf, messageOf, broughtOf, doneOf};
 use crate::ALL;
 use crate::Answer;
 use crate::Event;
+use crate::Running;
 use crate::State;
 use crate::handling;
 use crate::handling::Handled;
@@ -33,54 +32,112 @@ use octets::refusal;
 // ERR of a NAK for refusal 3; for 1 and 2 it is the refusal itself.
 const ERR_LEN: u8 = 4;
 
+// What an octet brought: what the answer says of it, and the SEQ and the request that the state then has.
+pub struct Brought {
+    pub refusal: u8,
+    pub parameter: u8,
+    pub event: Event,
+    pub count: usize,
+    pub seq: u8,
+    pub requested: u8,
+}
+
 // One octet to a sound state, and what it brought.
 pub(crate) fn taken(s: State, book: &mut [u8], out: &mut [u8], b: u8) -> Answer
     requires { ⌜ (soundOf s ≡ true) × (length (now book) ≡ bookLen) × (outputLen ≤ length (now out)) ⌝ }
     ensures { λ r. ⌜ Did (doneOf s (takenOf (s .decoder) b) (now (book .entry)) (now (out .entry))) r (now (book .exit)) (now (out .exit)) ⌝ }
 {
+    let h = s.decoder.head;
+    if decoder::drops(h, b) {
+        return crate::quiet(s, refusal::NONE);
+    }
     let d = s.decoder;
     let t = decoder::octet(d, b);
     let decoder = t.decoder;
     let found = t.found;
-    let s = State { decoder, ..s };
+    let u = s.running;
+    let r = by_found(
+        found,
+        s.own,
+        s.seq,
+        s.requested,
+        u,
+        &decoder.info,
+        book,
+        out,
+    );
+    let event = r.event;
+    Answer {
+        state: State {
+            seq: r.seq,
+            requested: r.requested,
+            decoder,
+            ..s
+        },
+        refusal: r.refusal,
+        parameter: r.parameter,
+        event,
+        count: r.count,
+    }
+}
+
+// What the decoder found, at our address, with our SEQ, the requested and the running plan, and the octets kept for INFO.
+fn by_found(
+    found: Found,
+    own: u16,
+    ours: u8,
+    requested: u8,
+    u: Running,
+    kept: &[u8],
+    book: &mut [u8],
+    out: &mut [u8],
+) -> Brought
+    requires { ⌜ (CanFind found) × (length (now kept) ≡ infoMost) × (standingOf (u .copy) ≡ ready) × (u .plan ≤ plansMost) × (length (now book) ≡ bookLen) × (outputLen ≤ length (now out)) ⌝ }
+    ensures { λ r. ⌜ Brings (broughtOf (told found (now (kept .entry))) own ours requested u (now (book .entry))) (now (out .entry)) r (now (book .exit)) (now (out .exit)) ⌝ }
+{
     match found {
-        Found::Nothing => crate::quiet(s, refusal::NONE),
-        Found::Refused(n, kind, seq, addr) => frame_refused(s, n, kind, seq, addr, out),
-        Found::Message(seq, addr, n) => message_taken(s, seq, addr, n as usize, book, out),
-        Found::Ack(seq, addr) => event(s, addr, Event::Ack(seq)),
-        Found::Nak(seq, addr, err) => event(s, addr, Event::Nak(seq, err)),
+        Found::Nothing => unchanged(refusal::NONE, Event::Nothing, 0, ours, requested),
+        Found::Refused(n, kind, seq, addr) => {
+            let count = nak(kind, own, n, seq, addr, out);
+            unchanged(n, Event::Nothing, count, ours, requested)
+        }
+        Found::Message(seq, addr, n) => {
+            let end = n as usize;
+            message_taken(own, ours, requested, u, seq, addr, &kept[..end], book, out)
+        }
+        Found::Ack(seq, addr) => {
+            let e = event_for(own, addr, Event::Ack(seq));
+            unchanged(refusal::NONE, e, 0, ours, requested)
+        }
+        Found::Nak(seq, addr, err) => {
+            let e = event_for(own, addr, Event::Nak(seq, err));
+            unchanged(refusal::NONE, e, 0, ours, requested)
+        }
+    }
+}
+
+// No message was handled: there is no parameter, and SEQ and request stay.
+fn unchanged(n: u8, event: Event, count: usize, ours: u8, requested: u8) -> Brought
+    ensures { λ r. ⌜ r ≡ unchangedAs n event count ours requested ⌝ }
+{
+    Brought {
+        refusal: n,
+        parameter: 0,
+        event,
+        count,
+        seq: ours,
+        requested,
     }
 }
 
 // "A sound ACK or NAK for us is handed to the host as an event and changes nothing; one to FFFF is dropped."
-fn event(s: State, addr: u16, e: Event) -> Answer
-    ensures { λ r. ⌜ r ≡ answerOf s 0 0 (eventFor (s .own) addr e) [] ⌝ }
+fn event_for(own: u16, addr: u16, e: Event) -> Event
+    ensures { λ r. ⌜ r ≡ eventFor own addr e ⌝ }
 {
-    if addr != s.own {
-        return crate::quiet(s, refusal::NONE);
+    if addr == own {
+        return e;
     }
-    Answer {
-        state: s,
-        refusal: refusal::NONE,
-        parameter: 0,
-        event: e,
-        count: 0,
-    }
-}
-
-// "the result names the refusal for any address."
-fn frame_refused(s: State, n: u8, kind: Kind, seq: u8, addr: u16, out: &mut [u8]) -> Answer
-    requires { ⌜ outputLen ≤ length (now out) ⌝ }
-    ensures { λ r. ⌜ Answers s n (naks kind (s .own) n seq addr) (now (out .entry)) r (now (out .exit)) ⌝ }
-{
-    let count = nak(kind, s.own, n, seq, addr, out);
-    Answer {
-        state: s,
-        refusal: n,
-        parameter: 0,
-        event: Event::Nothing,
-        count,
-    }
+    Event::Nothing
 }
 
 // "Refusals 1 to 3 of a message frame write one NAK with the received SEQ, if the received ADDR is ours".
@@ -104,39 +161,30 @@ fn err(n: u8) -> u8
     if n == refusal::LEN_WRONG { ERR_LEN } else { n }
 }
 
-// A sound message frame, whose INFO is the first n octets that the decoder keeps. "A sound frame for another address is
-// dropped silently."
-fn message_taken(s: State, seq: u8, addr: u16, n: usize, book: &mut [u8], out: &mut [u8]) -> Answer
-    requires { ⌜ (codeLen ≤ n) × (n ≤ infoMost) × (standingOf (s .running .copy) ≡ ready) × (s .running .plan ≤ plansMost) × (length (now book) ≡ bookLen) × (outputLen ≤ length (now out)) ⌝ }
-    ensures { λ r. ⌜ Did (messageOf s seq addr (take n (s .decoder .info)) (now (book .entry)) (now (out .entry))) r (now (book .exit)) (now (out .exit)) ⌝ }
-{
-    if !for_us(s.own, addr) {
-        return crate::quiet(s, refusal::NONE);
-    }
-    let d = s.decoder;
-    let kept = d.info;
-    served(s, seq, addr, kept, n, book, out)
-}
-
-// A message for us or for all, in the first n octets of `kept`.
-fn served(
-    s: State,
+// A sound message frame. "A sound frame for another address is dropped silently."
+fn message_taken(
+    own: u16,
+    ours: u8,
+    requested: u8,
+    u: Running,
     seq: u8,
     addr: u16,
-    kept: [u8; INFO_MOST],
-    n: usize,
+    info: &[u8],
     book: &mut [u8],
     out: &mut [u8],
-) -> Answer
-    requires { ⌜ (forUs (s .own) addr ≡ true) × (codeLen ≤ n) × (n ≤ infoMost) × (standingOf (s .running .copy) ≡ ready) × (s .running .plan ≤ plansMost) × (length (now book) ≡ bookLen) × (outputLen ≤ length (now out)) ⌝ }
-    ensures { λ r. ⌜ Did (messageOf s seq addr (take n kept) (now (book .entry)) (now (out .entry))) r (now (book .exit)) (now (out .exit)) ⌝ }
+) -> Brought
+    requires { ⌜ (codeLen ≤ length (now info)) × (standingOf (u .copy) ≡ ready) × (u .plan ≤ plansMost) × (length (now book) ≡ bookLen) × (outputLen ≤ length (now out)) ⌝ }
+    ensures { λ r. ⌜ Brings (messageOf own ours requested u seq addr (now (info .entry)) (now (book .entry))) (now (out .entry)) r (now (book .exit)) (now (out .exit)) ⌝ }
 {
-    let info = &kept[..n];
-    if is_answer(octets::word(info[0], info[1])) {
-        return acked(s, seq, addr, out);
+    if !for_us(own, addr) {
+        return unchanged(refusal::NONE, Event::Nothing, 0, ours, requested);
     }
-    let h = handling::carry_out(s.running, s.requested, book, info);
-    replied(s, seq, addr, h, out)
+    if is_answer(octets::word(info[0], info[1])) {
+        let count = ack(own, seq, addr, out);
+        return unchanged(refusal::NONE, Event::Nothing, count, ours, requested);
+    }
+    let h = handling::carry_out(u, requested, book, info);
+    replied(own, ours, seq, addr, h, out)
 }
 
 fn for_us(own: u16, addr: u16) -> bool
@@ -158,41 +206,36 @@ fn is_answer(code: u16) -> bool
 }
 
 // "A received 0F 80 or 0F 81 of any length gets the ACK only (nothing for FFFF) and is no refusal."
-fn acked(s: State, seq: u8, addr: u16, out: &mut [u8]) -> Answer
+fn ack(own: u16, seq: u8, addr: u16, out: &mut [u8]) -> usize
     requires { ⌜ outputLen ≤ length (now out) ⌝ }
-    ensures { λ r. ⌜ Answers s 0 (acks (s .own) seq addr) (now (out .entry)) r (now (out .exit)) ⌝ }
+    ensures { λ r. ⌜ Stored (sent (acks own seq addr)) 0 (now (out .entry)) r (now (out .exit)) ⌝ }
 {
-    if addr != s.own {
-        return crate::quiet(s, refusal::NONE);
+    if addr != own {
+        return 0;
     }
-    let w = writer::write_ack(seq, s.own, out, 0);
-    Answer {
-        state: s,
-        refusal: refusal::NONE,
-        parameter: 0,
-        event: Event::Nothing,
-        count: w.count,
-    }
+    writer::write_ack(seq, own, out, 0).count
 }
 
 // "A sound message frame for us writes an ACK with the received SEQ, then one message frame with our next SEQ."
-fn replied(s: State, seq: u8, addr: u16, h: Handled, out: &mut [u8]) -> Answer
+fn replied(own: u16, ours: u8, seq: u8, addr: u16, h: Handled, out: &mut [u8]) -> Brought
     requires { ⌜ (Sendable h) × (outputLen ≤ length (now out)) ⌝ }
-    ensures { λ r. ⌜ Did (repliedOf s seq addr (record { handled = h; book = [] }) (now (out .entry))) r [] (now (out .exit)) ⌝ }
+    ensures { λ r. ⌜ Tells (repliedOf own ours seq addr h) (now (out .entry)) r (now (out .exit)) ⌝ }
 {
-    let requested = h.requested;
-    let mut t = State { requested, ..s };
+    // "FFFF is for all: carried out, never replied to."
+    let reply_due = addr == own;
     let mut count: usize = 0;
-    if addr == s.own {
-        count = write_reply(seq, s.seq, s.own, h.reply, out);
-        t.seq = std::num::wrapping_add_u8(s.seq, 1);
+    let mut next = ours;
+    if reply_due {
+        count = write_reply(seq, ours, own, h.reply, out);
+        next = std::num::wrapping_add_u8(ours, 1);
     }
-    Answer {
-        state: t,
+    Brought {
         refusal: h.refusal,
         parameter: h.parameter,
         event: Event::Nothing,
         count,
+        seq: next,
+        requested: h.requested,
     }
 }
 

@@ -4,14 +4,15 @@ use mathlib.Core.Path.{_≡_, refl, sym, ap, _∙_}
 use mathlib.Core.Bool.{Bool, true, false}
 use mathlib.Core.List.{List, [], _∷_, _++_, append-assoc}
 use native.Mathlib.Omega.{arith}
-use borrow.Author.Tests.{leb-true, eq-eqb, ne-eqb}
+use borrow.Author.Tests.{leb-true, ltb-true, eq-eqb, ne-eqb, not-true}
 use lib.Dec.{leb, ltb, eqb}
 use lib.ListN.{length, take, drop, getD, length-append}
 use Rattle.octets.specs.ExclusiveOr.{exclusiveOr}
 use Rattle.octets.specs.Choice.{both}
 use Rattle.octets.specs.Writing.{Wrote, writtenAs, refusedAs}
 use Rattle.octets.specs.declared.Written.{Written}
-use Rattle.octets.proofs.Laws.{exclusive-or-append, both-left, both-right, drop-next}
+use Rattle.octets.specs.Word.{lowOf, wordOf}
+use Rattle.octets.proofs.Laws.{pick-by, exclusive-or-append, both-left, both-right, clash, drop-next}
 use Rattle.frame.specs.declared.Kind.{Kind}
 use Rattle.frame.specs.declared.Kind.the-variants.{Message, Ack, Nak}
 use Rattle.frame.specs.declared.decoder.Place.{Place}
@@ -19,10 +20,12 @@ use Rattle.frame.specs.declared.decoder.Head.{Head}
 use Rattle.frame.specs.declared.decoder.Decoder.{Decoder}
 use Rattle.frame.specs.Frame.{Frame, message, ack, nak, infoLeast, infoMost, messageLen, ackLen, nakLen, lenFits, infoFits, front, frontOf, bodyOf, sentOf, cksOf, twice, doubled, written}
 use Rattle.frame.specs.Writer.{writeOf}
-use Rattle.frame.specs.Decoder.{infoDue, infoWhole, possibleOf, possibleAt, stepOf, stepAt, cksIn, frontIn, takenOf, idledOf, unsound, foundAt, moved, headOf, lenJudged, afterLen, refusedBy}
-use Rattle.frame.specs.declared.decoder.Place.the-variants.{Idle}
+use Rattle.frame.specs.Decoder.{infoDue, infoWhole, drops, possibleOf, possibleAt, stepped, placed, ended, afterAa, stepOf, stepAt, cksIn, frontIn, taken, infoThen, takenAs, takenOf, idledOf, unsound, headOf, lenJudged, afterLen, refusedBy}
+use Rattle.frame.specs.declared.decoder.Place.the-variants.{Idle, LoneAa, Seq, AddrHigh, AddrLow, LenHigh, LenLow, Info, InfoAa, CloseAa, CloseCc, Err, Cks}
+use Rattle.frame.specs.declared.decoder.Stepped.{Stepped}
+use Rattle.frame.specs.declared.decoder.Found.{Found}
 use Rattle.frame.specs.declared.decoder.Found.the-variants.{Nothing}
-use Rattle.octets.specs.Refusal.{lenWrong, infoWrong}
+use Rattle.octets.specs.Refusal.{lenWrong, closingWrong, infoWrong}
 
 -- Frame
 
@@ -93,40 +96,91 @@ pub possible-at : (h : Head) {p : Place} → h .place ≡ p → possibleOf h ≡
 unfolding possibleOf
 possible-at h e = ap (λ (p : Place). possibleAt p (h .kind) (h .addr) (h .len) (h .got)) e
 
-module _ (d : Decoder) where
-  pub cks-message : d .head .kind ≡ Message
-      → cksIn d ≡ exclusiveOr (exclusiveOr (exclusiveOr 0 (frontIn (d .head))) (take (d .head .got) (d .info))) (0xAA ∷ 0xCC ∷ [])
+module _ (h : Head) (i : List ℕ) where
+  pub cks-message : h .kind ≡ Message
+      → cksIn h i ≡ exclusiveOr (exclusiveOr (exclusiveOr 0 (frontIn h)) (take (h .got) i)) (0xAA ∷ 0xCC ∷ [])
   unfolding cksIn
-  cks-message h = rw (h, exclusive-or-append, exclusive-or-append)
+  cks-message e = rw (e, exclusive-or-append, exclusive-or-append)
 
-  pub cks-ack : d .head .kind ≡ Ack → cksIn d ≡ exclusiveOr 0 (frontIn (d .head))
+  pub cks-ack : h .kind ≡ Ack → cksIn h i ≡ exclusiveOr 0 (frontIn h)
   unfolding cksIn exclusiveOr
-  cks-ack h = rw (h, exclusive-or-append)
+  cks-ack e = rw (e, exclusive-or-append)
 
-  pub cks-nak : d .head .kind ≡ Nak → cksIn d ≡ exclusiveOr (exclusiveOr 0 (frontIn (d .head))) (d .head .err ∷ [])
+  pub cks-nak : h .kind ≡ Nak → cksIn h i ≡ exclusiveOr (exclusiveOr 0 (frontIn h)) (h .err ∷ [])
   unfolding cksIn
-  cks-nak h = rw (h, exclusive-or-append)
+  cks-nak e = rw (e, exclusive-or-append)
 
+  pub step-at : (b : ℕ) {p : Place} → h .place ≡ p → stepAt (h .place) h i b ≡ stepAt p h i b
+  step-at b e = ap (λ (p : Place). stepAt p h i b) e
+
+module _ (h : Head) (n : ℕ) where
+  pub len-right : lenFits (h .kind) n ≡ true
+      → lenJudged h n ≡ stepped (headOf (afterLen (h .kind)) (h .kind) (h .seq) (h .err) (h .addr) n 0) Nothing
+  len-right e = rw e
+
+  pub len-wrong : lenFits (h .kind) n ≡ false → lenJudged h n ≡ ended h (refusedBy h lenWrong)
+  len-wrong e = rw e
+
+-- INFO that is still to come has its place in the array
+info-room : (k : Kind) (n g : ℕ) → infoDue k n g ≡ true → g < infoMost
+info-room Message n g h =
+    let f = both-left (lenFits Message n) (ltb g (n - messageLen)) h in
+    let q = ltb-true g (n - messageLen) (both-right (lenFits Message n) (ltb g (n - messageLen)) h) in
+    omega (arith, leb-true n 266 (both-right (leb 12 n) (leb n 266) f))
+info-room Ack n g h = absurd (clash refl h)
+info-room Nak n g h = absurd (clash refl h)
+
+module _ (h : Head) where
+  pub room-info : h .place ≡ Info → possibleOf h ≡ true → h .got < infoMost
+  room-info e q = info-room (h .kind) (h .len) (h .got) (sym (possible-at h e) ∙ q)
+
+  pub room-info-aa : h .place ≡ InfoAa → possibleOf h ≡ true → h .got < infoMost
+  room-info-aa e q = info-room (h .kind) (h .len) (h .got) (sym (possible-at h e) ∙ q)
+
+  module _ (i : List ℕ) (b : ℕ) where
+    abbrev Room : Stepped → Type 0
+    Room t = t .keeps ≡ true → h .got < infoMost
+
+    none : false ≡ true → h .got < infoMost
+    none q = absurd (clash refl q)
+
+    aa-room : (f : Found) → Room (afterAa h b f)
+    aa-room f =
+        pick-by Room (eqb b 0xAA) (λ _. none)
+        (λ _. pick-by Room (eqb b 0xBB) (λ _. none)
+        (λ _. pick-by Room (eqb b 0xDD) (λ _. none)
+        (λ _. pick-by Room (eqb b 0xEE) (λ _. none) (λ _. none))))
+
+    room-at : (p : Place) → possibleAt p (h .kind) (h .addr) (h .len) (h .got) ≡ true → Room (stepAt p h i b)
+    room-at Idle q = pick-by Room (eqb b 0xAA) (λ _. none) (λ _. none)
+    room-at LoneAa q = aa-room Nothing
+    room-at Seq q = none
+    room-at AddrHigh q = none
+    room-at AddrLow q = none
+    room-at LenHigh q = none
+    room-at LenLow q = pick-by Room (lenFits (h .kind) (wordOf (lowOf (h .len)) b)) (λ _. none) (λ _. none)
+    room-at Info q = λ _. info-room (h .kind) (h .len) (h .got) q
+    room-at InfoAa q = λ _. info-room (h .kind) (h .len) (h .got) q
+    room-at CloseAa q = pick-by Room (eqb b 0xAA) (λ _. none) (λ _. none)
+    room-at CloseCc q = pick-by Room (eqb b 0xCC) (λ _. none) (λ _. aa-room (refusedBy h closingWrong))
+    room-at Err q = none
+    room-at Cks q = pick-by Room (eqb (cksIn h i) b) (λ _. none) (λ _. none)
+
+    -- an octet that is kept has its place in the array
+    pub keeps-room : possibleOf h ≡ true → stepAt (h .place) h i b .keeps ≡ true → h .got < infoMost
+    unfolding possibleOf
+    keeps-room q = room-at (h .place) q
+
+module _ (d : Decoder) where
   pub idled-7 : possibleOf (d .head) ≡ false → idledOf d ≡ unsound d
   unfolding idledOf
   idled-7 h = rw h
 
-  pub idled-done : possibleOf (d .head) ≡ true → idledOf d ≡ foundAt d Idle Nothing
+  pub idled-done : possibleOf (d .head) ≡ true → idledOf d ≡ taken (placed (d .head) Idle (d .head .kind)) (d .info) Nothing
   unfolding idledOf
   idled-done h = rw h
 
-  pub len-right : (n : ℕ) → lenFits (d .head .kind) n ≡ true
-      → lenJudged d n ≡ (let h = d .head in moved d (headOf (afterLen (h .kind)) (h .kind) (h .seq) (h .err) (h .addr) n 0))
-  len-right n h = rw h
-
-  pub len-wrong : (n : ℕ) → lenFits (d .head .kind) n ≡ false → lenJudged d n ≡ foundAt d Idle (refusedBy (d .head) lenWrong)
-  len-wrong n h = rw h
-
   module _ (b : ℕ) where
-    pub step-at : {p : Place} → d .head .place ≡ p → stepOf d b ≡ stepAt p d b
-    unfolding stepOf
-    step-at e = ap (λ (p : Place). stepAt p d b) e
-
     pub taken-7 : possibleOf (d .head) ≡ false → takenOf d b ≡ unsound d
     unfolding takenOf
     taken-7 h = rw h
@@ -134,3 +188,28 @@ module _ (d : Decoder) where
     pub taken-done : possibleOf (d .head) ≡ true → takenOf d b ≡ stepOf d b
     unfolding takenOf
     taken-done h = rw h
+
+    -- an octet that is dropped leaves the decoder as it is
+    pub taken-dropped : drops (d .head .place) b ≡ true → takenOf d b ≡ taken (d .head) (d .info) Nothing
+    unfolding takenOf stepOf possibleOf
+    taken-dropped h = let q = d .head in by (q .place) (q .kind) (q .seq) (q .err) (q .addr) (q .len) (q .got) (d .info) h
+      where
+        by : (p : Place) (k : Kind) (s e a n g : ℕ) (i : List ℕ) → drops p b ≡ true → takenOf (record { head = headOf p k s e a n g; info = i }) b ≡ taken (headOf p k s e a n g) i Nothing
+        by Idle k s e a n g i h = rw (not-true (eqb b 0xAA) h)
+        by LoneAa k s e a n g i h = absurd (clash refl h)
+        by Seq k s e a n g i h = absurd (clash refl h)
+        by AddrHigh k s e a n g i h = absurd (clash refl h)
+        by AddrLow k s e a n g i h = absurd (clash refl h)
+        by LenHigh k s e a n g i h = absurd (clash refl h)
+        by LenLow k s e a n g i h = absurd (clash refl h)
+        by Info k s e a n g i h = absurd (clash refl h)
+        by InfoAa k s e a n g i h = absurd (clash refl h)
+        by CloseAa k s e a n g i h = absurd (clash refl h)
+        by CloseCc k s e a n g i h = absurd (clash refl h)
+        by Err k s e a n g i h = absurd (clash refl h)
+        by Cks k s e a n g i h = absurd (clash refl h)
+
+    pub taken-as : {t : Stepped} {keeps : Bool} → possibleOf (d .head) ≡ true → t ≡ stepAt (d .head .place) (d .head) (d .info) b → t .keeps ≡ keeps
+        → takenOf d b ≡ taken (t .head) (infoThen d b keeps) (t .found)
+    unfolding stepOf
+    taken-as {t} h e q = taken-done h ∙ ap (takenAs d b) (sym e) ∙ ap (λ (keeps : Bool). taken (t .head) (infoThen d b keeps) (t .found)) q

@@ -5,7 +5,7 @@ use mathlib.Core.Bool.{Bool, true, false}
 use mathlib.Core.List.{List}
 use native.Mathlib.Omega.{arith}
 use borrow.Author.Tests.{eq-eqb, lt-ltb, leb-true, leb-false, ltb-true, ltb-false}
-use lib.Dec.{eqb, ltb, leb}
+use lib.Dec.{eqb, ltb}
 use Rattle.octets.specs.Choice.{pick, both}
 use Rattle.octets.specs.Word.{lowOf, wordOf}
 use Rattle.octets.proofs.Laws.{pick-by, both-left, both-right}
@@ -13,12 +13,13 @@ use Rattle.frame.specs.declared.Kind.{Kind}
 use Rattle.frame.specs.declared.Kind.the-variants.{Message, Ack, Nak}
 use Rattle.frame.specs.declared.decoder.Place.{Place}
 use Rattle.frame.specs.declared.decoder.Place.the-variants.{Idle, LoneAa, Seq, AddrHigh, AddrLow, LenHigh, LenLow, Info, InfoAa, CloseAa, CloseCc, Err, Cks}
+use Rattle.frame.specs.declared.decoder.Head.{Head}
 use Rattle.frame.specs.declared.decoder.Decoder.{Decoder}
 use Rattle.frame.specs.declared.decoder.Found.{Found}
 use Rattle.frame.specs.declared.decoder.Found.the-variants as found
-use Rattle.frame.specs.declared.decoder.Taken.{Taken}
-use Rattle.frame.specs.Frame.{lenFits, messageLen, infoMost}
-use Rattle.frame.specs.Decoder.{headOf, possibleAt, possibleOf, freshDecoder, infoDue, infoWhole, errDue, cksDue, afterLen, afterAa, stored, stepOf, takenOf, idledOf, unsound, cksIn, foundAt}
+use Rattle.frame.specs.declared.decoder.Stepped.{Stepped}
+use Rattle.frame.specs.Frame.{lenFits, messageLen}
+use Rattle.frame.specs.Decoder.{headOf, possibleAt, possibleOf, freshDecoder, infoDue, infoWhole, errDue, cksDue, afterLen, afterAa, kept, stepAt, stepOf, takenOf, idledOf, cksIn}
 use Rattle.frame.specs.Promises.{PossibleFrom, PossibleKept}
 use Rattle.frame.proofs.Laws.{message-len, taken-done, idled-done}
 
@@ -26,13 +27,13 @@ use Rattle.frame.proofs.Laws.{message-len, taken-done, idled-done}
 abbrev pub at : Place → Kind → ℕ → ℕ → ℕ → ℕ → ℕ → List ℕ → Decoder
 at p k s e a n g l = record { head = headOf p k s e a n g; info = l }
 
-abbrev Possible : Taken → Type 0
-Possible t = possibleOf (t .decoder .head) ≡ true
+abbrev Possible : Stepped → Type 0
+Possible t = possibleOf (t .head) ≡ true
 
 -- after a lone AA any octet leaves a possible decoder
-after-aa : (d : Decoder) (b : ℕ) (f : Found) → Possible (afterAa d b f)
+after-aa : (h : Head) (b : ℕ) (f : Found) → Possible (afterAa h b f)
 unfolding possibleOf
-after-aa d b f =
+after-aa h b f =
     pick-by Possible (eqb b 0xAA) (λ _. refl)
     (λ _. pick-by Possible (eqb b 0xBB) (λ _. refl)
     (λ _. pick-by Possible (eqb b 0xDD) (λ _. refl)
@@ -44,17 +45,16 @@ after-len Ack a n h = h
 after-len Nak a n h = h
 
 module _ (s e a n g : ℕ) (l : List ℕ) (b : ℕ) (octet : b < 256) where
-  after-stored : (p : Place) (k : Kind) → infoDue k n g ≡ true → Possible (stored (at p k s e a n g l) b)
+  after-kept : (p : Place) (k : Kind) → infoDue k n g ≡ true → Possible (kept (headOf p k s e a n g))
   unfolding possibleOf
-  after-stored p Message h =
+  after-kept p Message h =
       let f : lenFits Message n ≡ true = both-left (lenFits Message n) (ltb g (n - messageLen)) h in
       let q : g < n - messageLen = ltb-true g (n - messageLen) (both-right (lenFits Message n) (ltb g (n - messageLen)) h) in
-      pick-by Possible (leb infoMost g) (λ _. refl)
-      (λ _. pick-by (λ (q : Place). possibleAt q Message a n (g + 1) ≡ true) (ltb (messageLen + (g + 1)) n)
+      pick-by (λ (q : Place). possibleAt q Message a n (g + 1) ≡ true) (ltb (messageLen + (g + 1)) n)
       (λ t. rw (f, lt-ltb (g + 1) (n - messageLen) (omega (arith, ltb-true (messageLen + (g + 1)) n t))))
-      (λ t. rw (f, eq-eqb (g + 1) (n - messageLen) (omega (arith, ltb-false (messageLen + (g + 1)) n t)))))
-  after-stored p Ack h = cc
-  after-stored p Nak h = cc
+      (λ t. rw (f, eq-eqb (g + 1) (n - messageLen) (omega (arith, ltb-false (messageLen + (g + 1)) n t))))
+  after-kept p Ack h = cc
+  after-kept p Nak h = cc
 
   err-then-cks : (k : Kind) → errDue k n ≡ true → cksDue k n g ≡ true
   err-then-cks Message h = cc
@@ -66,24 +66,25 @@ module _ (s e a n g : ℕ) (l : List ℕ) (b : ℕ) (octet : b < 256) where
   close-then-cks Ack h = cc
   close-then-cks Nak h = cc
 
-  step-at-place : (p : Place) (k : Kind) → possibleOf (headOf p k s e a n g) ≡ true → Possible (stepOf (at p k s e a n g l) b)
-  unfolding possibleOf stepOf
+  step-at-place : (p : Place) (k : Kind) → possibleOf (headOf p k s e a n g) ≡ true → Possible (stepAt p (headOf p k s e a n g) l b)
+  unfolding possibleOf
   step-at-place Idle k h = pick-by Possible (eqb b 0xAA) (λ _. refl) (λ _. refl)
-  step-at-place LoneAa k h = after-aa (at LoneAa k s e a n g l) b found.Nothing
+  step-at-place LoneAa k h = after-aa (headOf LoneAa k s e a n g) b found.Nothing
   step-at-place Seq k h = refl
   step-at-place AddrHigh k h = lt-ltb b 256 octet
   step-at-place AddrLow k h = refl
   step-at-place LenHigh k h = lt-ltb b 256 octet
   step-at-place LenLow k h =
       pick-by Possible (lenFits k (wordOf (lowOf n) b)) (λ t. after-len k a (wordOf (lowOf n) b) t) (λ _. refl)
-  step-at-place Info k h = pick-by Possible (eqb b 0xAA) (λ _. h) (λ _. after-stored Info k h)
-  step-at-place InfoAa k h = pick-by Possible (eqb b 0xAA) (λ _. after-stored InfoAa k h) (λ _. after-aa (at InfoAa k s e a n g l) b _)
+  step-at-place Info k h = pick-by Possible (eqb b 0xAA) (λ _. h) (λ _. after-kept Info k h)
+  step-at-place InfoAa k h = pick-by Possible (eqb b 0xAA) (λ _. after-kept InfoAa k h) (λ _. after-aa (headOf InfoAa k s e a n g) b _)
   step-at-place CloseAa k h = pick-by Possible (eqb b 0xAA) (λ _. h) (λ _. refl)
-  step-at-place CloseCc k h = pick-by Possible (eqb b 0xCC) (λ _. close-then-cks k h) (λ _. after-aa (at CloseCc k s e a n g l) b _)
+  step-at-place CloseCc k h = pick-by Possible (eqb b 0xCC) (λ _. close-then-cks k h) (λ _. after-aa (headOf CloseCc k s e a n g) b _)
   step-at-place Err k h = err-then-cks k h
-  step-at-place Cks k h = pick-by Possible (eqb (cksIn (at Cks k s e a n g l)) b) (λ _. refl) (λ _. refl)
+  step-at-place Cks k h = pick-by Possible (eqb (cksIn (headOf Cks k s e a n g) l) b) (λ _. refl) (λ _. refl)
 
 pub step-possible : (d : Decoder) (b : ℕ) → b < 256 → possibleOf (d .head) ≡ true → possibleOf (stepOf d b .decoder .head) ≡ true
+unfolding stepOf
 step-possible d b o h =
     let q = d .head in step-at-place (q .seq) (q .err) (q .addr) (q .len) (q .got) (d .info) b o (q .place) (q .kind) h
 

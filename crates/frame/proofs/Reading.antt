@@ -6,7 +6,7 @@ use mathlib.Core.List.{List, [], _∷_, _++_, append-assoc}
 use native.Mathlib.Nat.{zero-add, add-zero, add-suc, suc-add}
 use native.Mathlib.Numerals.{add-one}
 use native.Mathlib.Omega.{arith}
-use borrow.Author.Tests.{eq-eqb, ne-eqb, eqb-true, eqb-false, lt-ltb, le-ltb, lt-leb, le-leb, leb-true}
+use borrow.Author.Tests.{eq-eqb, ne-eqb, eqb-true, eqb-false, lt-ltb, le-ltb, le-leb, leb-true}
 use lib.Dec.{eqb, ltb, leb}
 use lib.ListN.{length, set, take, drop, replicate, length-append}
 use lib.Seq.{sets, sets-eq, take-at, length-sets}
@@ -23,7 +23,7 @@ use Rattle.frame.specs.declared.decoder.Found.{Found}
 use Rattle.frame.specs.declared.decoder.Found.the-variants as found
 use Rattle.frame.specs.declared.decoder.Taken.{Taken}
 use Rattle.frame.specs.Frame.{Frame, message, ack, nak, InOctets, ackLen, nakLen, infoLeast, kindOf, seqOf, addrOf, lenOf, messageLen, infoMost, lenFits, infoFits, opener, front, frontOf, bodyOf, sentOf, cksOf, twice, doubled, written}
-use Rattle.frame.specs.Decoder.{headOf, possibleOf, possibleAt, afterLen, afterInfo, opened, stepOf, stepAt, takenOf, cksIn, frontIn, bodyBy, taken}
+use Rattle.frame.specs.Decoder.{headOf, possibleOf, possibleAt, afterLen, afterInfo, opened, stepOf, takenOf, cksIn, frontIn, taken, takenAs}
 use Rattle.frame.specs.Run.{Outcome, nothing, refused, sound, outcomeOf, outcomes, after, AtRest}
 use Rattle.frame.specs.Promises.{ReadBack, ReadingUndoesWriting}
 use Rattle.frame.proofs.Laws.{message-len, twice-aa, twice-other, taken-done}
@@ -43,48 +43,48 @@ once p = more p done
 
 module _ (s e a n : ℕ) where
   -- one octet of INFO as sent
-  twice-by : (t : Bool) (g : ℕ) (l : List ℕ) (x : ℕ) → eqb x 0xAA ≡ t → g < infoMost
+  twice-by : (t : Bool) (g : ℕ) (l : List ℕ) (x : ℕ) → eqb x 0xAA ≡ t
       → Quiet (at Info Message s e a n g l) (twice x) (at (afterInfo n (g + 1)) Message s e a n (g + 1) (set l g x))
   unfolding stepOf
-  twice-by true g l x t h =
-      let q : Quiet (at InfoAa Message s e a n g l) (0xAA ∷ []) (at (afterInfo n (g + 1)) Message s e a n (g + 1) (set l g 0xAA)) = once (rw (lt-leb infoMost g h)) in
+  twice-by true g l x t =
+      let q : Quiet (at InfoAa Message s e a n g l) (0xAA ∷ []) (at (afterInfo n (g + 1)) Message s e a n (g + 1) (set l g 0xAA)) = once refl in
       rw (twice-aa x (eqb-true x 0xAA t), eqb-true x 0xAA t)
       (more refl q)
-  twice-by false g l x t h =
+  twice-by false g l x t =
       rw (twice-other x (eqb-false x 0xAA t))
-      (once (rw (t, lt-leb infoMost g h)))
+      (once (rw t))
 
-  twice-run : (g : ℕ) (l : List ℕ) (x : ℕ) {p : Place} → g < infoMost → afterInfo n (g + 1) ≡ p
+  twice-run : (g : ℕ) (l : List ℕ) (x : ℕ) {p : Place} → afterInfo n (g + 1) ≡ p
       → Quiet (at Info Message s e a n g l) (twice x) (at p Message s e a n (suc g) (set l g x))
-  twice-run g l x h q = rw (← q, ← add-one g) (twice-by (eqb x 0xAA) g l x refl h)
+  twice-run g l x q = rw (← q, ← add-one g) (twice-by (eqb x 0xAA) g l x refl)
 
   -- part of INFO from its octet g on: more is to come, so the decoder stays in INFO
-  pub info-part : (xs : List ℕ) (g : ℕ) (l : List ℕ) → messageLen + (g + length xs) < n → n ≤ messageLen + infoMost
+  pub info-part : (xs : List ℕ) (g : ℕ) (l : List ℕ) → messageLen + (g + length xs) < n
       → Quiet (at Info Message s e a n g l) (doubled xs) (at Info Message s e a n (g + length xs) (sets l g xs))
   unfolding doubled
-  info-part [] g l h k = rw (add-zero g) done
-  info-part (x ∷ xs) g l h k =
+  info-part [] g l h = rw (add-zero g) done
+  info-part (x ∷ xs) g l h =
       rw (add-suc g (length xs), ← suc-add g (length xs))
-      (quiet-then (twice-run g l x (omega arith) (rw (lt-ltb (messageLen + (g + 1)) n (omega arith))))
-      (info-part xs (suc g) (set l g x) (omega arith) k))
+      (quiet-then (twice-run g l x (rw (lt-ltb (messageLen + (g + 1)) n (omega arith))))
+      (info-part xs (suc g) (set l g x) (omega arith)))
 
   -- all of INFO from its octet g on
-  pub info-run : (x : ℕ) (xs : List ℕ) (g : ℕ) (l : List ℕ) → messageLen + (g + length (x ∷ xs)) ≡ n → n ≤ messageLen + infoMost
+  pub info-run : (x : ℕ) (xs : List ℕ) (g : ℕ) (l : List ℕ) → messageLen + (g + length (x ∷ xs)) ≡ n
       → Quiet (at Info Message s e a n g l) (doubled (x ∷ xs)) (at CloseAa Message s e a n (g + length (x ∷ xs)) (sets l g (x ∷ xs)))
   unfolding doubled
-  info-run x [] g l h k =
-      rw add-one (quiet-then (twice-run g l x (omega arith) (rw (le-ltb (messageLen + (g + 1)) n (omega arith)))) done)
-  info-run x (y ∷ ys) g l h k =
+  info-run x [] g l h =
+      rw add-one (quiet-then (twice-run g l x (rw (le-ltb (messageLen + (g + 1)) n (omega arith)))) done)
+  info-run x (y ∷ ys) g l h =
       rw (add-suc g (length (y ∷ ys)), ← suc-add g (length (y ∷ ys)))
-      (quiet-then (twice-run g l x (omega arith) (rw (lt-ltb (messageLen + (g + 1)) n (omega arith))))
-      (info-run y ys (suc g) (set l g x) (omega arith) k))
+      (quiet-then (twice-run g l x (rw (lt-ltb (messageLen + (g + 1)) n (omega arith))))
+      (info-run y ys (suc g) (set l g x) (omega arith)))
 
 -- a number of two octets comes back
 pub word : (a : ℕ) → a < 65536 → wordOf (lowOf (highOf a)) (lowOf a) ≡ a
 word a h = omega arith
 
 -- the octet after AA opens its kind
-open-run : (k : Kind) (d : Decoder) → d .head .place ≡ LoneAa → stepOf d (opener k) ≡ opened d k found.Nothing
+open-run : (k : Kind) (d : Decoder) → d .head .place ≡ LoneAa → stepOf d (opener k) ≡ takenAs d (opener k) (opened (d .head) k found.Nothing)
 unfolding stepOf
 open-run Message d h = rw h
 open-run Ack d h = rw h
@@ -142,7 +142,7 @@ module _ (k₀ : Kind) (s₀ e a₀ n₀ g₀ : ℕ) (l : List ℕ) where
       let b = info-bounds (x ∷ xs) h in
       let n = messageLen + length (x ∷ xs) in
       let q : Quiet (at CloseAa Message s e a n (length (x ∷ xs)) (sets l 0 (x ∷ xs))) (0xAA ∷ 0xCC ∷ []) (ready (message s a (x ∷ xs)) e l) = more refl (more refl done) in
-      quiet-then (rw zero-add at (info-run s e a n x xs 0 l (omega arith) (omega arith))) q
+      quiet-then (rw zero-add at (info-run s e a n x xs 0 l (omega arith))) q
   sent-run (ack s a) h = done
   sent-run (nak s a e₁) h = once refl
 
@@ -153,7 +153,7 @@ module _ (k₀ : Kind) (s₀ e a₀ n₀ g₀ : ℕ) (l : List ℕ) where
       quiet-then (front-run k₀ s₀ e a₀ n₀ g₀ (kindOf f) (seqOf f) (addrOf f) (lenOf f) l ha (n .1) (n .0)) (sent-run f h)
 
 -- the CKS that the decoder works out is the frame's
-pub cks-ready : (f : Frame) (e : ℕ) (l : List ℕ) → infoFits f ≡ true → length l ≡ infoMost → cksIn (ready f e l) ≡ cksOf f
+pub cks-ready : (f : Frame) (e : ℕ) (l : List ℕ) → infoFits f ≡ true → length l ≡ infoMost → cksIn (ready f e l .head) (ready f e l .info) ≡ cksOf f
 unfolding ready cksIn cksOf frontIn frontOf bodyOf
 cks-ready (message s a i) e l h hl = rw (stored-info i l (omega (arith, info-bounds i h)))
 cks-ready (ack s a) e l h hl = refl

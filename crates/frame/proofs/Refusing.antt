@@ -20,9 +20,9 @@ use Rattle.frame.specs.declared.decoder.Place.the-variants.{Idle, LenLow
 use Rattle.frame.specs.declared.decoder.Decoder.{Decoder}
 use Rattle.frame.specs.declared.decoder.Found.{Found}
 use Rattle.frame.specs.declared.decoder.Found.the-variants as found
-use Rattle.frame.specs.declared.decoder.Taken.{Taken}
+use Rattle.frame.specs.declared.decoder.Stepped.{Stepped}
 use Rattle.frame.specs.Frame.{Frame, message, ack, nak, kindOf, seqOf, addrOf, lenOf, messageLen, infoLeast, infoMost, lenFits, infoFits, opener, front, frontOf, sentOf, cksOf, doubled}
-use Rattle.frame.specs.Decoder.{possibleOf, afterAa, stepOf}
+use Rattle.frame.specs.Decoder.{possibleOf, afterAa, stepOf, takenAs}
 use Rattle.frame.specs.Run.{Outcome, nothing, refused, told, outcomeOf, outcomes, AtRest}
 use Rattle.frame.specs.Promises.{Refusable, len, doubling, closingAa, closingCc, cks, RefusedWhen}
 use Rattle.frame.proofs.Laws.{message-len}
@@ -30,9 +30,9 @@ use Rattle.frame.proofs.Possible.{at}
 use Rattle.frame.proofs.Reading.{Quiet, done, more, once, quiet-then, word, info-part, info-run, front-six, front-run, ready, most-run, cks-ready, end-outcome}
 
 -- what an octet after AA finds is what was found before it
-pub after-aa-outcome : (d : Decoder) (b : ℕ) (f : Found) → outcomeOf (afterAa d b f) ≡ told f (d .info)
+pub after-aa-outcome : (d : Decoder) (b : ℕ) (f : Found) → outcomeOf (takenAs d b (afterAa (d .head) b f)) ≡ told f (d .info)
 after-aa-outcome d b f =
-    let P : Taken → Type 0 = λ t. outcomeOf t ≡ told f (d .info) in
+    let P : Stepped → Type 0 = λ t. outcomeOf (takenAs d b t) ≡ told f (d .info) in
     pick-by P (eqb b 0xAA) (λ _. refl)
     (λ _. pick-by P (eqb b 0xBB) (λ _. refl)
     (λ _. pick-by P (eqb b 0xDD) (λ _. refl)
@@ -57,14 +57,14 @@ module _ (k₀ : Kind) (s₀ e a₀ n₀ g₀ : ℕ) (l : List ℕ) (hl : length
   closed-run s a n (x ∷ xs) ha f h =
       let m = len-most n f in
       quiet-then (front-run k₀ s₀ e a₀ n₀ g₀ Message s a n l ha (omega arith) f)
-      (rw zero-add at (info-run s e a n x xs 0 l (omega arith) m))
+      (rw zero-add at (info-run s e a n x xs 0 l (omega arith)))
 
   open-run : (s a n : ℕ) (i : List ℕ) → a < 65536 → lenFits Message n ≡ true → messageLen + length i < n
       → Quiet (at Idle k₀ s₀ e a₀ n₀ g₀ l) (front Message s a n ++ doubled i) (at Info Message s e a n (length i) (sets l 0 i))
   open-run s a n i ha f h =
       let m = len-most n f in
       quiet-then (front-run k₀ s₀ e a₀ n₀ g₀ Message s a n l ha (omega arith) f)
-      (rw zero-add at (info-part s e a n i 0 l (omega arith) m))
+      (rw zero-add at (info-part s e a n i 0 l (omega arith)))
 
   abbrev rest : Decoder
   rest = at Idle k₀ s₀ e a₀ n₀ g₀ l
@@ -73,7 +73,7 @@ module _ (k₀ : Kind) (s₀ e a₀ n₀ g₀ : ℕ) (l : List ℕ) (hl : length
   doubling-step : (s a n g x : ℕ) (i : List ℕ) → (x ≡ 0xAA → ⊥) → outcomeOf (stepOf (at InfoAa Message s e a n g i) x) ≡ refused refusal.closingWrong Message s a
   unfolding stepOf
   doubling-step s a n g x i h =
-      pick-by (λ (t : Taken). outcomeOf t ≡ refused refusal.closingWrong Message s a) (eqb x 0xAA) (λ t. absurd (h (eqb-true x 0xAA t)))
+      pick-by (λ (t : Stepped). outcomeOf (takenAs (at InfoAa Message s e a n g i) x t) ≡ refused refusal.closingWrong Message s a) (eqb x 0xAA) (λ t. absurd (h (eqb-true x 0xAA t)))
       (λ _. after-aa-outcome (at InfoAa Message s e a n g i) x (found.Refused refusal.closingWrong Message s a))
 
   closing-step : (s a n g x : ℕ) (i : List ℕ) → (x ≡ 0xCC → ⊥) → outcomeOf (stepOf (at CloseCc Message s e a n g i) x) ≡ refused refusal.closingWrong Message s a

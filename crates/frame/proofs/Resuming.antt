@@ -2,7 +2,7 @@
 use Prim.Native.Nat.{ℕ}
 use mathlib.Core.Path.{_≡_, refl, ap, _∙_}
 use mathlib.Core.Bool.{Bool, true, false}
-use lib.Dec.{eqb, leb}
+use lib.Dec.{eqb}
 use Rattle.octets.specs.Choice.{pick}
 use Rattle.octets.specs.Refusal as refusal
 use Rattle.octets.specs.Word.{lowOf, wordOf}
@@ -12,9 +12,9 @@ use Rattle.frame.specs.declared.decoder.Place.the-variants.{Idle, LoneAa
 use Rattle.frame.specs.declared.decoder.Decoder.{Decoder}
 use Rattle.frame.specs.declared.decoder.Found.{Found}
 use Rattle.frame.specs.declared.decoder.Found.the-variants as found
-use Rattle.frame.specs.declared.decoder.Taken.{Taken}
-use Rattle.frame.specs.Frame.{lenFits, infoMost}
-use Rattle.frame.specs.Decoder.{possibleOf, afterAa, stored, refusedBy, stepOf, stepAt, takenOf, cksIn}
+use Rattle.frame.specs.declared.decoder.Stepped.{Stepped}
+use Rattle.frame.specs.Frame.{lenFits}
+use Rattle.frame.specs.Decoder.{possibleOf, afterAa, refusedBy, stepOf, stepAt, takenAs, takenOf, cksIn}
 use Rattle.frame.specs.Run.{nothing, outcomeOf}
 use Rattle.frame.specs.Promises.{placedAt, resumedAt, Resumes}
 use Rattle.frame.proofs.Laws.{taken-done}
@@ -27,25 +27,22 @@ pick-two R false p q = q
 
 module _ (d : Decoder) (b : ℕ) where
   -- after an AA the octet goes by itself, whatever stood before
-  abbrev Same : Taken → Taken → Type 0
-  Same t u = t .decoder ≡ u .decoder
+  abbrev Same : Stepped → Stepped → Type 0
+  Same t u = takenAs d b t .decoder ≡ takenAs (placedAt LoneAa d) b u .decoder
 
-  aa-same : (f : Found) → Same (afterAa d b f) (afterAa (placedAt LoneAa d) b found.Nothing)
+  aa-same : (f : Found) → Same (afterAa (d .head) b f) (afterAa (placedAt LoneAa d .head) b found.Nothing)
   aa-same f =
       pick-two Same (eqb b 0xAA) refl (pick-two Same (eqb b 0xBB) refl (pick-two Same (eqb b 0xDD) refl (pick-two Same (eqb b 0xEE) refl refl)))
 
-  aa-resumed : (f : Found) → afterAa d b f .decoder ≡ takenOf (placedAt LoneAa d) b .decoder
+  aa-resumed : (f : Found) → takenAs d b (afterAa (d .head) b f) .decoder ≡ takenOf (placedAt LoneAa d) b .decoder
   unfolding takenOf stepOf possibleOf
   aa-resumed f = aa-same f
 
-  abbrev Resumed : Place → Taken → Type 0
-  Resumed p t = (outcomeOf t ≡ nothing → ⊥) → t .decoder ≡ resumedAt p d b
+  abbrev Resumed : Place → Stepped → Type 0
+  Resumed p t = let u = takenAs d b t in (outcomeOf u ≡ nothing → ⊥) → u .decoder ≡ resumedAt p d b
 
   -- where nothing is brought nothing is asked
-  stored-quiet : (p : Place) → Resumed p (stored d b)
-  stored-quiet p = pick-by (Resumed p) (leb infoMost (d .head .got)) (λ _ h. absurd (h refl)) (λ _ h. absurd (h refl))
-
-  resumed-at : (p : Place) → Resumed p (stepAt p d b)
+  resumed-at : (p : Place) → Resumed p (stepAt p (d .head) (d .info) b)
   resumed-at Idle = pick-by (Resumed Idle) (eqb b 0xAA) (λ _ h. absurd (h refl)) (λ _ h. absurd (h refl))
   resumed-at LoneAa = λ h. absurd (h (after-aa-outcome d b found.Nothing))
   resumed-at Seq = λ h. absurd (h refl)
@@ -53,12 +50,12 @@ module _ (d : Decoder) (b : ℕ) where
   resumed-at AddrLow = λ h. absurd (h refl)
   resumed-at LenHigh = λ h. absurd (h refl)
   resumed-at LenLow = pick-by (Resumed LenLow) (lenFits (d .head .kind) (wordOf (lowOf (d .head .len)) b)) (λ _ h. absurd (h refl)) (λ _ h. refl)
-  resumed-at Info = pick-by (Resumed Info) (eqb b 0xAA) (λ _ h. absurd (h refl)) (λ _. stored-quiet Info)
-  resumed-at InfoAa = pick-by (Resumed InfoAa) (eqb b 0xAA) (λ _. stored-quiet InfoAa) (λ _ h. aa-resumed (refusedBy (d .head) refusal.closingWrong))
+  resumed-at Info = pick-by (Resumed Info) (eqb b 0xAA) (λ _ h. absurd (h refl)) (λ _ h. absurd (h refl))
+  resumed-at InfoAa = pick-by (Resumed InfoAa) (eqb b 0xAA) (λ _ h. absurd (h refl)) (λ _ h. aa-resumed (refusedBy (d .head) refusal.closingWrong))
   resumed-at CloseAa = pick-by (Resumed CloseAa) (eqb b 0xAA) (λ _ h. absurd (h refl)) (λ _ h. refl)
   resumed-at CloseCc = pick-by (Resumed CloseCc) (eqb b 0xCC) (λ _ h. absurd (h refl)) (λ _ h. aa-resumed (refusedBy (d .head) refusal.closingWrong))
   resumed-at Err = λ h. absurd (h refl)
-  resumed-at Cks = pick-by (Resumed Cks) (eqb (cksIn d) b) (λ _ h. refl) (λ _ h. refl)
+  resumed-at Cks = pick-by (Resumed Cks) (eqb (cksIn (d .head) (d .info)) b) (λ _ h. refl) (λ _ h. refl)
 
 pub resumes : Resumes
 unfolding stepOf

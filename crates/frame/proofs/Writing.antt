@@ -23,8 +23,10 @@ use Rattle.frame.specs.declared.decoder.Decoder.{Decoder}
 use Rattle.frame.specs.declared.decoder.Found.{Found}
 use Rattle.frame.specs.declared.decoder.Found.the-variants as found
 use Rattle.frame.specs.declared.decoder.Taken.{Taken}
+use Rattle.frame.specs.declared.decoder.Stepped.{Stepped}
 use Rattle.frame.specs.Frame.{Frame, message, ack, nak, kindOf, seqOf, addrOf, lenOf, messageLen, ackLen, nakLen, infoLeast, infoMost, lenFits, infoFits, opener, front, frontOf, bodyOf, sentOf, cksOf, twice, doubled, written}
-use Rattle.frame.specs.Decoder.{headOf, possibleOf, possibleAt, infoDue, infoWhole, afterAa, afterLen, afterInfo, cksDue, foundAt, soundBy, stored, refusedBy, stepOf, stepAt, takenOf, cksIn, frontIn, bodyBy}
+use Rattle.frame.specs.Decoder.{headOf, possibleOf, possibleAt, infoDue, infoWhole, afterAa, afterLen, cksDue, soundBy, stepOf, stepAt, takenAs, takenOf, cksIn, frontIn}
+use Rattle.frame.specs.Decoder as decoder
 use Rattle.frame.specs.Run.{Outcome, nothing, refused, sound, outcomeOf, outcomes, after, AtRest, drops, NothingDropped}
 use Rattle.frame.specs.Promises.{WrittenBack, WritingUndoesReading, Refusable, len, doubling, closingAa, closingCc, cks, RefusedFor, RefusedOnlyThen}
 use Rattle.frame.proofs.Laws.{message-len, twice-aa, twice-other, possible-at, taken-done}
@@ -76,10 +78,10 @@ unfolding doubled
 doubled-more l g b h = rw (add-one g, take-suc-set l g b h, doubled-append (take g l) (b ∷ []), append-nil (twice b))
 
 -- after an AA: what stood before it is lost, and the AA too unless the octet goes with it
-after-aa-held : (d : Decoder) (b : ℕ) (f : Found) (y : List ℕ) → (pre : List ℕ) × ((y ++ (0xAA ∷ [])) ++ (b ∷ []) ≡ pre ++ held (afterAa d b f .decoder))
+after-aa-held : (d : Decoder) (b : ℕ) (f : Found) (y : List ℕ) → (pre : List ℕ) × ((y ++ (0xAA ∷ [])) ++ (b ∷ []) ≡ pre ++ held (takenAs d b (afterAa (d .head) b f) .decoder))
 unfolding held
 after-aa-held d b f y =
-    let P : Taken → Type 0 = λ t. (pre : List ℕ) × ((y ++ (0xAA ∷ [])) ++ (b ∷ []) ≡ pre ++ held (t .decoder)) in
+    let P : Stepped → Type 0 = λ t. (pre : List ℕ) × ((y ++ (0xAA ∷ [])) ++ (b ∷ []) ≡ pre ++ held (takenAs d b t .decoder)) in
     pick-by P (eqb b 0xAA) (λ t. (y ++ (0xAA ∷ []), rw (eqb-true b 0xAA t)))
     (λ _. pick-by P (eqb b 0xBB) (λ t. (y, rw (eqb-true b 0xBB t) (simp append-assoc)))
     (λ _. pick-by P (eqb b 0xDD) (λ t. (y, rw (eqb-true b 0xDD t) (simp append-assoc)))
@@ -91,8 +93,8 @@ word-octets : (x b : ℕ) → x < 256 → b < 256 → (highOf (wordOf (lowOf x) 
 word-octets x b h o = (omega arith, omega arith)
 
 module _ (s e a n g : ℕ) (l : List ℕ) (hl : length l ≡ infoMost) (b : ℕ) (octet : b < 256) where
-  abbrev Goes : Place → Kind → Taken → Type 0
-  Goes p k t = Went (held (at p k s e a n g l)) b (drops p b) t
+  abbrev Goes : Place → Kind → Stepped → Type 0
+  Goes p k t = let d = at p k s e a n g l in Went (held d) b (drops p b) (takenAs d b t)
 
   -- INFO that is to come, or whole
   due : infoDue Message n g ≡ true → (lenFits Message n ≡ true) × (messageLen + g < n) × (g < infoMost)
@@ -110,15 +112,15 @@ module _ (s e a n g : ℕ) (l : List ℕ) (hl : length l ≡ infoMost) (b : ℕ)
       let k = message-len n f in
       (f, omega (arith, length-take-le g l (omega arith)))
 
-  at-idle : (k : Kind) → Goes Idle k (stepOf (at Idle k s e a n g l) b)
-  unfolding stepOf held
+  at-idle : (k : Kind) → Goes Idle k (stepAt Idle (headOf Idle k s e a n g) l b)
+  unfolding held
   at-idle k =
       pick-by (Goes Idle k) (eqb b 0xAA)
       (λ t. kept refl (rw (eqb-true b 0xAA t)))
       (λ t. dropped (b ∷ []) (rw t) refl refl)
 
-  at-lone : (k : Kind) → Goes LoneAa k (stepOf (at LoneAa k s e a n g l) b)
-  unfolding stepOf held
+  at-lone : (k : Kind) → Goes LoneAa k (stepAt LoneAa (headOf LoneAa k s e a n g) l b)
+  unfolding held
   at-lone k =
       pick-by (Goes LoneAa k) (eqb b 0xAA)
       (λ t. dropped (0xAA ∷ []) (rw (eqb-true b 0xAA t)) refl (rw (eqb-true b 0xAA t)))
@@ -127,8 +129,8 @@ module _ (s e a n g : ℕ) (l : List ℕ) (hl : length l ≡ infoMost) (b : ℕ)
       (λ t₂. pick-by (Goes LoneAa k) (eqb b 0xEE) (λ t. kept refl (rw (eqb-true b 0xEE t)))
       (λ t₃. dropped (0xAA ∷ b ∷ []) (rw (t₁, t₂, t₃)) refl refl))))
 
-  at-len : (k : Kind) → n < 256 → Goes LenLow k (stepOf (at LenLow k s e a n g l) b)
-  unfolding stepOf held doubled
+  at-len : (k : Kind) → n < 256 → Goes LenLow k (stepAt LenLow (headOf LenLow k s e a n g) l b)
+  unfolding held doubled
   at-len k hn =
       let w = word-octets n b hn octet in
       let q : held (at LenLow k s e a n g l) ++ (b ∷ []) ≡ front k s a (wordOf (lowOf n) b) = rw (w .0, w .1) in
@@ -143,25 +145,24 @@ module _ (s e a n g : ℕ) (l : List ℕ) (hl : length l ≡ infoMost) (b : ℕ)
 
   -- an octet of INFO is kept
   at-stored : (p : Place) (y : List ℕ) → infoDue Message n g ≡ true → y ++ (b ∷ []) ≡ front Message s a n ++ (doubled (take g l) ++ twice b)
-      → held (at p Message s e a n g l) ≡ y → Goes p Message (stored (at p Message s e a n g l) b)
+      → held (at p Message s e a n g l) ≡ y → Goes p Message (decoder.kept (headOf p Message s e a n g))
   unfolding held
   at-stored p y h q r =
       let d = due h in
       let w : held (at p Message s e a n g l) ++ (b ∷ []) ≡ front Message s a n ++ doubled (take (g + 1) (set l g b)) =
       rw (r, q, doubled-more l g b (omega arith)) in
-      pick-by (Goes p Message) (leb infoMost g) (λ t. absurd (omega (arith, leb-true infoMost g t)))
-      (λ _. pick-by (λ (p₁ : Place). Goes p Message (record { refusal = 0; decoder = at p₁ Message s e a n (g + 1) (set l g b); found = found.Nothing }))
-      (ltb (messageLen + (g + 1)) n) (λ _. kept refl w) (λ _. kept refl w))
+      pick-by (λ (p₁ : Place). Goes p Message (record { head = headOf p₁ Message s e a n (g + 1); found = found.Nothing; keeps = true }))
+      (ltb (messageLen + (g + 1)) n) (λ _. kept refl w) (λ _. kept refl w)
 
-  at-info : infoDue Message n g ≡ true → Goes Info Message (stepOf (at Info Message s e a n g l) b)
-  unfolding stepOf held
+  at-info : infoDue Message n g ≡ true → Goes Info Message (stepAt Info (headOf Info Message s e a n g) l b)
+  unfolding held
   at-info h =
       pick-by (Goes Info Message) (eqb b 0xAA)
       (λ t. kept refl (rw (eqb-true b 0xAA t) (append-assoc (front Message s a n) (doubled (take g l)) (0xAA ∷ []))))
       (λ t. at-stored Info (front Message s a n ++ doubled (take g l)) h (rw (twice-other b (eqb-false b 0xAA t)) (append-assoc (front Message s a n) (doubled (take g l)) (b ∷ []))) refl)
 
-  at-info-aa : infoDue Message n g ≡ true → Goes InfoAa Message (stepOf (at InfoAa Message s e a n g l) b)
-  unfolding stepOf held
+  at-info-aa : infoDue Message n g ≡ true → Goes InfoAa Message (stepAt InfoAa (headOf InfoAa Message s e a n g) l b)
+  unfolding held
   at-info-aa h =
       let d = at InfoAa Message s e a n g l in
       let y = front Message s a n ++ doubled (take g l) in
@@ -174,8 +175,8 @@ module _ (s e a n g : ℕ) (l : List ℕ) (hl : length l ≡ infoMost) (b : ℕ)
       (λ t. refuse refusal.closingWrong Message s a (w .0) (after-aa-outcome d b (found.Refused refusal.closingWrong Message s a)) (ap (λ (v : List ℕ). v ++ (b ∷ [])) r ∙ w .1)
       (rw z (doubling s a n b (take g l) (u .0) (omega (arith, length-take-le g l (omega arith))) (eqb-false b 0xAA t))))
 
-  at-close-aa : infoWhole Message n g ≡ true → Goes CloseAa Message (stepOf (at CloseAa Message s e a n g l) b)
-  unfolding stepOf held
+  at-close-aa : infoWhole Message n g ≡ true → Goes CloseAa Message (stepAt CloseAa (headOf CloseAa Message s e a n g) l b)
+  unfolding held
   at-close-aa h =
       let u = whole-info h in
       let f = front Message s a n in
@@ -185,8 +186,8 @@ module _ (s e a n g : ℕ) (l : List ℕ) (hl : length l ≡ infoMost) (b : ℕ)
       (λ t. refuse refusal.closingWrong Message s a ((f ++ i) ++ (b ∷ [])) refl (sym (append-nil ((f ++ i) ++ (b ∷ []))))
       (rw (append-assoc f i (b ∷ [])) (closingAa s a n b (take g l) (u .0) (u .1) (eqb-false b 0xAA t))))
 
-  at-close-cc : infoWhole Message n g ≡ true → Goes CloseCc Message (stepOf (at CloseCc Message s e a n g l) b)
-  unfolding stepOf held
+  at-close-cc : infoWhole Message n g ≡ true → Goes CloseCc Message (stepAt CloseCc (headOf CloseCc Message s e a n g) l b)
+  unfolding held
   at-close-cc h =
       let d = at CloseCc Message s e a n g l in
       let y = front Message s a n ++ doubled (take g l) in
@@ -204,19 +205,20 @@ module _ (s e a n g : ℕ) (l : List ℕ) (hl : length l ≡ infoMost) (b : ℕ)
   idle-held k = refl
 
   -- at CKS the decoder has all of a frame f but its last octet
-  at-cks-of : (k : Kind) (f : Frame) → held (at Cks k s e a n g l) ≡ frontOf f ++ sentOf f → cksIn (at Cks k s e a n g l) ≡ cksOf f → infoFits f ≡ true
-      → outcomeOf (foundAt (at Cks k s e a n g l) Idle (soundBy (headOf Cks k s e a n g))) ≡ sound f
-      → kindOf f ≡ k → seqOf f ≡ s → addrOf f ≡ a → Goes Cks k (stepOf (at Cks k s e a n g l) b)
-  unfolding stepOf written
+  at-cks-of : (k : Kind) (f : Frame) → held (at Cks k s e a n g l) ≡ frontOf f ++ sentOf f → cksIn (headOf Cks k s e a n g) l ≡ cksOf f → infoFits f ≡ true
+      → outcomeOf (takenAs (at Cks k s e a n g l) b (decoder.ended (headOf Cks k s e a n g) (soundBy (headOf Cks k s e a n g)))) ≡ sound f
+      → kindOf f ≡ k → seqOf f ≡ s → addrOf f ≡ a → Goes Cks k (stepAt Cks (headOf Cks k s e a n g) l b)
+  unfolding written
   at-cks-of k f hh hc hf ho hk hs ha =
       let d = at Cks k s e a n g l in
+      let c = cksIn (headOf Cks k s e a n g) l in
       let z : held d ++ (b ∷ []) ≡ frontOf f ++ (sentOf f ++ (b ∷ [])) = ap (λ (v : List ℕ). v ++ (b ∷ [])) hh ∙ append-assoc (frontOf f) (sentOf f) (b ∷ []) in
-      pick-by (Goes Cks k) (eqb (cksIn d) b)
-      (λ t. ended f ho (z ∙ ap (λ (c : ℕ). frontOf f ++ (sentOf f ++ (c ∷ []))) (sym (eqb-true (cksIn d) b t) ∙ hc)) (idle-held k) hf)
+      pick-by (Goes Cks k) (eqb c b)
+      (λ t. ended f ho (z ∙ ap (λ (x : ℕ). frontOf f ++ (sentOf f ++ (x ∷ []))) (sym (eqb-true c b t) ∙ hc)) (idle-held k) hf)
       (λ t. refuse refusal.cksWrong k s a (held d ++ (b ∷ [])) refl (rw (idle-held k) (sym (append-nil (held d ++ (b ∷ [])))))
-      (rw (z, ← hk, ← hs, ← ha) (cks f b hf (λ q. eqb-false (cksIn d) b t (hc ∙ sym q)))))
+      (rw (z, ← hk, ← hs, ← ha) (cks f b hf (λ q. eqb-false c b t (hc ∙ sym q)))))
 
-  at-cks : (k : Kind) → cksDue k n g ≡ true → Goes Cks k (stepOf (at Cks k s e a n g l) b)
+  at-cks : (k : Kind) → cksDue k n g ≡ true → Goes Cks k (stepAt Cks (headOf Cks k s e a n g) l b)
   unfolding held frontOf sentOf cksIn cksOf frontIn bodyOf
   at-cks Message h =
       let u = whole-info h in
@@ -228,8 +230,8 @@ module _ (s e a n g : ℕ) (l : List ℕ) (hl : length l ≡ infoMost) (b : ℕ)
   at-cks Nak h = at-cks-of Nak (nak s a e) (rw (eqb-true n nakLen h)) (rw (eqb-true n nakLen h)) refl refl refl refl refl
 
   -- every place
-  went-at : (p : Place) (k : Kind) → possibleOf (headOf p k s e a n g) ≡ true → Goes p k (stepOf (at p k s e a n g l) b)
-  unfolding stepOf held possibleOf
+  went-at : (p : Place) (k : Kind) → possibleOf (headOf p k s e a n g) ≡ true → Goes p k (stepAt p (headOf p k s e a n g) l b)
+  unfolding held possibleOf
   went-at Idle k h = at-idle k
   went-at LoneAa k h = at-lone k
   went-at Seq k h = kept refl refl
@@ -256,37 +258,11 @@ module _ (s e a n g : ℕ) (l : List ℕ) (hl : length l ≡ infoMost) (b : ℕ)
 
 -- INFO's array keeps its length
 module _ (d : Decoder) (b : ℕ) (hl : length (d .info) ≡ infoMost) where
-  abbrev Long : Taken → Type 0
-  Long t = length (t .decoder .info) ≡ infoMost
-
-  aa-long : (f : Found) → Long (afterAa d b f)
-  aa-long f =
-      pick-by Long (eqb b 0xAA) (λ _. hl)
-      (λ _. pick-by Long (eqb b 0xBB) (λ _. hl)
-      (λ _. pick-by Long (eqb b 0xDD) (λ _. hl)
-      (λ _. pick-by Long (eqb b 0xEE) (λ _. hl) (λ _. hl))))
-
-  stored-long : Long (stored d b)
-  stored-long = pick-by Long (leb infoMost (d .head .got)) (λ _. hl) (λ _. length-set (d .info) (d .head .got) b ∙ hl)
-
-  long-at : (p : Place) → Long (stepAt p d b)
-  long-at Idle = pick-by Long (eqb b 0xAA) (λ _. hl) (λ _. hl)
-  long-at LoneAa = aa-long found.Nothing
-  long-at Seq = hl
-  long-at AddrHigh = hl
-  long-at AddrLow = hl
-  long-at LenHigh = hl
-  long-at LenLow = pick-by Long (lenFits (d .head .kind) (wordOf (lowOf (d .head .len)) b)) (λ _. hl) (λ _. hl)
-  long-at Info = pick-by Long (eqb b 0xAA) (λ _. hl) (λ _. stored-long)
-  long-at InfoAa = pick-by Long (eqb b 0xAA) (λ _. stored-long) (λ _. aa-long (refusedBy (d .head) refusal.closingWrong))
-  long-at CloseAa = pick-by Long (eqb b 0xAA) (λ _. hl) (λ _. hl)
-  long-at CloseCc = pick-by Long (eqb b 0xCC) (λ _. hl) (λ _. aa-long (refusedBy (d .head) refusal.closingWrong))
-  long-at Err = hl
-  long-at Cks = pick-by Long (eqb (cksIn d) b) (λ _. hl) (λ _. hl)
-
   pub step-long : length (stepOf d b .decoder .info) ≡ infoMost
   unfolding stepOf
-  step-long = long-at (d .head .place)
+  step-long =
+      pick-by (λ (i : List ℕ). length i ≡ infoMost) (stepAt (d .head .place) (d .head) (d .info) b .keeps)
+      (λ _. length-set (d .info) (d .head .got) b ∙ hl) (λ _. hl)
 
 -- a decoder that a run can be in
 record Runs (d : Decoder) : Type 0 where
@@ -297,6 +273,7 @@ runs-on : (d : Decoder) (b : ℕ) → b < 256 → Runs d → Runs (takenOf d b .
 runs-on d b o r = rw (taken-done d b (r .possible)) (record { possible = step-possible d b o (r .possible); long = step-long d b (r .long) })
 
 went : (d : Decoder) (b : ℕ) → b < 256 → Runs d → Went (held d) b (drops (d .head .place) b) (takenOf d b)
+unfolding stepOf
 went d b o r =
     let h = d .head in
     rw (taken-done d b (r .possible))

@@ -1,8 +1,8 @@
 -- 01, "Frames": "The decoder takes one octet a call."
 use Prim.Native.Nat.{ℕ, _+_, _-_}
-use mathlib.Core.Bool.{Bool, true, false}
+use mathlib.Core.Bool.{Bool, true, false, not}
 use mathlib.Core.List.{List, [], _∷_, _++_}
-use lib.Dec.{eqb, ltb, leb}
+use lib.Dec.{eqb, ltb}
 use lib.ListN.{take, set, replicate}
 use Rattle.octets.specs.Choice.{pick, both}
 use Rattle.octets.specs.ExclusiveOr.{exclusiveOr}
@@ -17,6 +17,7 @@ use Rattle.frame.specs.declared.decoder.Decoder.{Decoder}
 use Rattle.frame.specs.declared.decoder.Found.{Found}
 use Rattle.frame.specs.declared.decoder.Found.the-variants as found
 use Rattle.frame.specs.declared.decoder.Taken.{Taken}
+use Rattle.frame.specs.declared.decoder.Stepped.{Stepped}
 use Rattle.frame.specs.Frame.{lenFits, infoMost, messageLen, front}
 
 -- A head with all its fields given
@@ -72,55 +73,79 @@ possibleAt Cks k a n g = cksDue k n g
 unfoldable pub possibleOf : Head → Bool
 possibleOf h = possibleAt (h .place) (h .kind) (h .addr) (h .len) (h .got)
 
--- What an octet does
+-- What an octet does to the head, what it finds, and whether it is kept as one of INFO
 
-abbrev pub taken : Head → List ℕ → Found → Taken
-taken h i f = record { refusal = refusal.none; decoder = record { head = h; info = i }; found = f }
+abbrev pub stepped : Head → Found → Stepped
+stepped h f = record { head = h; found = f; keeps = false }
 
--- the decoder with another head, and nothing found
-abbrev pub moved : Decoder → Head → Taken
-moved d h = taken h (d .info) found.Nothing
+-- the head at another place, of a frame of this kind
+abbrev pub placed : Head → Place → Kind → Head
+placed h p k = headOf p k (h .seq) (h .err) (h .addr) (h .len) (h .got)
 
--- the decoder at another place, and what was found
-abbrev pub foundAt : Decoder → Place → Found → Taken
-foundAt d p f = let h = d .head in taken (headOf p (h .kind) (h .seq) (h .err) (h .addr) (h .len) (h .got)) (d .info) f
+-- the same, and what was found
+abbrev pub foundAt : Head → Place → Kind → Found → Stepped
+foundAt h p k f = stepped (placed h p k) f
+
+-- another place, and nothing found
+abbrev pub moved : Head → Place → Stepped
+moved h p = foundAt h p (h .kind) found.Nothing
+
+-- idle again, after what was found
+abbrev pub ended : Head → Found → Stepped
+ended h f = foundAt h Idle (h .kind) f
 
 -- a frame of this kind is opened, after what was found
-abbrev pub opened : Decoder → Kind → Found → Taken
-opened d k f = let h = d .head in taken (headOf Seq k (h .seq) (h .err) (h .addr) (h .len) (h .got)) (d .info) f
+abbrev pub opened : Head → Kind → Found → Stepped
+opened h k f = foundAt h Seq k f
 
 -- the refusal of the frame that is open
 abbrev pub refusedBy : Head → ℕ → Found
 refusedBy h n = found.Refused n (h .kind) (h .seq) (h .addr)
 
 -- "Idle: AA is remembered, all else is dropped."
-abbrev pub idleOctet : Decoder → ℕ → Taken
-idleOctet d b = pick (eqb b 0xAA) (foundAt d LoneAa found.Nothing) (foundAt d Idle found.Nothing)
+abbrev pub idleOctet : Head → ℕ → Stepped
+idleOctet h b = pick (eqb b 0xAA) (moved h LoneAa) (moved h Idle)
+
+-- does it drop the octet?
+abbrev pub drops : Place → ℕ → Bool
+drops Idle b = not (eqb b 0xAA)
+drops LoneAa b = false
+drops Seq b = false
+drops AddrHigh b = false
+drops AddrLow b = false
+drops LenHigh b = false
+drops LenLow b = false
+drops Info b = false
+drops InfoAa b = false
+drops CloseAa b = false
+drops CloseCc b = false
+drops Err b = false
+drops Cks b = false
 
 -- "After a lone AA: BB, DD or EE opens a frame, AA stays remembered, all else returns to idle."
-abbrev pub afterAa : Decoder → ℕ → Found → Taken
-afterAa d b f =
-    pick (eqb b 0xAA) (foundAt d LoneAa f)
-    (pick (eqb b 0xBB) (opened d Message f)
-    (pick (eqb b 0xDD) (opened d Ack f)
-    (pick (eqb b 0xEE) (opened d Nak f)
-    (foundAt d Idle f))))
+abbrev pub afterAa : Head → ℕ → Found → Stepped
+afterAa h b f =
+    pick (eqb b 0xAA) (foundAt h LoneAa (h .kind) f)
+    (pick (eqb b 0xBB) (opened h Message f)
+    (pick (eqb b 0xDD) (opened h Ack f)
+    (pick (eqb b 0xEE) (opened h Nak f)
+    (ended h f))))
 
 -- SEQ, ADDR and LEN come in octet by octet, high octet first; ERR is one
-abbrev pub withSeq : Head → ℕ → Head
-withSeq h b = headOf AddrHigh (h .kind) b (h .err) (h .addr) (h .len) (h .got)
+abbrev pub withSeq : Head → ℕ → Stepped
+withSeq h b = stepped (headOf AddrHigh (h .kind) b (h .err) (h .addr) (h .len) (h .got)) found.Nothing
 
-abbrev pub withAddrHigh : Head → ℕ → Head
-withAddrHigh h b = headOf AddrLow (h .kind) (h .seq) (h .err) b (h .len) (h .got)
+abbrev pub withAddrHigh : Head → ℕ → Stepped
+withAddrHigh h b = stepped (headOf AddrLow (h .kind) (h .seq) (h .err) b (h .len) (h .got)) found.Nothing
 
-abbrev pub withAddr : Head → ℕ → Head
-withAddr h addr = headOf LenHigh (h .kind) (h .seq) (h .err) addr (h .len) (h .got)
+abbrev pub withAddr : Head → ℕ → Stepped
+withAddr h addr = stepped (headOf LenHigh (h .kind) (h .seq) (h .err) addr (h .len) (h .got)) found.Nothing
 
-abbrev pub withLenHigh : Head → ℕ → Head
-withLenHigh h b = headOf LenLow (h .kind) (h .seq) (h .err) (h .addr) b (h .got)
+abbrev pub withLenHigh : Head → ℕ → Stepped
+withLenHigh h b = stepped (headOf LenLow (h .kind) (h .seq) (h .err) (h .addr) b (h .got)) found.Nothing
 
-abbrev pub withErr : Head → ℕ → Head
-withErr h b = headOf Cks (h .kind) (h .seq) b (h .addr) (h .len) (h .got)
+abbrev pub withErr : Head → ℕ → Stepped
+withErr h b = stepped (headOf Cks (h .kind) (h .seq) b (h .addr) (h .len) (h .got)) found.Nothing
 
 -- what follows LEN
 abbrev pub afterLen : Kind → Place
@@ -129,42 +154,36 @@ afterLen Ack = Cks
 afterLen Nak = Err
 
 -- "LEN is judged at its second octet."
-abbrev pub lenJudged : Decoder → ℕ → Taken
-lenJudged d n =
-    let h = d .head in
+abbrev pub lenJudged : Head → ℕ → Stepped
+lenJudged h n =
     pick (lenFits (h .kind) n)
-    (moved d (headOf (afterLen (h .kind)) (h .kind) (h .seq) (h .err) (h .addr) n 0))
-    (foundAt d Idle (refusedBy h refusal.lenWrong))
-
-abbrev pub kept : Head → List ℕ → Place → ℕ → Taken
-kept h i p g = taken (headOf p (h .kind) (h .seq) (h .err) (h .addr) (h .len) g) i found.Nothing
+    (stepped (headOf (afterLen (h .kind)) (h .kind) (h .seq) (h .err) (h .addr) n 0) found.Nothing)
+    (ended h (refusedBy h refusal.lenWrong))
 
 -- "after n octets of INFO come AA and CC": the place where g of them are in
 abbrev pub afterInfo : ℕ → ℕ → Place
 afterInfo n g = pick (ltb (messageLen + g) n) Info CloseAa
 
 -- an octet of INFO is kept
-abbrev pub stored : Decoder → ℕ → Taken
-stored d b =
-    let h = d .head in
+abbrev pub kept : Head → Stepped
+kept h =
     let g = h .got + 1 in
-    pick (leb infoMost (h .got)) (foundAt d Idle found.Nothing)
-    (kept h (set (d .info) (h .got) b) (afterInfo (h .len) g) g)
+    record { head = headOf (afterInfo (h .len) g) (h .kind) (h .seq) (h .err) (h .addr) (h .len) g; found = found.Nothing; keeps = true }
 
-abbrev pub infoOctet : Decoder → ℕ → Taken
-infoOctet d b = pick (eqb b 0xAA) (foundAt d InfoAa found.Nothing) (stored d b)
+abbrev pub infoOctet : Head → ℕ → Stepped
+infoOctet h b = pick (eqb b 0xAA) (moved h InfoAa) (kept h)
 
 -- "In INFO an AA followed by something else .. is refusal 2. The wrong octet after an AA is then judged as if it had
 -- followed a lone AA"
-abbrev pub infoAaOctet : Decoder → ℕ → Taken
-infoAaOctet d b = pick (eqb b 0xAA) (stored d b) (afterAa d b (refusedBy (d .head) refusal.closingWrong))
+abbrev pub infoAaOctet : Head → ℕ → Stepped
+infoAaOctet h b = pick (eqb b 0xAA) (kept h) (afterAa h b (refusedBy h refusal.closingWrong))
 
 -- "a wrong octet where the closing AA was due returns to idle"
-abbrev pub closeAaOctet : Decoder → ℕ → Taken
-closeAaOctet d b = pick (eqb b 0xAA) (foundAt d CloseCc found.Nothing) (foundAt d Idle (refusedBy (d .head) refusal.closingWrong))
+abbrev pub closeAaOctet : Head → ℕ → Stepped
+closeAaOctet h b = pick (eqb b 0xAA) (moved h CloseCc) (ended h (refusedBy h refusal.closingWrong))
 
-abbrev pub closeCcOctet : Decoder → ℕ → Taken
-closeCcOctet d b = pick (eqb b 0xCC) (foundAt d Cks found.Nothing) (afterAa d b (refusedBy (d .head) refusal.closingWrong))
+abbrev pub closeCcOctet : Head → ℕ → Stepped
+closeCcOctet h b = pick (eqb b 0xCC) (moved h Cks) (afterAa h b (refusedBy h refusal.closingWrong))
 
 -- the octets that are kept of the open frame: to LEN, and from there to CKS before doubling
 unfoldable pub frontIn : Head → List ℕ
@@ -175,8 +194,9 @@ bodyBy Message e i = i ++ (0xAA ∷ 0xCC ∷ [])
 bodyBy Ack e i = []
 bodyBy Nak e i = e ∷ []
 
-unfoldable pub cksIn : Decoder → ℕ
-cksIn d = let h = d .head in exclusiveOr 0 (frontIn h ++ bodyBy (h .kind) (h .err) (take (h .got) (d .info)))
+-- CKS as it should come, i being the octets kept for INFO
+unfoldable pub cksIn : Head → List ℕ → ℕ
+cksIn h i = exclusiveOr 0 (frontIn h ++ bodyBy (h .kind) (h .err) (take (h .got) i))
 
 -- the sound frame that has ended
 abbrev pub soundAs : Kind → Head → Found
@@ -188,26 +208,36 @@ abbrev pub soundBy : Head → Found
 soundBy h = soundAs (h .kind) h
 
 -- "Refusals 1 and 3 and the end of a sound frame also leave it idle, with no AA remembered."
-abbrev pub cksOctet : Decoder → ℕ → Taken
-cksOctet d b = pick (eqb (cksIn d) b) (foundAt d Idle (soundBy (d .head))) (foundAt d Idle (refusedBy (d .head) refusal.cksWrong))
+abbrev pub cksOctet : Head → List ℕ → ℕ → Stepped
+cksOctet h i b = pick (eqb (cksIn h i) b) (ended h (soundBy h)) (ended h (refusedBy h refusal.cksWrong))
 
-abbrev pub stepAt : Place → Decoder → ℕ → Taken
-stepAt Idle d b = idleOctet d b
-stepAt LoneAa d b = afterAa d b found.Nothing
-stepAt Seq d b = moved d (withSeq (d .head) b)
-stepAt AddrHigh d b = moved d (withAddrHigh (d .head) b)
-stepAt AddrLow d b = moved d (withAddr (d .head) (wordOf (lowOf (d .head .addr)) b))
-stepAt LenHigh d b = moved d (withLenHigh (d .head) b)
-stepAt LenLow d b = lenJudged d (wordOf (lowOf (d .head .len)) b)
-stepAt Info d b = infoOctet d b
-stepAt InfoAa d b = infoAaOctet d b
-stepAt CloseAa d b = closeAaOctet d b
-stepAt CloseCc d b = closeCcOctet d b
-stepAt Err d b = moved d (withErr (d .head) b)
-stepAt Cks d b = cksOctet d b
+abbrev pub stepAt : Place → Head → List ℕ → ℕ → Stepped
+stepAt Idle h i b = idleOctet h b
+stepAt LoneAa h i b = afterAa h b found.Nothing
+stepAt Seq h i b = withSeq h b
+stepAt AddrHigh h i b = withAddrHigh h b
+stepAt AddrLow h i b = withAddr h (wordOf (lowOf (h .addr)) b)
+stepAt LenHigh h i b = withLenHigh h b
+stepAt LenLow h i b = lenJudged h (wordOf (lowOf (h .len)) b)
+stepAt Info h i b = infoOctet h b
+stepAt InfoAa h i b = infoAaOctet h b
+stepAt CloseAa h i b = closeAaOctet h b
+stepAt CloseCc h i b = closeCcOctet h b
+stepAt Err h i b = withErr h b
+stepAt Cks h i b = cksOctet h i b
+
+abbrev pub taken : Head → List ℕ → Found → Taken
+taken h i f = record { refusal = refusal.none; decoder = record { head = h; info = i }; found = f }
+
+-- INFO once the octet b is kept, or not
+abbrev pub infoThen : Decoder → ℕ → Bool → List ℕ
+infoThen d b keeps = pick keeps (set (d .info) (d .head .got) b) (d .info)
+
+abbrev pub takenAs : Decoder → ℕ → Stepped → Taken
+takenAs d b t = taken (t .head) (infoThen d b (t .keeps)) (t .found)
 
 unfoldable pub stepOf : Decoder → ℕ → Taken
-stepOf d b = stepAt (d .head .place) d b
+stepOf d b = takenAs d b (stepAt (d .head .place) (d .head) (d .info) b)
 
 -- The calls
 
@@ -220,4 +250,4 @@ takenOf d b = pick (possibleOf (d .head)) (stepOf d b) (unsound d)
 
 -- "A line-idle call, made by the host, returns the decoder to idle and changes nothing else."
 unfoldable pub idledOf : Decoder → Taken
-idledOf d = pick (possibleOf (d .head)) (foundAt d Idle found.Nothing) (unsound d)
+idledOf d = pick (possibleOf (d .head)) (taken (placed (d .head) Idle (d .head .kind)) (d .info) found.Nothing) (unsound d)

@@ -1,9 +1,11 @@
 // 01, "Frames": "The decoder takes one octet a call."
 ghost use mathlib.Core.Path.{_≡_};
+ghost use mathlib.Core.Bool.{true};
+ghost use Prim.Native.Nat.{_≤_, _<_};
 ghost use lib.ListN.{take};
 ghost use Rattle.octets.specs.ExclusiveOr.{exclusiveOr};
-ghost use Rattle.frame.specs.Frame.{lenFits};
-ghost use Rattle.frame.specs.Decoder.{freshDecoder, infoDue, infoWhole, errDue, cksDue, possibleOf, moved, foundAt, opened, refusedBy, idleOctet, afterAa, afterLen, lenJudged, kept, stored, infoOctet, infoAaOctet, closeAaOctet, closeCcOctet, cksIn, soundBy, cksOctet, withSeq, withAddrHigh, withAddr, withLenHigh, withErr, stepOf, takenOf, idledOf};
+ghost use Rattle.frame.specs.Frame.{lenFits, infoMost};
+ghost use Rattle.frame.specs.Decoder.{freshDecoder, infoDue, infoWhole, errDue, cksDue, drops, possibleOf, placed, foundAt, moved, ended, opened, refusedBy, idleOctet, afterAa, afterLen, lenJudged, afterInfo, kept, infoOctet, infoAaOctet, closeAaOctet, closeCcOctet, cksIn, soundBy, cksOctet, stepAt, takenOf, idledOf};
 use crate::AA;
 use crate::ACK_LEN;
 use crate::BB;
@@ -69,6 +71,14 @@ pub struct Taken {
     pub found: Found,
 }
 
+// What an octet does: the head that follows, what was found, and whether the octet is kept as one of INFO. The INFO
+// octets stand beside it, so that a place that does not touch them does not name them.
+struct Stepped {
+    head: Head,
+    found: Found,
+    keeps: bool,
+}
+
 // A decoder at rest, with nothing kept.
 pub fn fresh() -> Decoder
     ensures { λ r. ⌜ r ≡ freshDecoder ⌝ }
@@ -99,7 +109,19 @@ pub fn octet(d: Decoder, b: u8) -> Taken
             found: Found::Nothing,
         };
     }
-    step(d, b)
+    let mut info = d.info;
+    let t = step(h, &info, b);
+    let head = t.head;
+    let found = t.found;
+    if t.keeps {
+        let at = h.got as usize;
+        info[at] = b;
+    }
+    Taken {
+        refusal: refusal::NONE,
+        decoder: Decoder { head, info },
+        found,
+    }
 }
 
 // "A line-idle call, made by the host, returns the decoder to idle and changes nothing else."
@@ -114,7 +136,25 @@ pub fn line_idle(d: Decoder) -> Taken
             found: Found::Nothing,
         };
     }
-    found_at(d, Place::Idle, Found::Nothing)
+    let k = h.kind;
+    let head = placed(h, Place::Idle, k);
+    let info = d.info;
+    Taken {
+        refusal: refusal::NONE,
+        decoder: Decoder { head, info },
+        found: Found::Nothing,
+    }
+}
+
+// "Idle: AA is remembered, all else is dropped." What is dropped leaves the decoder as it is.
+pub fn drops(h: Head, b: u8) -> bool
+    ensures { λ r. ⌜ r ≡ drops (h .place) b ⌝ }
+{
+    let p = h.place;
+    match p {
+        Place::Idle => b != AA,
+        _ => false,
+    }
 }
 
 // Can a decoder stand so? Kind, LEN and the count of INFO must fit the place.
@@ -207,55 +247,50 @@ fn len_fits(k: Kind, len: u16) -> bool
     }
 }
 
-// The decoder with another head, and nothing found.
-fn moved(d: Decoder, h: Head) -> Taken
-    ensures { λ r. ⌜ r ≡ moved d h ⌝ }
+// The head at another place, of a frame of this kind.
+fn placed(h: Head, p: Place, k: Kind) -> Head
+    ensures { λ r. ⌜ r ≡ placed h p k ⌝ }
 {
-    let info = d.info;
-    Taken {
-        refusal: refusal::NONE,
-        decoder: Decoder {
-            head: h,
-            info: info,
-        },
-        found: Found::Nothing,
+    Head {
+        place: p,
+        kind: k,
+        ..h
     }
 }
 
-// The decoder at another place, and what was found.
-fn found_at(d: Decoder, p: Place, f: Found) -> Taken
-    ensures { λ r. ⌜ r ≡ foundAt d p f ⌝ }
+// The same, and what was found.
+fn found_at(h: Head, p: Place, k: Kind, f: Found) -> Stepped
+    ensures { λ r. ⌜ r ≡ foundAt h p k f ⌝ }
 {
-    let h = d.head;
-    let info = d.info;
-    Taken {
-        refusal: refusal::NONE,
-        decoder: Decoder {
-            head: Head { place: p, ..h },
-            info: info,
-        },
+    let head = placed(h, p, k);
+    Stepped {
+        head,
         found: f,
+        keeps: false,
     }
+}
+
+// Another place, and nothing found.
+fn moved(h: Head, p: Place) -> Stepped
+    ensures { λ r. ⌜ r ≡ moved h p ⌝ }
+{
+    let k = h.kind;
+    found_at(h, p, k, Found::Nothing)
+}
+
+// Idle again, after what was found.
+fn ended(h: Head, f: Found) -> Stepped
+    ensures { λ r. ⌜ r ≡ ended h f ⌝ }
+{
+    let k = h.kind;
+    found_at(h, Place::Idle, k, f)
 }
 
 // A frame of this kind is opened, after what was found.
-fn opened(d: Decoder, k: Kind, f: Found) -> Taken
-    ensures { λ r. ⌜ r ≡ opened d k f ⌝ }
+fn opened(h: Head, k: Kind, f: Found) -> Stepped
+    ensures { λ r. ⌜ r ≡ opened h k f ⌝ }
 {
-    let h = d.head;
-    let info = d.info;
-    Taken {
-        refusal: refusal::NONE,
-        decoder: Decoder {
-            head: Head {
-                place: Place::Seq,
-                kind: k,
-                ..h
-            },
-            info: info,
-        },
-        found: f,
-    }
+    found_at(h, Place::Seq, k, f)
 }
 
 // The refusal of the frame that is open.
@@ -267,25 +302,26 @@ fn refused_by(h: Head, n: u8) -> Found
 }
 
 // "Idle: AA is remembered, all else is dropped."
-fn idle_octet(d: Decoder, b: u8) -> Taken
-    ensures { λ r. ⌜ r ≡ idleOctet d b ⌝ }
+fn idle_octet(h: Head, b: u8) -> Stepped
+    ensures { λ r. ⌜ r ≡ idleOctet h b ⌝ }
 {
     match b {
-        AA => found_at(d, Place::LoneAa, Found::Nothing),
-        _ => found_at(d, Place::Idle, Found::Nothing),
+        AA => moved(h, Place::LoneAa),
+        _ => moved(h, Place::Idle),
     }
 }
 
 // "After a lone AA: BB, DD or EE opens a frame, AA stays remembered, all else returns to idle."
-fn after_aa(d: Decoder, b: u8, f: Found) -> Taken
-    ensures { λ r. ⌜ r ≡ afterAa d b f ⌝ }
+fn after_aa(h: Head, b: u8, f: Found) -> Stepped
+    ensures { λ r. ⌜ r ≡ afterAa h b f ⌝ }
 {
+    let k = h.kind;
     match b {
-        AA => found_at(d, Place::LoneAa, f),
-        BB => opened(d, Kind::Message, f),
-        DD => opened(d, Kind::Ack, f),
-        EE => opened(d, Kind::Nak, f),
-        _ => found_at(d, Place::Idle, f),
+        AA => found_at(h, Place::LoneAa, k, f),
+        BB => opened(h, Kind::Message, f),
+        DD => opened(h, Kind::Ack, f),
+        EE => opened(h, Kind::Nak, f),
+        _ => ended(h, f),
     }
 }
 
@@ -301,128 +337,105 @@ fn after_len(k: Kind) -> Place
 }
 
 // "LEN is judged at its second octet."
-fn len_judged(d: Decoder, n: u16) -> Taken
-    ensures { λ r. ⌜ r ≡ lenJudged d n ⌝ }
+fn len_judged(mut h: Head, n: u16) -> Stepped
+    ensures { λ r. ⌜ r ≡ lenJudged h n ⌝ }
 {
-    let h = d.head;
     let k = h.kind;
     if len_fits(k, n) {
-        let p = after_len(k);
-        moved(
-            d,
-            Head {
-                place: p,
-                len: n,
-                got: 0,
-                ..h
-            },
-        )
+        h.len = n;
+        h.got = 0;
+        moved(h, after_len(k))
     } else {
-        found_at(d, Place::Idle, refused_by(h, refusal::LEN_WRONG))
+        ended(h, refused_by(h, refusal::LEN_WRONG))
     }
 }
 
-// An octet of INFO is kept; "after n octets of INFO come AA and CC".
-fn stored(d: Decoder, b: u8) -> Taken
-    ensures { λ r. ⌜ r ≡ stored d b ⌝ }
+// "After n octets of INFO come AA and CC": the place where some of them are in.
+fn after_info(len: u16, got: u16) -> Place
+    requires { ⌜ got ≤ infoMost ⌝ }
+    ensures { λ r. ⌜ r ≡ afterInfo len got ⌝ }
 {
-    let h = d.head;
-    let mut info = d.info;
-    let at = h.got as usize;
-    if INFO_MOST <= at {
-        return found_at(d, Place::Idle, Found::Nothing);
+    if MESSAGE_LEN + got < len {
+        Place::Info
+    } else {
+        Place::CloseAa
     }
-    info[at] = b;
+}
+
+// An octet of INFO is kept.
+fn kept(mut h: Head) -> Stepped
+    requires { ⌜ h .got < infoMost ⌝ }
+    ensures { λ r. ⌜ r ≡ kept h ⌝ }
+{
     let g = h.got + 1;
-    if MESSAGE_LEN + g < h.len {
-        kept(h, info, Place::Info, g)
-    } else {
-        kept(h, info, Place::CloseAa, g)
-    }
+    h.got = g;
+    let mut t = moved(h, after_info(h.len, g));
+    t.keeps = true;
+    t
 }
 
-fn kept(h: Head, info: [u8; INFO_MOST], p: Place, g: u16) -> Taken
-    ensures { λ r. ⌜ r ≡ kept h info p g ⌝ }
-{
-    Taken {
-        refusal: refusal::NONE,
-        decoder: Decoder {
-            head: Head {
-                place: p,
-                got: g,
-                ..h
-            },
-            info: info,
-        },
-        found: Found::Nothing,
-    }
-}
-
-fn info_octet(d: Decoder, b: u8) -> Taken
-    ensures { λ r. ⌜ r ≡ infoOctet d b ⌝ }
+fn info_octet(h: Head, b: u8) -> Stepped
+    requires { ⌜ h .got < infoMost ⌝ }
+    ensures { λ r. ⌜ r ≡ infoOctet h b ⌝ }
 {
     match b {
-        AA => found_at(d, Place::InfoAa, Found::Nothing),
-        _ => stored(d, b),
+        AA => moved(h, Place::InfoAa),
+        _ => kept(h),
     }
 }
 
 // "In INFO an AA followed by something else .. is refusal 2." "The wrong octet after an AA is then judged as if it had
 // followed a lone AA."
-fn info_aa_octet(d: Decoder, b: u8) -> Taken
-    ensures { λ r. ⌜ r ≡ infoAaOctet d b ⌝ }
+fn info_aa_octet(h: Head, b: u8) -> Stepped
+    requires { ⌜ h .got < infoMost ⌝ }
+    ensures { λ r. ⌜ r ≡ infoAaOctet h b ⌝ }
 {
-    let h = d.head;
     match b {
-        AA => stored(d, b),
-        _ => after_aa(d, b, refused_by(h, refusal::CLOSING_WRONG)),
+        AA => kept(h),
+        _ => after_aa(h, b, refused_by(h, refusal::CLOSING_WRONG)),
     }
 }
 
 // "A wrong octet where the closing AA was due returns to idle."
-fn close_aa_octet(d: Decoder, b: u8) -> Taken
-    ensures { λ r. ⌜ r ≡ closeAaOctet d b ⌝ }
+fn close_aa_octet(h: Head, b: u8) -> Stepped
+    ensures { λ r. ⌜ r ≡ closeAaOctet h b ⌝ }
 {
-    let h = d.head;
     match b {
-        AA => found_at(d, Place::CloseCc, Found::Nothing),
-        _ => found_at(d, Place::Idle, refused_by(h, refusal::CLOSING_WRONG)),
+        AA => moved(h, Place::CloseCc),
+        _ => ended(h, refused_by(h, refusal::CLOSING_WRONG)),
     }
 }
 
-fn close_cc_octet(d: Decoder, b: u8) -> Taken
-    ensures { λ r. ⌜ r ≡ closeCcOctet d b ⌝ }
+fn close_cc_octet(h: Head, b: u8) -> Stepped
+    ensures { λ r. ⌜ r ≡ closeCcOctet h b ⌝ }
 {
-    let h = d.head;
     match b {
-        CC => found_at(d, Place::Cks, Found::Nothing),
-        _ => after_aa(d, b, refused_by(h, refusal::CLOSING_WRONG)),
+        CC => moved(h, Place::Cks),
+        _ => after_aa(h, b, refused_by(h, refusal::CLOSING_WRONG)),
     }
 }
 
 // The exclusive or goes on over the first n octets of INFO.
-fn info_cks(x: u8, info: [u8; INFO_MOST], n: u16) -> u8
-    ensures { λ r. ⌜ r ≡ exclusiveOr x (take n info) ⌝ }
+fn info_cks(x: u8, info: &[u8], n: u16) -> u8
+    ensures { λ r. ⌜ r ≡ exclusiveOr x (take n (now (info .entry))) ⌝ }
 {
     let m = n as usize;
-    if m <= INFO_MOST {
+    if m <= info.len() {
         octets::exclusive_or(x, &info[..m])
     } else {
-        octets::exclusive_or(x, &info)
+        octets::exclusive_or(x, info)
     }
 }
 
 // CKS as it should come: over what is kept, so before doubling.
-fn cks(d: Decoder) -> u8
-    ensures { λ r. ⌜ r ≡ cksIn d ⌝ }
+fn cks(h: Head, info: &[u8]) -> u8
+    ensures { λ r. ⌜ r ≡ cksIn h (now (info .entry)) ⌝ }
 {
-    let h = d.head;
     let k = h.kind;
     let f = crate::front(k, h.seq, h.addr, h.len);
     let x = octets::exclusive_or(0, &f);
     match k {
         Kind::Message => {
-            let info = d.info;
             let y = info_cks(x, info, h.got);
             octets::exclusive_or(y, &[AA, CC])
         }
@@ -444,87 +457,50 @@ fn sound_by(h: Head) -> Found
 }
 
 // "Refusals 1 and 3 and the end of a sound frame also leave it idle, with no AA remembered."
-fn cks_octet(d: Decoder, b: u8) -> Taken
-    ensures { λ r. ⌜ r ≡ cksOctet d b ⌝ }
+fn cks_octet(h: Head, info: &[u8], b: u8) -> Stepped
+    ensures { λ r. ⌜ r ≡ cksOctet h (now (info .entry)) b ⌝ }
 {
-    let h = d.head;
-    if cks(d) == b {
-        found_at(d, Place::Idle, sound_by(h))
+    if cks(h, info) == b {
+        ended(h, sound_by(h))
     } else {
-        found_at(d, Place::Idle, refused_by(h, refusal::CKS_WRONG))
+        ended(h, refused_by(h, refusal::CKS_WRONG))
     }
 }
 
-// SEQ, ADDR and LEN come in octet by octet, high octet first; ERR is one.
-fn with_seq(h: Head, b: u8) -> Head
-    ensures { λ r. ⌜ r ≡ withSeq h b ⌝ }
+// One octet to a possible decoder. SEQ, ADDR and LEN come in octet by octet, high octet first; ERR is one.
+fn step(mut h: Head, info: &[u8], b: u8) -> Stepped
+    requires { ⌜ possibleOf h ≡ true ⌝ }
+    ensures { λ r. ⌜ r ≡ stepAt (h .place) h (now (info .entry)) b ⌝ }
 {
-    Head {
-        place: Place::AddrHigh,
-        seq: b,
-        ..h
-    }
-}
-
-fn with_addr_high(h: Head, b: u8) -> Head
-    ensures { λ r. ⌜ r ≡ withAddrHigh h b ⌝ }
-{
-    Head {
-        place: Place::AddrLow,
-        addr: b as u16,
-        ..h
-    }
-}
-
-fn with_addr(h: Head, addr: u16) -> Head
-    ensures { λ r. ⌜ r ≡ withAddr h addr ⌝ }
-{
-    Head {
-        place: Place::LenHigh,
-        addr,
-        ..h
-    }
-}
-
-fn with_len_high(h: Head, b: u8) -> Head
-    ensures { λ r. ⌜ r ≡ withLenHigh h b ⌝ }
-{
-    Head {
-        place: Place::LenLow,
-        len: b as u16,
-        ..h
-    }
-}
-
-fn with_err(h: Head, b: u8) -> Head
-    ensures { λ r. ⌜ r ≡ withErr h b ⌝ }
-{
-    Head {
-        place: Place::Cks,
-        err: b,
-        ..h
-    }
-}
-
-// One octet to a possible decoder.
-fn step(d: Decoder, b: u8) -> Taken
-    ensures { λ r. ⌜ r ≡ stepOf d b ⌝ }
-{
-    let h = d.head;
     let p = h.place;
     match p {
-        Place::Idle => idle_octet(d, b),
-        Place::LoneAa => after_aa(d, b, Found::Nothing),
-        Place::Seq => moved(d, with_seq(h, b)),
-        Place::AddrHigh => moved(d, with_addr_high(h, b)),
-        Place::AddrLow => moved(d, with_addr(h, octets::word(octets::low(h.addr), b))),
-        Place::LenHigh => moved(d, with_len_high(h, b)),
-        Place::LenLow => len_judged(d, octets::word(octets::low(h.len), b)),
-        Place::Info => info_octet(d, b),
-        Place::InfoAa => info_aa_octet(d, b),
-        Place::CloseAa => close_aa_octet(d, b),
-        Place::CloseCc => close_cc_octet(d, b),
-        Place::Err => moved(d, with_err(h, b)),
-        Place::Cks => cks_octet(d, b),
+        Place::Idle => idle_octet(h, b),
+        Place::LoneAa => after_aa(h, b, Found::Nothing),
+        Place::Seq => {
+            h.seq = b;
+            moved(h, Place::AddrHigh)
+        }
+        Place::AddrHigh => {
+            h.addr = b as u16;
+            moved(h, Place::AddrLow)
+        }
+        Place::AddrLow => {
+            h.addr = octets::word(octets::low(h.addr), b);
+            moved(h, Place::LenHigh)
+        }
+        Place::LenHigh => {
+            h.len = b as u16;
+            moved(h, Place::LenLow)
+        }
+        Place::LenLow => len_judged(h, octets::word(octets::low(h.len), b)),
+        Place::Info => info_octet(h, b),
+        Place::InfoAa => info_aa_octet(h, b),
+        Place::CloseAa => close_aa_octet(h, b),
+        Place::CloseCc => close_cc_octet(h, b),
+        Place::Err => {
+            h.err = b;
+            moved(h, Place::Cks)
+        }
+        Place::Cks => cks_octet(h, info, b),
     }
 }

@@ -29,8 +29,8 @@ loop-again c =
       search needs,
       ⊎-elim (λ w. rw (w .1) (search needs)) (λ w. rw (w .1) (search needs)) (c .if1 .came),
       ⊎-elim (λ w. rw (w .1) (last-is (a .rec .now) (a .at) (v .end) (v .i) (search needs) l (w .0 .taken)))
-      (λ w. rw (w .1) (last-stays (a .rec .now) (a .at) (v .end) (v .i) (search needs) l (v .inv .1) (w .0 .left)))
-      (c .if1 .came),
+          (λ w. rw (w .1) (last-stays (a .rec .now) (a .at) (v .end) (v .i) (search needs) l (v .inv .1) (w .0 .left)))
+          (c .if1 .came),
     )
 
 returns : tie.Need-returns Inv-loop μ-loop

@@ -17,7 +17,7 @@ returns-4 : tie.Need-returns-4
 returns-4 c = rw (c .before .match .keys4) (c .opened3 .ensures)
 
 returns-5 : tie.Need-returns-5
-returns-5 c = let r = c .before .match .rest in rw (ne-eqb _ _ (r .0 .0 .0 .1), ne-eqb _ _ (r .0 .0 .1), ne-eqb _ _ (r .0 .1), ne-eqb _ _ (r .1)) (c .found-at2 .ensures)
+returns-5 c = let r = c .before .match .rest in rw (ne-eqb _ _ (r .0 .0 .0 .1), ne-eqb _ _ (r .0 .0 .1), ne-eqb _ _ (r .0 .1), ne-eqb _ _ (r .1)) (c .ended .ensures)
 
 pub after-aa-spec : {M : Type 1} → statement M
 after-aa-spec =

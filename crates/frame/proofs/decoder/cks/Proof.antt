@@ -7,15 +7,15 @@ use Rattle.frame.proofs.decoder.cks.Tie as tie
 
 returns : tie.Need-returns
 unfolding frontIn
-returns c = rw (c .exclusive-or2 .ensures, c .before .before .info-cks .ensures, c .before .before .before .before .before .before .exclusive-or .ensures, c .before .before .before .before .before .before .before .before .front .ensures, cks-message (c .before .before .before .before .before .before .before .before .before .before .args .d) (c .before .before .before .before .enum-told .given .1))
+returns c = let a = c .before .before .before .before .before .before .before .before .before .args in rw (c .exclusive-or2 .ensures, c .before .before .info-cks .ensures, c .before .before .before .before .before .exclusive-or .ensures, c .before .before .before .before .before .before .before .front .ensures, cks-message (a .h) (a .info .now) (c .before .before .before .enum-told .given .1))
 
 returns-2 : tie.Need-returns-2
 unfolding frontIn
-returns-2 c = rw (c .before .before .exclusive-or .ensures, c .before .before .before .before .front .ensures, cks-ack (c .before .before .before .before .before .before .args .d) (c .enum-told2 .given .1))
+returns-2 c = let a = c .before .before .before .before .before .before .args in rw (c .before .before .exclusive-or .ensures, c .before .before .before .before .front .ensures, cks-ack (a .h) (a .info .now) (c .enum-told2 .given .1))
 
 returns-3 : tie.Need-returns-3
 unfolding frontIn
-returns-3 c = rw (c .exclusive-or3 .ensures, c .before .before .before .before .exclusive-or .ensures, c .before .before .before .before .before .before .front .ensures, cks-nak (c .before .before .before .before .before .before .before .before .args .d) (c .before .before .enum-told3 .given .1))
+returns-3 c = let a = c .before .before .before .before .before .before .before .before .args in rw (c .exclusive-or3 .ensures, c .before .before .before .before .exclusive-or .ensures, c .before .before .before .before .before .before .front .ensures, cks-nak (a .h) (a .info .now) (c .before .before .enum-told3 .given .1))
 
 pub cks-spec : {M : Type 1} → statement M
 cks-spec =

@@ -5,10 +5,10 @@ use Rattle.frame.proofs.decoder.cks_octet.Statement.{statement}
 use Rattle.frame.proofs.decoder.cks_octet.Tie as tie
 
 returns : tie.Need-returns
-returns c = rw (c .found-at .ensures, c .before .sound-by .ensures, ← c .before .before .before .cks .ensures, eq-eqb _ _ (c .before .before .if1 .taken))
+returns c = rw (c .ended .ensures, c .before .sound-by .ensures, ← c .before .before .before .cks .ensures, eq-eqb _ _ (c .before .before .if1 .taken))
 
 returns-2 : tie.Need-returns-2
-returns-2 c = rw (c .found-at2 .ensures, c .before .refused-by .ensures, ← c .before .before .before .cks .ensures, ne-eqb _ _ (c .before .before .if1 .left))
+returns-2 c = rw (c .ended2 .ensures, c .before .refused-by .ensures, ← c .before .before .before .cks .ensures, ne-eqb _ _ (c .before .before .if1 .left))
 
 pub cks-octet-spec : {M : Type 1} → statement M
 cks-octet-spec =

@@ -5,10 +5,10 @@ use Rattle.frame.proofs.decoder.close_aa_octet.Statement.{statement}
 use Rattle.frame.proofs.decoder.close_aa_octet.Tie as tie
 
 returns : tie.Need-returns
-returns c = rw (c .before .match .keys1) (c .found-at .ensures)
+returns c = rw (c .before .match .keys1) (c .moved .ensures)
 
 returns-2 : tie.Need-returns-2
-returns-2 c = rw (c .found-at2 .ensures, c .before .refused-by .ensures, ne-eqb _ _ (c .before .before .match .rest .1))
+returns-2 c = rw (c .ended .ensures, c .before .refused-by .ensures, ne-eqb _ _ (c .before .before .match .rest .1))
 
 pub close-aa-octet-spec : {M : Type 1} → statement M
 close-aa-octet-spec =

@@ -5,7 +5,7 @@ use Rattle.frame.proofs.decoder.close_cc_octet.Statement.{statement}
 use Rattle.frame.proofs.decoder.close_cc_octet.Tie as tie
 
 returns : tie.Need-returns
-returns c = rw (c .before .match .keys1) (c .found-at .ensures)
+returns c = rw (c .before .match .keys1) (c .moved .ensures)
 
 returns-2 : tie.Need-returns-2
 returns-2 c = rw (c .after-aa .ensures, c .before .refused-by .ensures, ne-eqb _ _ (c .before .before .match .rest .1))

@@ -5,11 +5,17 @@ use Rattle.frame.proofs.decoder.info_aa_octet.Statement.{statement}
 use Rattle.frame.proofs.decoder.info_aa_octet.Tie as tie
 
 returns : tie.Need-returns
-returns c = rw (c .before .match .keys1) (rw (c .before .match .keys1) at (c .stored .ensures))
+returns c = rw (c .before .match .keys1) (c .kept .ensures)
 
 returns-2 : tie.Need-returns-2
 returns-2 c = rw (c .after-aa .ensures, c .before .refused-by .ensures, ne-eqb _ _ (c .before .before .match .rest .1))
 
 pub info-aa-octet-spec : {M : Type 1} → statement M
 info-aa-octet-spec =
-    tie.close (tie.spec (λ c κs. search needs) (λ c κs. search needs) (λ c κs. search needs) returns returns-2)
+    tie.close
+    (tie.spec
+    (λ c κs. search needs)
+    (λ c κs. search needs)
+    (λ c κs. search needs)
+    returns
+    returns-2)

@@ -10,7 +10,13 @@ returns : tie.Need-returns
 returns c = sym (idled-7 (c .before .before .before .args .d) (sym (c .before .possible .ensures) ∙ not-true _ (c .if1 .taken)))
 
 returns-2 : tie.Need-returns-2
-returns-2 c = c .found-at .ensures ∙ sym (idled-done (c .before .before .before .before .args .d) (sym (c .before .before .possible .ensures) ∙ not-false _ (c .before .if1 .left)))
+returns-2 c = rw (c .before .placed .ensures) (sym (idled-done (c .before .before .before .before .before .args .d) (sym (c .before .before .before .possible .ensures) ∙ not-false _ (c .before .before .if1 .left))))
 
 pub line-idle-spec : {M : Type 1} → statement M
-line-idle-spec = tie.close (tie.spec (λ c κs. search needs) returns (λ c κs. search needs) returns-2)
+line-idle-spec =
+    tie.close
+    (tie.spec
+    (λ c κs. search needs)
+    returns
+    (λ c κs. search needs)
+    returns-2)
