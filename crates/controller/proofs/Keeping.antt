@@ -38,7 +38,7 @@ use Rattle.controller.specs.declared.Shown.{Shown}
 use Rattle.controller.specs.Demand1.{SoundKept}
 use Rattle.controller.specs.Demand3.{runIn, latestAfter}
 use Rattle.controller.proofs.Judging.{four, RunningParts, sound-parts, parts-sound}
-use Rattle.controller.proofs.Laws.{octet-done, idle-done, moved-within, moved-ends}
+use Rattle.controller.proofs.Laws.{idle-done, moved-within, moved-ends}
 
 -- The octet call
 
@@ -159,12 +159,6 @@ module _ (s : State) (book out : List ℕ) (b : ℕ) where
 
   pub octet-running : octetOf s book out b .answer .state .running ≡ s .running
   octet-running = by-octet (λ _ t. t .running ≡ s .running) refl (λ _ _ _. done-left s (takenOf (s .decoder) b) book out .running)
-
--- the octet call that is done
-pub octet-left : (s : State) (book out : List ℕ) (b : ℕ) → soundOf s ≡ true → length book ≡ bookLen → outputLen ≤ length out
-    → Left (s .own) (s .running) (takenOf (s .decoder) b .decoder) (latestAfter (s .own) book (s .requested) (outcomeOf (takenOf (s .decoder) b)))
-    (octetOf s book out b .answer .state)
-octet-left s book out b h n l = rw (octet-done s book out b h n l) (done-left s (takenOf (s .decoder) b) book out)
 
 -- a plan that is ready in the book is one of its plans
 pub ready-most : (book : List ℕ) (p : ℕ) → length book ≡ bookLen → readyIn book p ≡ true → p ≤ plansMost

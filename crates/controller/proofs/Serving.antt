@@ -48,7 +48,6 @@ use Rattle.lamps.proofs.Second.{lamps-of-step}
 use Rattle.lamps.proofs.Cycle.{cycle-long}
 use Rattle.controller.specs.declared.Running.{Running}
 use Rattle.controller.specs.declared.State.{State}
-use Rattle.controller.specs.declared.Event.{Event}
 use Rattle.controller.specs.declared.Event.the-variants as event
 use Rattle.controller.specs.State.{all, outputLen, planRecord, soundOf}
 use Rattle.controller.specs.Handling as handling

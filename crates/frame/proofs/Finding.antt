@@ -62,9 +62,9 @@ module _ {P : Found → Type 0} (w : Findable P) where
     found-at LenHigh k h = w .nothing
     found-at LenLow k h = pick-by Finds (lenFits k (wordOf (lowOf n) b)) (λ _. w .nothing) (λ _. w .refused _ _ _ _ (omega arith))
     found-at Info k h = pick-by Finds (eqb b 0xAA) (λ _. w .nothing) (λ _. w .nothing)
-    found-at InfoAa k h = pick-by Finds (eqb b 0xAA) (λ _. w .nothing) (λ _. after-aa (headOf InfoAa k s e a n g) b _ (w .refused _ _ _ _ (omega arith)))
+    found-at InfoAa k h = pick-by Finds (eqb b 0xAA) (λ _. w .nothing) (λ _. after-aa (headOf InfoAa k s e a n g) b (found.Refused refusal.closingWrong k s a) (w .refused _ _ _ _ (omega arith)))
     found-at CloseAa k h = pick-by Finds (eqb b 0xAA) (λ _. w .nothing) (λ _. w .refused _ _ _ _ (omega arith))
-    found-at CloseCc k h = pick-by Finds (eqb b 0xCC) (λ _. w .nothing) (λ _. after-aa (headOf CloseCc k s e a n g) b _ (w .refused _ _ _ _ (omega arith)))
+    found-at CloseCc k h = pick-by Finds (eqb b 0xCC) (λ _. w .nothing) (λ _. after-aa (headOf CloseCc k s e a n g) b (found.Refused refusal.closingWrong k s a) (w .refused _ _ _ _ (omega arith)))
     found-at Err k h = w .nothing
     found-at Cks k h = at-cks k h
 

@@ -7,6 +7,7 @@ use native.Mathlib.Omega.{arith}
 use borrow.Author.Tests.{eq-eqb, lt-ltb, leb-true, leb-false, ltb-true, ltb-false}
 use lib.Dec.{eqb, ltb}
 use Rattle.octets.specs.Choice.{pick, both}
+use Rattle.octets.specs.Refusal as refusal
 use Rattle.octets.specs.Word.{lowOf, wordOf}
 use Rattle.octets.proofs.Laws.{pick-by, both-left, both-right}
 use Rattle.frame.specs.declared.Kind.{Kind}
@@ -77,9 +78,9 @@ module _ (s e a n g : ℕ) (l : List ℕ) (b : ℕ) (octet : b < 256) where
   step-at-place LenLow k h =
       pick-by Possible (lenFits k (wordOf (lowOf n) b)) (λ t. after-len k a (wordOf (lowOf n) b) t) (λ _. refl)
   step-at-place Info k h = pick-by Possible (eqb b 0xAA) (λ _. h) (λ _. after-kept Info k h)
-  step-at-place InfoAa k h = pick-by Possible (eqb b 0xAA) (λ _. after-kept InfoAa k h) (λ _. after-aa (headOf InfoAa k s e a n g) b _)
+  step-at-place InfoAa k h = pick-by Possible (eqb b 0xAA) (λ _. after-kept InfoAa k h) (λ _. after-aa (headOf InfoAa k s e a n g) b (found.Refused refusal.closingWrong k s a))
   step-at-place CloseAa k h = pick-by Possible (eqb b 0xAA) (λ _. h) (λ _. refl)
-  step-at-place CloseCc k h = pick-by Possible (eqb b 0xCC) (λ _. close-then-cks k h) (λ _. after-aa (headOf CloseCc k s e a n g) b _)
+  step-at-place CloseCc k h = pick-by Possible (eqb b 0xCC) (λ _. close-then-cks k h) (λ _. after-aa (headOf CloseCc k s e a n g) b (found.Refused refusal.closingWrong k s a))
   step-at-place Err k h = err-then-cks k h
   step-at-place Cks k h = pick-by Possible (eqb (cksIn (headOf Cks k s e a n g) l) b) (λ _. refl) (λ _. refl)
 
