@@ -7,4 +7,5 @@ pub mod Cases
 pub mod Keeping
 pub mod Telling
 pub mod Reportable
+pub mod Judged
 pub mod Only

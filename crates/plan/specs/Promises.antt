@@ -12,6 +12,7 @@ use Rattle.message.specs.Names.{planAt, maximumAt, redManAt, planCountAt, green
 use Rattle.message.specs.Reader.{codeIn, bodyIn, readOf}
 use Rattle.record.specs.Record.{recordLen, bookLen, plansMost, empty, ready, octetAt, wordAt, kOf, minimumOf, maximumOf, yellowOf, allRedOf, walkFlashOf, redManOf, directOf, orderOf, greenOf, cycleOf, offsetOf, Within, AllTimesFit, Empty, TimesSet, Ready}
 use Rattle.checks.specs.Standing.{standingOf}
+use Rattle.plan.specs.BuiltIn.{builtIn}
 use Rattle.plan.specs.Reading.{recordAt, readRefusal}
 use Rattle.plan.specs.Reporting.{reportTimesCode, reportPlanCode, reportRunningCode, timesInfo, planInfo, reportTimesOf, reportPlanOf}
 use Rattle.plan.specs.Setting.{planIn, countIn, setTimesCode, setPlanCode, setTimesOf, setPlanOf}
@@ -233,3 +234,19 @@ pub record ReportRead (rec : List ℕ) (p : ℕ) : Type 0 where
 -- Every plan that is not empty has a 5F C4, every ready one a 5F C5 and a 5F C8: the report's octets are read as a message, nothing refused.
 abbrev pub ReportsRead : Type 0
 ReportsRead = (rec : List ℕ) (p : ℕ) → p ≤ plansMost → ReportRead rec p
+
+-- Reading a plan: what comes of it, and why. "8 if either length is wrong, then 12 for a plan over 48, then 13 for an empty plan,
+-- or for plan 0 where the copy differs from the built-in record."
+pub data ReadingJudged (book own : List ℕ) (p : ℕ) : ℕ → Type 0 where
+  wrongLength : (length book ≡ bookLen → length own ≡ recordLen → ⊥) → ReadingJudged book own p refusal.bookWrong
+  overRange : length book ≡ bookLen → length own ≡ recordLen → plansMost < p → ReadingJudged book own p refusal.outOfRange
+  unlike : length book ≡ bookLen → length own ≡ recordLen → p ≡ 0 → (own ≡ builtIn → ⊥) → ReadingJudged book own p refusal.notReady
+  emptyPlan : length book ≡ bookLen → length own ≡ recordLen → 1 ≤ p → p ≤ plansMost → (HasTimes (recordAt book p) → ⊥) → ReadingJudged book own p refusal.notReady
+  builtInRead : length book ≡ bookLen → p ≡ 0 → own ≡ builtIn → ReadingJudged book own p refusal.none
+  bookRead : length book ≡ bookLen → length own ≡ recordLen → 1 ≤ p → p ≤ plansMost → HasTimes (recordAt book p) → ReadingJudged book own p refusal.none
+
+-- "When, and only then": refusals 8, 12 and 13 of reading a plan.
+abbrev pub PlansReadSo : Type 0
+PlansReadSo =
+    (book own : List ℕ) (p n : ℕ) → Octets book
+    → (ReadingJudged book own p n → n ≡ readRefusal book own p) × (n ≡ readRefusal book own p → ReadingJudged book own p n)

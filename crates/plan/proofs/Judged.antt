@@ -1,0 +1,74 @@
+-- Refusals 8, 12 and 13 of reading a plan come when, and only when, 01 says.
+use Prim.Native.Nat.{ℕ, _≤_}
+use mathlib.Core.Path.{_≡_, refl, sym, subst, _∙_}
+use mathlib.Core.Bool.{Bool, true, false}
+use mathlib.Core.List.{List}
+use native.Mathlib.Decide.{decLe, ℕ-discrete}
+use native.Mathlib.Omega.{arith}
+use lib.ListN.{length}
+use Rattle.octets.specs.Octet.{Octets}
+use Rattle.octets.specs.Refusal as refusal
+use Rattle.octets.proofs.Laws.{clash}
+use Rattle.record.specs.Record.{recordLen, plansMost, bookLen, empty}
+use Rattle.checks.specs.Standing.{standingOf}
+use Rattle.plan.specs.BuiltIn.{builtIn}
+use Rattle.plan.specs.Reading.{startOf, recordAt, same, readRefusal}
+use Rattle.plan.specs.Promises.{ReadingJudged, wrongLength, overRange, unlike, emptyPlan, builtInRead, bookRead, PlansReadSo}
+use Rattle.plan.proofs.Readying.{stands-has, has-stands}
+use Rattle.plan.proofs.Laws.{same-is, is-same, length-built-in, octets-part, refused-book, refused-own, refused-range, read-zero, refused-zero, refused-empty, read-set}
+
+module _ (book own : List ℕ) (p : ℕ) (o : Octets book) where
+  octets : Octets (recordAt book p)
+  octets = octets-part recordLen (startOf p) book o
+
+  module _ (hb : length book ≡ bookLen) (ho : length own ≡ recordLen) where
+    zero-by : p ≡ 0 → (t : Bool) → t ≡ same own builtIn → ReadingJudged book own p (readRefusal book own p)
+    zero-by z true e = subst (ReadingJudged book own p) (read-zero book own p hb ho (omega (arith, z)) z e refl) (builtInRead hb z (same-is own builtIn (sym e)))
+    zero-by z false e =
+        subst (ReadingJudged book own p) (refused-zero book own p hb ho (omega (arith, z)) z e refl)
+        (unlike hb ho z (λ q. clash (sym e) (rw q (is-same builtIn))))
+
+    module _ (l : 1 ≤ p) (m : p ≤ plansMost) where
+      stands-by : Dec (standingOf (recordAt book p) ≡ empty) → ReadingJudged book own p (readRefusal book own p)
+      stands-by (yes z) =
+          subst (ReadingJudged book own p) (refused-empty book own p hb ho m (λ z. omega (arith, z)) refl z)
+          (emptyPlan hb ho l m (λ h. has-stands (recordAt book p) octets h z))
+      stands-by (no n) =
+          subst (ReadingJudged book own p) (read-set book own p hb ho m (λ z. omega (arith, z)) refl n)
+          (bookRead hb ho l m (stands-has (recordAt book p) octets n))
+
+    known-by : Dec (p ≤ plansMost) → Dec (p ≡ 0) → ReadingJudged book own p (readRefusal book own p)
+    known-by (no n) d = subst (ReadingJudged book own p) (refused-range book own p hb ho (omega (arith, n))) (overRange hb ho (omega (arith, n)))
+    known-by (yes m) (yes z) = zero-by z (same own builtIn) refl
+    known-by (yes m) (no n) = stands-by (omega (arith, n)) m (ℕ-discrete (standingOf (recordAt book p)) empty)
+
+  only-then : Dec (length book ≡ bookLen) → Dec (length own ≡ recordLen) → ReadingJudged book own p (readRefusal book own p)
+  only-then (no n) d = subst (ReadingJudged book own p) (refused-book book own p n) (wrongLength (λ b _. n b))
+  only-then (yes b) (no n) = subst (ReadingJudged book own p) (refused-own book own p b n) (wrongLength (λ _ q. n q))
+  only-then (yes b) (yes q) = known-by b q (decLe p plansMost) (ℕ-discrete p 0)
+
+  when : {n : ℕ} → ReadingJudged book own p n → n ≡ readRefusal book own p
+  when (wrongLength n) = by (ℕ-discrete (length book) bookLen)
+    where
+      by : Dec (length book ≡ bookLen) → refusal.bookWrong ≡ readRefusal book own p
+      by (no m) = refused-book book own p m
+      by (yes b) = refused-own book own p b (n b)
+  when (overRange b q l) = refused-range book own p b q l
+  when (unlike b q z n) = refused-zero book own p b q (omega (arith, z)) z refl (not-same (same own builtIn) refl)
+    where
+      not-same : (t : Bool) → same own builtIn ≡ t → same own builtIn ≡ false
+      not-same true e = absurd (n (same-is own builtIn e))
+      not-same false e = e
+  when (emptyPlan b q l m h) = by (ℕ-discrete (standingOf (recordAt book p)) empty)
+    where
+      by : Dec (standingOf (recordAt book p) ≡ empty) → refusal.notReady ≡ readRefusal book own p
+      by (yes e) = refused-empty book own p b q m (λ z. omega (arith, z)) refl e
+      by (no n) = absurd (h (stands-has (recordAt book p) octets n))
+  when (builtInRead b z e) = read-zero book own p b (rw e length-built-in) (omega (arith, z)) z refl (rw e (is-same builtIn))
+  when (bookRead b q l m h) = read-set book own p b q m (λ z. omega (arith, z)) refl (has-stands (recordAt book p) octets h)
+
+pub plans-read-so : PlansReadSo
+plans-read-so book own p n o = (
+  when book own p o,
+  λ e. subst (ReadingJudged book own p) (sym e) (only-then book own p o (ℕ-discrete (length book) bookLen) (ℕ-discrete (length own) recordLen)),
+)
