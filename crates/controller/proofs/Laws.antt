@@ -16,7 +16,7 @@ use Rattle.octets.specs.Put.{Put}
 use Rattle.octets.specs.Refusal as refusal
 use Rattle.octets.proofs.Laws.{put-stored}
 use Rattle.frame.specs.declared.decoder.Taken.{Taken}
-use Rattle.frame.specs.Decoder.{drops, possibleOf, takenOf, idledOf}
+use Rattle.frame.specs.Decoder.{idleDrops, possibleOf, takenOf, idledOf}
 use Rattle.frame.specs.Run.{Outcome, outcomeOf}
 use Rattle.frame.proofs.Laws.{taken-dropped}
 use Rattle.message.specs.declared.Message.{Message}
@@ -73,7 +73,7 @@ module _ (s : State) (book out : List ℕ) (b : ℕ) where
   octet-done h n l = rw (h, eq-eqb (length book) bookLen n, le-leb outputLen (length out) l)
 
   -- an octet that is dropped leaves everything as it is
-  pub octet-dropped : drops (s .decoder .head .place) b ≡ true → doneOf s (takenOf (s .decoder) b) book out ≡ refusedCall s refusal.none book out
+  pub octet-dropped : idleDrops (s .decoder .head .place) b ≡ true → doneOf s (takenOf (s .decoder) b) book out ≡ refusedCall s refusal.none book out
   unfolding doneOf
   octet-dropped h = ap (λ (t : Taken). doneOf s t book out) (taken-dropped (s .decoder) b h)
 

@@ -48,7 +48,7 @@ pub(crate) fn taken(s: State, book: &mut [u8], out: &mut [u8], b: u8) -> Answer
     ensures { λ r. ⌜ Did (doneOf s (takenOf (s .decoder) b) (now (book .entry)) (now (out .entry))) r (now (book .exit)) (now (out .exit)) ⌝ }
 {
     let h = s.decoder.head;
-    if decoder::drops(h, b) {
+    if decoder::idle_drops(h, b) {
         return crate::quiet(s, refusal::NONE);
     }
     let d = s.decoder;

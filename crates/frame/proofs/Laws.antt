@@ -20,7 +20,7 @@ use Rattle.frame.specs.declared.decoder.Head.{Head}
 use Rattle.frame.specs.declared.decoder.Decoder.{Decoder}
 use Rattle.frame.specs.Frame.{Frame, message, ack, nak, infoLeast, infoMost, messageLen, ackLen, nakLen, lenFits, infoFits, front, frontOf, bodyOf, sentOf, cksOf, twice, doubled, written}
 use Rattle.frame.specs.Writer.{writeOf}
-use Rattle.frame.specs.Decoder.{infoDue, infoWhole, drops, possibleOf, possibleAt, stepped, placed, ended, afterAa, stepOf, stepAt, cksIn, frontIn, taken, infoThen, takenAs, takenOf, idledOf, unsound, headOf, lenJudged, afterLen, refusedBy}
+use Rattle.frame.specs.Decoder.{infoDue, infoWhole, idleDrops, possibleOf, possibleAt, stepped, placed, ended, afterAa, stepOf, stepAt, cksIn, frontIn, taken, infoThen, takenAs, takenOf, idledOf, unsound, headOf, lenJudged, afterLen, refusedBy}
 use Rattle.frame.specs.declared.decoder.Place.the-variants.{Idle, LoneAa, Seq, AddrHigh, AddrLow, LenHigh, LenLow, Info, InfoAa, CloseAa, CloseCc, Err, Cks}
 use Rattle.frame.specs.declared.decoder.Stepped.{Stepped}
 use Rattle.frame.specs.declared.decoder.Found.{Found}
@@ -190,11 +190,11 @@ module _ (d : Decoder) where
     taken-done h = rw h
 
     -- an octet that is dropped leaves the decoder as it is
-    pub taken-dropped : drops (d .head .place) b ≡ true → takenOf d b ≡ taken (d .head) (d .info) Nothing
+    pub taken-dropped : idleDrops (d .head .place) b ≡ true → takenOf d b ≡ taken (d .head) (d .info) Nothing
     unfolding takenOf stepOf possibleOf
     taken-dropped h = let q = d .head in by (q .place) (q .kind) (q .seq) (q .err) (q .addr) (q .len) (q .got) (d .info) h
       where
-        by : (p : Place) (k : Kind) (s e a n g : ℕ) (i : List ℕ) → drops p b ≡ true → takenOf (record { head = headOf p k s e a n g; info = i }) b ≡ taken (headOf p k s e a n g) i Nothing
+        by : (p : Place) (k : Kind) (s e a n g : ℕ) (i : List ℕ) → idleDrops p b ≡ true → takenOf (record { head = headOf p k s e a n g; info = i }) b ≡ taken (headOf p k s e a n g) i Nothing
         by Idle k s e a n g i h = rw (not-true (eqb b 0xAA) h)
         by LoneAa k s e a n g i h = absurd (clash refl h)
         by Seq k s e a n g i h = absurd (clash refl h)

@@ -5,7 +5,7 @@ use Rattle.frame.proofs.decoder.fresh.Reads as fresh
 use Rattle.frame.proofs.decoder.octet.Reads as octet
 use Rattle.frame.proofs.decoder.line_idle.Reads as line-idle
 use Rattle.frame.proofs.decoder.possible.Reads as possible
-use Rattle.frame.proofs.decoder.drops.Reads as drops
+use Rattle.frame.proofs.decoder.idle_drops.Reads as idle-drops
 use Rattle.frame.proofs.writer.write_message.Reads as write-message
 use Rattle.frame.proofs.writer.write_ack.Reads as write-ack
 use Rattle.frame.proofs.writer.write_nak.Reads as write-nak
@@ -22,8 +22,8 @@ only-line-idle κs a r s x y p q = p ∙ sym q
 only-possible : (κs : _) (a : _) (r s : _) (x y : _) → possible.Post κs a r x → possible.Post κs a s y → r ≡ s
 only-possible κs a r s x y p q = p ∙ sym q
 
-only-drops : (κs : _) (a : _) (r s : _) (x y : _) → drops.Post κs a r x → drops.Post κs a s y → r ≡ s
-only-drops κs a r s x y p q = p ∙ sym q
+only-idle-drops : (κs : _) (a : _) (r s : _) (x y : _) → idle-drops.Post κs a r x → idle-drops.Post κs a s y → r ≡ s
+only-idle-drops κs a r s x y p q = p ∙ sym q
 
 only-write-message : (κs : _) (a : _) (r s : _) (x y : _) → write-message.Post κs a r x → write-message.Post κs a s y
     → (r ≡ s) × (now (x .1 .1 .1 .0) ≡ now (y .1 .1 .1 .0))

@@ -106,21 +106,21 @@ refusedBy h n = found.Refused n (h .kind) (h .seq) (h .addr)
 abbrev pub idleOctet : Head → ℕ → Stepped
 idleOctet h b = pick (eqb b 0xAA) (moved h LoneAa) (moved h Idle)
 
--- does it drop the octet?
-abbrev pub drops : Place → ℕ → Bool
-drops Idle b = not (eqb b 0xAA)
-drops LoneAa b = false
-drops Seq b = false
-drops AddrHigh b = false
-drops AddrLow b = false
-drops LenHigh b = false
-drops LenLow b = false
-drops Info b = false
-drops InfoAa b = false
-drops CloseAa b = false
-drops CloseCc b = false
-drops Err b = false
-drops Cks b = false
+-- is the octet dropped so?
+abbrev pub idleDrops : Place → ℕ → Bool
+idleDrops Idle b = not (eqb b 0xAA)
+idleDrops LoneAa b = false
+idleDrops Seq b = false
+idleDrops AddrHigh b = false
+idleDrops AddrLow b = false
+idleDrops LenHigh b = false
+idleDrops LenLow b = false
+idleDrops Info b = false
+idleDrops InfoAa b = false
+idleDrops CloseAa b = false
+idleDrops CloseCc b = false
+idleDrops Err b = false
+idleDrops Cks b = false
 
 -- "After a lone AA: BB, DD or EE opens a frame, AA stays remembered, all else returns to idle."
 abbrev pub afterAa : Head → ℕ → Found → Stepped

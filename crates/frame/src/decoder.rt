@@ -5,7 +5,7 @@ ghost use Prim.Native.Nat.{_≤_, _<_};
 ghost use lib.ListN.{take};
 ghost use Rattle.octets.specs.ExclusiveOr.{exclusiveOr};
 ghost use Rattle.frame.specs.Frame.{lenFits, infoMost};
-ghost use Rattle.frame.specs.Decoder.{freshDecoder, infoDue, infoWhole, errDue, cksDue, drops, possibleOf, placed, foundAt, moved, ended, opened, refusedBy, idleOctet, afterAa, afterLen, lenJudged, afterInfo, kept, infoOctet, infoAaOctet, closeAaOctet, closeCcOctet, cksIn, soundBy, cksOctet, stepAt, takenOf, idledOf};
+ghost use Rattle.frame.specs.Decoder.{freshDecoder, infoDue, infoWhole, errDue, cksDue, idleDrops, possibleOf, placed, foundAt, moved, ended, opened, refusedBy, idleOctet, afterAa, afterLen, lenJudged, afterInfo, kept, infoOctet, infoAaOctet, closeAaOctet, closeCcOctet, cksIn, soundBy, cksOctet, stepAt, takenOf, idledOf};
 use crate::AA;
 use crate::ACK_LEN;
 use crate::BB;
@@ -147,8 +147,8 @@ pub fn line_idle(d: Decoder) -> Taken
 }
 
 // "Idle: AA is remembered, all else is dropped." What is dropped leaves the decoder as it is.
-pub fn drops(h: Head, b: u8) -> bool
-    ensures { λ r. ⌜ r ≡ drops (h .place) b ⌝ }
+pub fn idle_drops(h: Head, b: u8) -> bool
+    ensures { λ r. ⌜ r ≡ idleDrops (h .place) b ⌝ }
 {
     let p = h.place;
     match p {

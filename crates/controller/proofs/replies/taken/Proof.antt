@@ -12,7 +12,7 @@ returns : tie.Need-returns
 returns c =
     let d = c .before .before in
     let a = d .before .before .before .before .args in
-    rw (octet-dropped (a .s) (a .book .now) (a .out .now) (a .b) (sym (d .drops .ensures) ∙ c .before .if1 .taken)) (record { answer = c .quiet .ensures; book = refl; out = refl })
+    rw (octet-dropped (a .s) (a .book .now) (a .out .now) (a .b) (sym (d .idle-drops .ensures) ∙ c .before .if1 .taken)) (record { answer = c .quiet .ensures; book = refl; out = refl })
 
 by-found-requires : tie.Need-by-found-requires
 by-found-requires c κs =
