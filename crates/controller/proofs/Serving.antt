@@ -56,6 +56,7 @@ use Rattle.controller.specs.Calls.{Call, sent, errOf, naks, forUs, isAns
 use Rattle.controller.specs.Demand1.{InDone}
 use Rattle.controller.specs.Demand2.{Wrote, Err, IsAnswer, RepliesSo, Replies, Answers, CarriedOut, Reported, Refused, HandledSo, Handles, SecondsShow}
 use Rattle.controller.proofs.Judging.{RunningParts, sound-parts, record-octets}
+use Rattle.controller.proofs.Keeping.{second-left}
 use Rattle.controller.proofs.Laws.{octet-brings, message-other, message-answer, message-handled, second-done}
 use Rattle.controller.proofs.Replying.{carried-out-info, refused-info, plan-most, reply-fits, nak-fits, ack-fits, sent-most}
 use Rattle.controller.proofs.Answering.{read-in-done, written-take}
@@ -198,6 +199,7 @@ seconds-show s book h hb o =
     record {
       plan = rw (second-done s book h hb);
       row = rw (second-done s book h hb) (lamps-of-step (s .running .copy) (s .running .position) (omega (arith, u .position, c .rows)));
+      rest = second-left s book;
     }
 
 -- The INFO of a plan's reports

@@ -26,7 +26,7 @@ use Rattle.lamps.specs.Rows.{secondsOf, stepsOf}
 use Rattle.lamps.specs.Promises.{Due}
 use Rattle.controller.specs.declared.State.{State}
 use Rattle.controller.specs.declared.Event.the-variants as event
-use Rattle.controller.specs.State.{all, outputLen, soundOf, planRecord, withDecoder}
+use Rattle.controller.specs.State.{all, outputLen, soundOf, planRecord, withDecoder, withRunning}
 use Rattle.controller.specs.Handling.{runCode, queryTimesCode, queryPlanCode, queryRunningCode}
 use Rattle.controller.specs.Calls.{Call, sent, octetOf, secondOf}
 
@@ -170,6 +170,7 @@ Handles =
 pub record ShowsStep (s : State) (book : List ℕ) : Type 0 where
   pub plan : secondOf s book .plan ≡ s .running .plan
   pub row : Due (secondsOf (s .running .copy)) (orderOf (s .running .copy)) (stepsOf (s .running .copy)) (s .running .position) (secondOf s book .row)
+  pub rest : secondOf s book .state ≡ withRunning s (secondOf s book .state .running)
 
 abbrev pub SecondsShow : Type 0
 SecondsShow = (s : State) (book : List ℕ) → soundOf s ≡ true → length book ≡ bookLen → Octets (s .running .copy) → ShowsStep s book
