@@ -44,7 +44,7 @@ use Rattle.controller.specs.State.{all, outputLen, planRecord, readyIn, 
 use Rattle.controller.specs.Handling as handling
 use Rattle.controller.specs.Handling.{setAs, unlessUnread, runAs, queryTimesAs, queryPlanAs, queryRunningAs, handlingOf}
 use Rattle.controller.specs.Calls.{Call, sent, refusedCall, errOf, naks, acks, forUs, isAnswer, repliesOf, CanFind, Bringing, unchanged, leaves, repliedOf, messageOf, eventFor, broughtOf, madeOf, startedOf, octetOf, secondOf, noSecond}
-use Rattle.controller.specs.Demand1.{Sound, SoundAsItIs, OctetRefused, InDone, OctetsAnswered, SecondRefused, SecondsAnswered, IdlesAnswered, StartsAnswered, RefusedLeavesBook, OutputsLeft}
+use Rattle.controller.specs.Demand1.{Sound, SoundAsItIs, OctetRefused, InDone, OctetsAnswered, SecondRefused, SecondsAnswered, IdlesAnswered, StartsAnswered, RefusedLeavesBook, OutputsLeft, NumbersAsSaid}
 use Rattle.controller.proofs.Laws.{octet-7, octet-8, octet-9, octet-brings, idle-7, idle-done, second-7, second-8, second-done}
 use Rattle.controller.proofs.Judging.{RunningParts, SoundParts, sound-parts, parts-sound}
 use Rattle.controller.proofs.Keeping.{fresh-sound}
@@ -334,3 +334,6 @@ outputs-left s book out b =
         let vs = sent (w .result .frames) in
         let h : length vs ≤ length out = omega arith in
         record { beyond = written-drop vs out h; long = length-sets out 0 vs; within = h; most = f }
+
+pub numbers-as-said : NumbersAsSaid
+numbers-as-said = (refl, refl, refl, refl, refl)

@@ -11,7 +11,7 @@ use Rattle.octets.specs.Octet.{Octets}
 use Rattle.octets.specs.Refusal as refusal
 use Rattle.frame.specs.declared.decoder.Place.the-variants.{Idle}
 use Rattle.frame.specs.Decoder.{possibleOf}
-use Rattle.record.specs.Record.{plansMost, bookLen, cycleOf, Ready}
+use Rattle.record.specs.Record.{recordLen, plansMost, bookLen, cycleOf, Ready}
 use Rattle.plan.specs.BuiltIn.{builtIn}
 use Rattle.controller.specs.declared.Running.{Running}
 use Rattle.controller.specs.declared.State.{State}
@@ -120,3 +120,8 @@ pub record SoundKeptBy (s : State) : Type 0 where
 
 abbrev pub SoundKept : Type 0
 SoundKept = (s : State) → SoundKeptBy s
+
+-- The numbers that the demands name: "Plan p, 1 to 48, has 80 octets", "plan book is not 3,840 octets", "544 for an octet call",
+-- "FFFF is for all"
+abbrev pub NumbersAsSaid : Type 0
+NumbersAsSaid = (recordLen ≡ 80) × (plansMost ≡ 48) × (bookLen ≡ 3840) × (outputLen ≡ 544) × (all ≡ 0xFFFF)
