@@ -21,8 +21,9 @@ GAP = re.compile(r"\s+|//[^\n]*")
 ANTT_BLANK = re.compile(r'\{-|"(?:\\.|[^"\\])*"|(?<![^\s(){}.;,@"«»])--[^\n]*', re.S)
 
 # `owner` is the type whose `impl` the function stands in, or None; `public` says that the function is marked `pub` and,
-# if it has no owner, that each `mod` on the way to it is `pub mod`
-Function = collections.namedtuple("Function", "name place owner public clauses")
+# if it has no owner, that each `mod` on the way to it is `pub mod`; `path` and `lines` are its file and the lines of it
+# from `fn` to the closing brace
+Function = collections.namedtuple("Function", "name path lines owner public clauses")
 
 
 class Unreadable(Exception):
@@ -83,8 +84,11 @@ class Source:
     def __init__(self, path):
         self.path, self.text, self.at = path, read(path), 0
 
+    def line(self):
+        return self.text.count("\n", 0, self.at) + 1
+
     def place(self):
-        return "%s:%d" % (self.path, self.text.count("\n", 0, self.at) + 1)
+        return "%s:%d" % (self.path, self.line())
 
     def token(self):
         """The next token, or '' at the end; comments are passed over."""
@@ -180,7 +184,7 @@ class Library:
             if token == "extern" and source.token() == '"C"' and source.peek() == "fn":
                 continue
             if token == "fn":
-                self.function(source, module, is_open, owner, pub, place)
+                self.function(source, module, is_open, owner, pub)
             elif token == "mod":
                 self.module(source, module, is_open and pub)
             elif token == "impl":
@@ -202,8 +206,8 @@ class Library:
                 source.refuse(token)
             pub = False
 
-    def function(self, source, module, is_open, owner, pub, place):
-        name, clauses = source.token(), []
+    def function(self, source, module, is_open, owner, pub):
+        first, name, clauses = source.line(), source.token(), []
         while True:
             token = source.token()
             if token in CLAUSES:
@@ -217,7 +221,9 @@ class Library:
             elif token in ("", ";") or token in CLOSER.values():
                 source.refuse(token)
         path = module + [owner] * (owner is not None) + [name]
-        self.functions.append(Function("::".join(path), place, owner, pub and (is_open or owner is not None), clauses))
+        lines = range(first, source.line() + 1)
+        is_public = pub and (is_open or owner is not None)
+        self.functions.append(Function("::".join(path), source.path, lines, owner, is_public, clauses))
 
     def module(self, source, module, is_open):
         inner = module + [source.token()]
