@@ -19,14 +19,6 @@ use Rattle.message.proofs.ReadSo.{parts-read-so}
 use Rattle.diagram.specs.Table.{phasesOf}
 use Rattle.record.specs.Record.{octetAt, wordAt, kOf, timesAt, minimumOf, maximumOf, yellowOf, allRedOf, walkFlashOf, redManOf, Within, TimesFit}
 
-pub size-append : (fs gs : List Field) → sizeOf (fs ++ gs) ≡ sizeOf fs + sizeOf gs
-size-append [] gs = omega arith
-size-append (f ∷ fs) gs = omega (arith, size-append fs gs)
-
-pub size-repeated : (g : List Field) (k : ℕ) → sizeOf (repeated k g) ≡ k * sizeOf g
-size-repeated g zero = sym (zero-mul (sizeOf g))
-size-repeated g (suc k) = omega (arith, size-append g (repeated k g), size-repeated g k, suc-mul k (sizeOf g))
-
 -- each field passes, left to right
 abbrev pub Pass : List Field → List ℕ → Type 0
 Pass [] os = Unit

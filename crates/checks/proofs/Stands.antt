@@ -14,6 +14,7 @@ use Rattle.octets.specs.First.{First, firstOf}
 use Rattle.octets.specs.Octet.{Octets}
 use Rattle.octets.specs.Refusal as refusal
 use Rattle.octets.proofs.Laws.{both-left, both-right, clash, first-none, first-one}
+use Rattle.octets.proofs.Search.{search-first}
 use Rattle.diagram.specs.Table.{phasesOf}
 use Rattle.message.specs.declared.layout.Field.{Field}
 use Rattle.message.specs.Fields as field
@@ -22,12 +23,12 @@ use Rattle.message.specs.Layouts.{layouts, layoutAt, rowsAt, rowsOf, repeated, 
 use Rattle.message.specs.Values.{sizeOf}
 use Rattle.message.specs.Reader.{readPartOf}
 use Rattle.message.specs.Promises.{Known, InRange}
-use Rattle.message.proofs.Search.{search-first}
+use Rattle.message.proofs.Values.{size-append, size-repeated}
 use Rattle.record.specs.Record.{recordLen, empty, timesSet, ready, stateOf, kOf, timesAt, timesEnd, readyEnd, greensAt, minimumOf, maximumOf, walkFlashOf, redManOf, directOf, orderOf, greenOf, cycleOf, offsetOf, sumOf, Within, TimesFit, AllTimesFit, ZeroFrom, GreensFit, TimesSet, Ready}
 use Rattle.checks.specs.Standing.{headLen, between, timesFail, timesChecks, timesDisagree, greenFails, planFails, planChecks, planDisagree, ranged, timesStand, planStands, readyStands, allZero, standingOf, Stands, StandsAsItIs}
 use Rattle.record.proofs.Laws.{octet-below}
 use Rattle.checks.proofs.Laws.{fails-green, fails-cycle, fails-offset}
-use Rattle.checks.proofs.Fields.{size-append, size-repeated, Pass, Read1, read-pass, pass-read, pass-whole, pass-part, pass-repeated, repeated-pass, phase-in, phase-out, greens-in, greens-out, at-one, within, inside}
+use Rattle.checks.proofs.Fields.{Pass, Read1, read-pass, pass-read, pass-whole, pass-part, pass-repeated, repeated-pass, phase-in, phase-out, greens-in, greens-out, at-one, within, inside}
 
 -- The agreement of the times
 

@@ -9,11 +9,11 @@ use borrow.Author.Tests.{eq-eqb, ne-eqb, eqb-true, leb-true}
 use lib.Dec.{eqb, leb, ltb}
 use lib.ListN.{length, getD}
 use Rattle.octets.specs.Choice.{pick, both}
+use Rattle.octets.proofs.Every.{every, every-at, below, below-at, all, all-at}
 use Rattle.diagram.specs.declared.Diagram.{Diagram}
 use Rattle.diagram.specs.Table.{Row, rows, diagram, directory, unknown, find, diagramOf, phasesOf, stepsIn, stepsOf, rowNumber}
 use Rattle.diagram.specs.Known.{noLine, lineAt, Known, EachFound, KnownPhases, EachUsed, AllDark, OutsideDark, Absent, UnknownDark}
 use Rattle.diagram.proofs.Laws.{number-none, number-past, row-past}
-use Rattle.diagram.proofs.Every.{every, every-at, below, below-at, all, all-at}
 
 -- What is not there
 

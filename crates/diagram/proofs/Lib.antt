@@ -1,5 +1,4 @@
 pub mod Laws
-pub mod Every
 pub mod Known
 pub mod Rule
 pub mod Words

@@ -9,11 +9,11 @@ use borrow.Author.Tests.{not-true}
 use lib.ListN.{getD}
 use Rattle.octets.specs.Choice.{both}
 use Rattle.octets.proofs.Laws.{both-left, both-right, clash}
+use Rattle.octets.proofs.Every.{every, every-at, below, below-at}
 use Rattle.diagram.specs.declared.Diagram.{Diagram}
 use Rattle.diagram.specs.Table.{Row, rows, darkRow, directory, diagramOf, stepsIn}
 use Rattle.diagram.specs.Lamps.{bit, lit, redLit, yellowLit, greenLit, redManLit, greenManLit, approachesInWord, Shows, Dark, LampRule}
 use Rattle.diagram.proofs.Laws.{row-there}
-use Rattle.diagram.proofs.Every.{every, every-at, below, below-at}
 use Rattle.diagram.proofs.Known.{found-passes}
 
 -- The test

@@ -11,9 +11,9 @@ use lib.Dec.{ltb}
 use lib.ListN.{getD}
 use Rattle.octets.specs.Choice.{both}
 use Rattle.octets.proofs.Laws.{clash}
+use Rattle.octets.proofs.Every.{every, every-at, all, all-at, below, below-at}
 use Rattle.diagram.specs.Table.{Row, rows, darkRow, rowNumber, rowOf, steadyOf, flashingOf}
 use Rattle.diagram.specs.Lamps.{bit, lampIn, lastLamp, SteadyOrFlashing, WordsFit}
-use Rattle.diagram.proofs.Every.{every, every-at, all, all-at, below, below-at}
 
 abbrev notBoth : Row → ℕ → Bool
 notBoth r i = not (both (bit (r .steady) i) (bit (r .flashing) i))

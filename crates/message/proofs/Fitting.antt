@@ -13,7 +13,7 @@ use Rattle.octets.specs.Choice.{both}
 use Rattle.octets.specs.Octet.{Octets}
 use Rattle.octets.specs.Word.{lowOf}
 use Rattle.octets.proofs.Laws.{both-left, both-right, word-back, high-word, low-word}
-use Rattle.diagram.proofs.Every.{every, every-at}
+use Rattle.octets.proofs.Every.{every, every-at}
 use Rattle.message.specs.declared.layout.Field.{Field}
 use Rattle.message.specs.declared.layout.Field.the-variants.{Octet, Two, Order}
 use Rattle.message.specs.Fields.{twoOf, widthOf, valueOf, fieldOctets, noField}

@@ -11,8 +11,8 @@ use lib.Dec.{leb}
 use lib.ListN.{length, getD, drop, length-append, length-drop, List·getD-append, List·getD-eq-default, List·getD-map}
 use lib.Seq.{getD-take, getD-drop, length-take-le}
 use Rattle.octets.specs.Choice.{both}
-use Rattle.octets.proofs.Laws.{both-left, both-right}
-use Rattle.diagram.proofs.Every.{every, every-at}
+use Rattle.octets.proofs.Laws.{both-left, both-right, getD-past}
+use Rattle.octets.proofs.Every.{every, every-at}
 use Rattle.message.specs.declared.layout.Entry.{Entry}
 use Rattle.message.specs.declared.layout.Field.{Field}
 use Rattle.message.specs.declared.layout.Layout.{Layout}
@@ -21,7 +21,6 @@ use Rattle.message.specs.Layouts as specified
 use Rattle.message.specs.Layouts.{layouts, layoutAt, noLayout, mostAt, rowsOf, rowsAt, kFits, repeated}
 use Rattle.message.specs.Values.{fieldsMost}
 use Rattle.message.specs.Table.{table, tableLen, cut, keptBy, Kept}
-use Rattle.message.proofs.Search.{getD-past}
 
 pub length-repeated : (k : ℕ) (g : List Field) → length (repeated k g) ≡ k * length g
 length-repeated zero g = sym (zero-mul (length g))

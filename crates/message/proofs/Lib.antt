@@ -1,5 +1,4 @@
 pub mod Apart
-pub mod Search
 pub mod Layouts
 pub mod Values
 pub mod Reading

@@ -8,26 +8,19 @@ use native.Mathlib.Omega.{arith}
 use lib.ListN.{length, getD, take, drop, length-append, List·getD-append}
 use lib.Seq.{getD-append-add, drop-append-add, getD-drop, take-add, take-append-add, take-append-le}
 use Rattle.octets.specs.First.{firstOf}
+use Rattle.octets.proofs.Search.{search-first}
 use Rattle.message.specs.declared.layout.Field.{Field}
 use Rattle.message.specs.Fields as field
 use Rattle.message.specs.Fields.{twoOf, noField}
 use Rattle.message.specs.Layouts.{layouts, layoutAt, numberOf, codes, rowsAt, rowsOf, repeated, times, greens, cycleOffset}
 use Rattle.message.specs.Values.{sizeOf, startOf}
 use Rattle.message.specs.Promises.{CodesListed, Stands, PhaseFields, GreenFields, TimesFields, PlanFields, OnePlan, FieldNumbers, StoredParts}
-use Rattle.message.proofs.Search.{search-first}
 use Rattle.message.proofs.Layouts.{length-repeated}
+use Rattle.message.proofs.Values.{size-append, size-repeated}
 
 pub codes-listed : CodesListed
 unfolding numberOf
 codes-listed c = search-first _ codes
-
-size-append : (fs gs : List Field) → sizeOf (fs ++ gs) ≡ sizeOf fs + sizeOf gs
-size-append [] gs = omega arith
-size-append (f ∷ fs) gs = omega (arith, size-append fs gs)
-
-size-repeated : (g : List Field) (k : ℕ) → sizeOf (repeated k g) ≡ k * sizeOf g
-size-repeated g zero = sym (zero-mul (sizeOf g))
-size-repeated g (suc k) = omega (arith, size-append g (repeated k g), size-repeated g k, suc-mul k (sizeOf g))
 
 module _ (g t : List Field) where
   drop-repeated : (k i : ℕ) → i ≤ k → drop (i * length g) (repeated k g ++ t) ≡ repeated (k - i) g ++ t

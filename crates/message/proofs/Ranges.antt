@@ -10,14 +10,14 @@ use lib.Dec.{leb}
 use lib.ListN.{length, getD, replicate, List·getD-append, List·getD-eq-default}
 use Rattle.octets.specs.Choice.{both}
 use Rattle.octets.specs.First.{First}
-use Rattle.octets.proofs.Laws.{both-left, both-right, clash, first-none, first-found, first-one}
+use Rattle.octets.proofs.Laws.{both-left, both-right, clash, first-none, first-found, first-one, getD-past}
+use Rattle.octets.proofs.Search.{search-first}
 use Rattle.diagram.specs.Table.{phasesOf}
 use Rattle.message.specs.declared.layout.Field.{Field}
 use Rattle.message.specs.declared.layout.Field.the-variants.{Octet, Two, Order}
 use Rattle.message.specs.Fields.{passes, noField}
 use Rattle.message.specs.Values.{fieldsMost, placed, outAt, firstOut}
 use Rattle.message.specs.Promises.{InRange, RightAt, FirstWrong}
-use Rattle.message.proofs.Search.{search-first, getD-past}
 
 -- Ranges
 

@@ -11,12 +11,12 @@ use Rattle.octets.specs.Refusal as refusal
 use Rattle.octets.specs.Part.{codeLen}
 use Rattle.octets.specs.Word.{wordOf}
 use Rattle.octets.proofs.Laws.{both-right}
+use Rattle.octets.proofs.Search.{search-first}
 use Rattle.message.specs.declared.layout.Field.{Field}
 use Rattle.message.specs.Fields.{twoOf, widthOf}
 use Rattle.message.specs.Layouts.{layoutAt, known, numberOf, rowsAt, rowsOf, kFits}
 use Rattle.message.specs.Values.{fieldsMost, sizeOf, valuesOf, placed, numbered, firstOut, outAt}
 use Rattle.message.specs.Reader.{refusedAs, readAs, kIn, partOf, rangedOf, readPartOf, readOf}
-use Rattle.message.proofs.Search.{search-first}
 use Rattle.message.proofs.Layouts.{count-head}
 use Rattle.message.proofs.Values.{length-values}
 

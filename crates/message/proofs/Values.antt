@@ -1,9 +1,9 @@
 -- Values, their octets and their places.
-use Prim.Native.Nat.{ℕ, zero, suc, _+_, _-_, _≤_, _<_}
-use mathlib.Core.Path.{_≡_, refl, ap, _∙_}
+use Prim.Native.Nat.{ℕ, zero, suc, _+_, _*_, _-_, _≤_, _<_}
+use mathlib.Core.Path.{_≡_, refl, sym, ap, _∙_}
 use mathlib.Core.Bool.{Bool, true, false}
 use mathlib.Core.List.{List, [], _∷_, _++_}
-use native.Mathlib.Nat.{add-zero, zero-add}
+use native.Mathlib.Nat.{add-zero, zero-add, zero-mul, suc-mul}
 use native.Mathlib.Numerals.{add-one}
 use native.Mathlib.Omega.{arith}
 use lib.ListN.{drop-of-length-le, replicate, set, length, getD, drop, List·getD-eq-default}
@@ -11,6 +11,7 @@ use lib.Seq.{sets, sets-eq, drop-drop, drop-cons, getD-drop}
 use Rattle.octets.specs.Word.{wordOf}
 use Rattle.message.specs.declared.layout.Field.{Field}
 use Rattle.message.specs.Fields.{noField, twoOf, widthOf, valueOf}
+use Rattle.message.specs.Layouts.{repeated}
 use Rattle.message.specs.Values.{fieldsMost, sizeOf, valuesOf, zeros, placed, numbered}
 
 pub numbered-past : (vs : List ℕ) (n : ℕ) → length vs < n → numbered vs n ≡ 0
@@ -20,6 +21,14 @@ numbered-past vs (suc n) h = List·getD-eq-default vs 0 (omega arith)
 pub numbered-one : (vs : List ℕ) (n : ℕ) → 0 < n → numbered vs n ≡ getD vs (n - 1) 0
 numbered-one vs zero h = absurd (omega arith)
 numbered-one vs (suc n) h = ap (λ (m : ℕ). getD vs m 0) (omega arith)
+
+pub size-append : (fs gs : List Field) → sizeOf (fs ++ gs) ≡ sizeOf fs + sizeOf gs
+size-append [] gs = omega arith
+size-append (f ∷ fs) gs = omega (arith, size-append fs gs)
+
+pub size-repeated : (g : List Field) (k : ℕ) → sizeOf (repeated k g) ≡ k * sizeOf g
+size-repeated g zero = sym (zero-mul (sizeOf g))
+size-repeated g (suc k) = omega (arith, size-append g (repeated k g), size-repeated g k, suc-mul k (sizeOf g))
 
 module _ (fs : List Field) (i : ℕ) where
   pub size-next : i < length fs → sizeOf (drop i fs) ≡ widthOf (twoOf (getD fs i noField)) + sizeOf (drop (i + 1) fs)

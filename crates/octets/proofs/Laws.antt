@@ -11,7 +11,7 @@ use borrow.Author.Tests.{leb-true, le-leb, lt-leb}
 use lib.Bits.{xor-self, xor-lt}
 use lib.Dec.{T, leb}
 use lib.ListN.{length, set, take, drop, getD, length-append, length-drop, drop-of-length-le}
-use lib.Seq.{sets, sets-eq, drop-cons, drop-length, length-sets, take-all}
+use lib.Seq.{sets, sets-eq, drop-cons, drop-length, getD-append-add, length-sets, take-all}
 use Rattle.octets.specs.Choice.{pick, both}
 use Rattle.octets.specs.Octet.{Octets}
 use Rattle.octets.specs.Word.{highOf, lowOf, wordOf}
@@ -86,6 +86,10 @@ octets-right (x ∷ xs) ys o = octets-right xs ys (o .1)
 -- the code's next place in a list
 pub drop-next : (s : List ℕ) (i : ℕ) → i < length s → drop i s ≡ getD s i 0 ∷ drop (i + 1) s
 drop-next s i h = rw (add-one, drop-cons s i 0)
+
+-- what stands past the end of the first of two lists
+pub getD-past : {A : Type 0} (xs ys : List A) (d : A) (i : ℕ) → length xs ≤ i → getD (xs ++ ys) i d ≡ getD ys (i - length xs) d
+getD-past xs ys d i h = let e : length xs + (i - length xs) ≡ i = omega arith in rw e at (getD-append-add xs ys (i - length xs) d)
 
 pub sets-append : (xs ys l : List ℕ) (i : ℕ) → sets l i (xs ++ ys) ≡ sets (sets l i xs) (i + length xs) ys
 sets-append [] ys l i = rw (add-zero i)

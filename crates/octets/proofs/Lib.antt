@@ -1,2 +1,4 @@
 pub mod Laws
+pub mod Search
+pub mod Every
 pub mod Only

@@ -19,6 +19,7 @@ use Rattle.diagram.specs.Table.{phasesOf}
 use Rattle.message.specs.Layouts.{layouts, layoutAt, numberOf, rowsAt, rowsOf, repeated, greens, cycleOffset}
 use Rattle.message.specs.Names.{planAt, planCountAt, offsetAt}
 use Rattle.message.specs.Reader.{kIn, codeIn, bodyIn, readOf}
+use Rattle.message.proofs.Values.{size-append, size-repeated}
 use Rattle.plan.specs.declared.setting.Answered.{Answered}
 use Rattle.plan.specs.declared.setting.Made.{Made}
 use Rattle.record.specs.Record.{recordLen, bookLen, plansMost, empty, timesSet, ready, octetAt, wordAt, stateOf, kOf, timesAt, timesEnd, greensAt, readyEnd, minimumOf, maximumOf, yellowOf, allRedOf, directOf, orderOf, greenOf, cycleOf, offsetOf, sumOf, Within, TimesFit, AllTimesFit, TimesSet, Ready}
@@ -27,7 +28,7 @@ use Rattle.plan.specs.Reading.{startOf, recordAt}
 use Rattle.plan.specs.Setting.{planIn, countIn, Setting, answered, made, notMade, readyRecord, planField, readyMade, keptAs, setOf, setPlanCode, setPlanOf}
 use Rattle.plan.specs.Promises.{directIn, orderIn, greenIn, cycleIn, offsetIn, sumIn, Ranges15, HasTimes, CountAgrees, GreenAgrees, Fit15, Disagrees15, count, green, cycle, offset, Stored, SameTimes, Holds15, PlanJudged, PlanStoredExactlyWhen}
 use Rattle.plan.proofs.Laws.{octets-part}
-use Rattle.checks.proofs.Fields.{at-one, within, inside, size-append, size-repeated, Pass, Read1, greens-in, greens-out}
+use Rattle.checks.proofs.Fields.{at-one, within, inside, Pass, Read1, greens-in, greens-out}
 use Rattle.checks.proofs.Stands.{PlanAgrees, plan-first, plan-agrees, agrees-plan, green-within, within-green, check-green, check-cycle, check-offset, stands-as-it-is}
 use Rattle.plan.proofs.Sets.{read-plan, plan-body, padded-at, padded-long, padded-rest, ready-times, ready-two, ready-rest, ready-k}
 use Rattle.plan.proofs.Storing.{stored-here, set-read, set-unread, kept-made, kept-not-made, is-read, long-enough, same-times, same-fit}

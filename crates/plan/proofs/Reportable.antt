@@ -20,13 +20,14 @@ use Rattle.message.specs.Writer.{writable}
 use Rattle.message.specs.Promises.{Known}
 use Rattle.message.proofs.Accepted.{accepted-in, is-part, again, readPart}
 use Rattle.message.proofs.WrittenSo.{in-writable}
+use Rattle.message.proofs.Values.{size-append, size-repeated}
 use Rattle.record.specs.Record.{bookLen, plansMost, empty, ready, kOf, timesEnd, greensAt, readyEnd, directOf, orderOf, AllTimesFit}
 use Rattle.checks.specs.Standing.{between, standingOf}
 use Rattle.plan.specs.Reading.{startOf, recordAt}
 use Rattle.plan.specs.Reporting.{reportPlanCode, reportRunningCode, timesInfo, planInfo, reportTimesOf, reportPlanOf}
 use Rattle.plan.specs.Promises.{ReportsRead}
 use Rattle.checks.proofs.Laws.{stands-long}
-use Rattle.checks.proofs.Fields.{at-one, inside, size-append, size-repeated, Pass, Read1, pass-part}
+use Rattle.checks.proofs.Fields.{at-one, inside, Pass, Read1, pass-part}
 use Rattle.checks.proofs.Stands.{part-long, times-pass, times-fit, plan-pass, some-long, some-times, ready-plan}
 use Rattle.plan.proofs.Storing.{is-read}
 use Rattle.plan.proofs.Reports.{times-told, plan-told}

@@ -14,15 +14,15 @@ use Rattle.octets.specs.Choice.{pick}
 use Rattle.octets.specs.First.{First, firstOf}
 use Rattle.octets.specs.Put.{Put, Stored}
 use Rattle.octets.specs.Refusal as refusal
-use Rattle.octets.proofs.Laws.{put-stored, stored-then, part-to-end}
+use Rattle.octets.proofs.Laws.{put-stored, stored-then, part-to-end, getD-past}
 use Rattle.message.specs.declared.Read.{Read}
 use Rattle.message.specs.Fields as field
 use Rattle.message.specs.Layouts.{layouts, layoutAt, numberOf, rowsAt, rowsOf, repeated, times, greens, cycleOffset}
 use Rattle.message.specs.Values.{sizeOf, valuesOf}
 use Rattle.message.specs.Reader.{kIn, codeIn, bodyIn, readOf}
 use Rattle.message.specs.Names.{planAt, planCountAt, maximumAt, redManAt}
-use Rattle.message.proofs.Search.{getD-past}
 use Rattle.message.proofs.Accepted.{Accepted, accepted-in}
+use Rattle.message.proofs.Values.{size-append, size-repeated}
 use Rattle.plan.specs.declared.setting.Answered.{Answered}
 use Rattle.plan.specs.declared.setting.Made.{Made}
 use Rattle.record.specs.Record.{recordLen, bookLen, empty, timesSet, ready, octetAt, wordAt, kOf, timesEnd, Within, ZeroFrom}
@@ -30,7 +30,7 @@ use Rattle.checks.specs.Standing.{between, timesDisagree, planDisagree, standin
 use Rattle.plan.specs.BuiltIn.{padded}
 use Rattle.plan.specs.Reading.{startOf, recordAt}
 use Rattle.plan.specs.Setting.{planIn, countIn, Times14, Plan15, timesRecord, readyRecord, made, notMade, timesField, planField, timesMade, readyMade, Setting, Did, answered, keptAs, setTimesCode, setPlanCode, frontOf, setOf}
-use Rattle.checks.proofs.Fields.{size-append, size-repeated, Read1, pass-all}
+use Rattle.checks.proofs.Fields.{Read1, pass-all}
 
 -- What any set refuses
 

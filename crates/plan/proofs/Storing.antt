@@ -19,6 +19,7 @@ use Rattle.message.specs.Layouts.{layouts, layoutAt, numberOf, rowsAt, rowsOf, 
 use Rattle.message.specs.Reader.{readAs, partOf, kIn, codeIn, bodyIn, readOf}
 use Rattle.message.specs.Promises.{Known, Judged, body, accepted}
 use Rattle.message.proofs.ReadSo.{read-so}
+use Rattle.message.proofs.Values.{size-append, size-repeated}
 use Rattle.plan.specs.declared.setting.Answered.{Answered}
 use Rattle.plan.specs.declared.setting.Made.{Made}
 use Rattle.record.specs.Record.{recordLen, bookLen, plansMost, timesSet, octetAt, wordAt, stateOf, kOf, timesAt, timesEnd, minimumOf, maximumOf, yellowOf, allRedOf, walkFlashOf, redManOf, Within, TimesFit, AllTimesFit, TimesSet}
@@ -27,7 +28,7 @@ use Rattle.plan.specs.BuiltIn.{padded}
 use Rattle.plan.specs.Reading.{startOf, recordAt}
 use Rattle.plan.specs.Setting.{planIn, Setting, answered, made, notMade, timesRecord, timesField, timesMade, keptAs, frontOf, setOf, setTimesCode, setTimesOf}
 use Rattle.plan.specs.Promises.{Fit14, PhaseAgrees, Disagrees14, maximum, redMan, Stored, SameTimes, Holds14, TimesJudged, TimesStoredExactlyWhen}
-use Rattle.checks.proofs.Fields.{at-one, inside, size-append, size-repeated, Pass, Read1, all-pass, pass-repeated, repeated-pass, phase-in, phase-out}
+use Rattle.checks.proofs.Fields.{at-one, inside, Pass, Read1, all-pass, pass-repeated, repeated-pass, phase-in, phase-out}
 use Rattle.checks.proofs.Stands.{phases-at, times-first, check-maximum, check-redman, times-ordered, times-walk, agree-times}
 use Rattle.plan.proofs.Sets.{front-passes, front-read, read-times, times-body, padded-at, padded-long, padded-rest, times-at, field-maximum, field-redman}
 

@@ -4,7 +4,7 @@ use mathlib.Core.Path.{_≡_, refl, sym, ap, _∙_}
 use native.Mathlib.Omega.{arith}
 use borrow.Author.Needs.{needs}
 use Rattle.octets.specs.First.{firstOf}
-use Rattle.message.proofs.Search.{search-ends, search-stops, search-goes}
+use Rattle.octets.proofs.Search.{search-ends, search-stops, search-goes}
 use Rattle.checks.specs.Standing.{planFails, planDisagree}
 use Rattle.checks.proofs.plan_disagree.Statement.{statement}
 use Rattle.checks.proofs.plan_disagree.Tie as tie

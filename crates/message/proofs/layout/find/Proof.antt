@@ -5,8 +5,8 @@ use borrow.Author.Needs.{needs}
 use borrow.Author.Tests.{eq-eqb, ne-eqb}
 use lib.Dec.{eqb}
 use Rattle.octets.specs.First.{firstOf}
+use Rattle.octets.proofs.Search.{search-ends, search-stops, search-goes}
 use Rattle.message.specs.Layouts.{layoutAt, numberOf, codes}
-use Rattle.message.proofs.Search.{search-ends, search-stops, search-goes}
 use Rattle.message.proofs.Layouts.{kept-code}
 use Rattle.message.proofs.layout.find.Statement.{statement}
 use Rattle.message.proofs.layout.find.Tie as tie

@@ -3,9 +3,9 @@ use Prim.Native.Nat.{_-_}
 use mathlib.Core.Path.{_≡_, refl, sym, _∙_}
 use borrow.Author.Needs.{needs}
 use Rattle.octets.specs.First.{firstOf}
+use Rattle.octets.proofs.Search.{search-ends, search-stops, search-goes}
 use Rattle.message.specs.Layouts.{rowsAt}
 use Rattle.message.specs.Values.{fieldsMost, outAt, firstOut}
-use Rattle.message.proofs.Search.{search-ends, search-stops, search-goes}
 use Rattle.message.proofs.layout.first_out.Statement.{statement}
 use Rattle.message.proofs.layout.first_out.Tie as tie
 

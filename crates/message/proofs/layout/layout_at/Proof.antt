@@ -3,7 +3,7 @@ use mathlib.Core.Path.{refl}
 use mathlib.Core.List.{List, [], _∷_}
 use native.Mathlib.Omega.{arith}
 use borrow.Author.Needs.{needs}
-use Rattle.diagram.proofs.Every.{every}
+use Rattle.octets.proofs.Every.{every}
 use Rattle.message.specs.declared.layout.Entry.{Entry}
 use Rattle.message.specs.Fields.{kFewest, kMost}
 use Rattle.message.specs.Layouts.{layouts}

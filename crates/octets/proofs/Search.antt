@@ -1,14 +1,11 @@
--- A search that stops at the first place at which a test holds, and what stands past the end of a list.
+-- A search that stops at the first place at which a test holds.
 use Prim.Native.Nat.{ℕ, zero, suc, _+_, _-_, _≤_, _<_}
 use mathlib.Core.Path.{_≡_, refl, ap}
 use mathlib.Core.Bool.{Bool, true, false}
-use mathlib.Core.List.{List, _++_}
 use native.Mathlib.Omega.{arith}
 use borrow.Author.Count.{below-more}
-use lib.ListN.{length, getD}
-use lib.Seq.{getD-append-add}
 use Rattle.octets.specs.First.{First, firstOf}
 use Rattle.octets.proofs.Laws.{first-none, first-found}
 
 searched : (t : ℕ → Bool) (i m : ℕ) {b : Bool} → t i ≡ b → firstOf t i (suc m) ≡ elim b [ true ↦ i + 1 | false ↦ firstOf t (i + 1) m ]
 unfolding firstOf
@@ -37,8 +34,3 @@ search-from t n i (suc m) e h = by (t i) refl (λ q. search-from t n (i + 1) m (
 -- the number that the search yields is the first
 pub search-first : (t : ℕ → Bool) (n : ℕ) → First t n (firstOf t 0 n)
 search-first t n = search-from t n 0 n (omega arith) (λ j h. absurd (omega arith))
-
--- Lists
-
-pub getD-past : {A : Type 0} (xs ys : List A) (d : A) (i : ℕ) → length xs ≤ i → getD (xs ++ ys) i d ≡ getD ys (i - length xs) d
-getD-past xs ys d i h = let e : length xs + (i - length xs) ≡ i = omega arith in rw e at (getD-append-add xs ys (i - length xs) d)
