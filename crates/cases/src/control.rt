@@ -24,7 +24,7 @@ pub(crate) struct Post {
 }
 
 pub(crate) fn start() -> Post {
-    let f = controller::fresh(OWN);
+    let f = calls::fresh(OWN);
     let state = f.state;
     Post {
         state,
@@ -83,7 +83,7 @@ fn called(s: State, word: u8, o: &[u8], book: &mut [u8], out: &mut [u8]) -> Stat
 fn fresh(own: u16) -> State {
     say::text(b"\tfresh ");
     say::octets(&[octets::high(own), octets::low(own)]);
-    let f = controller::fresh(own);
+    let f = calls::fresh(own);
     if f.refusal != refusal::NONE {
         say::call_refused(f.refusal);
     }
@@ -133,7 +133,7 @@ fn keep(s: State, o: &[u8], book: &mut [u8], out: &mut [u8]) -> State {
 fn swallow(s: State, o: &[u8], book: &mut [u8], out: &mut [u8]) -> State {
     let mut t = s;
     for i in 0..o.len() {
-        let a = controller::octet(t, &mut *book, &mut *out, o[i]);
+        let a = calls::octet(t, &mut *book, &mut *out, o[i]);
         t = a.state;
     }
     t
@@ -141,7 +141,7 @@ fn swallow(s: State, o: &[u8], book: &mut [u8], out: &mut [u8]) -> State {
 
 // The octet call with octet b, which is number n of those given.
 fn octet(s: State, b: u8, n: usize, book: &mut [u8], out: &mut [u8]) -> State {
-    let a = controller::octet(s, book, &mut *out, b);
+    let a = calls::octet(s, book, &mut *out, b);
     if a.refusal != refusal::NONE {
         say_refusal(n, a.refusal, a.parameter);
     }
@@ -181,7 +181,7 @@ fn say_event(e: Event) {
 
 fn line_idle(s: State) -> State {
     say::text(b"\tline-idle call");
-    let a = controller::line_idle(s);
+    let a = calls::line_idle(s);
     if a.refusal != refusal::NONE {
         say::call_refused(a.refusal);
     }
@@ -200,7 +200,7 @@ fn wait(s: State, n: usize, book: &[u8]) -> State {
 }
 
 fn second(s: State, last: bool, book: &[u8]) -> State {
-    let w = controller::second(s, book);
+    let w = calls::second(s, book);
     if last {
         if w.refusal == refusal::NONE {
             say_second(w.plan, w.row);

@@ -39,7 +39,7 @@ use Rattle.controller.specs.declared.Running.{Running}
 use Rattle.controller.specs.declared.State.{State}
 use Rattle.controller.specs.declared.Event.{Event}
 use Rattle.controller.specs.declared.Event.the-variants as event
-use Rattle.controller.specs.declared.handling.Handled.{Handled}
+use Rattle.controller.specs.declared.Handled.{Handled}
 use Rattle.controller.specs.State.{all, outputLen, planRecord, readyIn, freshOf, soundOf}
 use Rattle.controller.specs.Handling as handling
 use Rattle.controller.specs.Handling.{setAs, unlessUnread, runAs, queryTimesAs, queryPlanAs, queryRunningAs, handlingOf}

@@ -29,7 +29,7 @@ use Rattle.plan.proofs.Cases.{built-in-stands}
 use Rattle.plan.proofs.Reportable.{standing-past}
 use Rattle.controller.specs.declared.Running.{Running}
 use Rattle.controller.specs.declared.State.{State}
-use Rattle.controller.specs.declared.handling.Handled.{Handled}
+use Rattle.controller.specs.declared.Handled.{Handled}
 use Rattle.controller.specs.State.{all, outputLen, freshOf, soundOf, readyIn, planRecord, startedAt, withDecoder, withRunning}
 use Rattle.controller.specs.Handling.{Handling, unlessUnread, runCode, queryTimesCode, queryPlanCode, queryRunningCode, setAs, runAs, queryTimesAs, queryPlanAs, queryRunningAs, handlingOf}
 use Rattle.controller.specs.Calls.{refusedCall, forUs, isAnswer, Bringing, repliedOf, messageOf, broughtOf, doneOf, octetOf, lineIdleOf, pickedOf, movedOn, secondShown, noSecond, secondOf}
@@ -283,9 +283,3 @@ fresh-sound own n =
       decoder = possible-kept .0;
       running = record { position = ready-cycle builtIn built-in-stands; plan = omega arith; checks = built-in-stands; zero = λ _. refl };
     })
-
--- a sound position is within a cycle of at most 900 seconds, so the next one is a number of two octets
-pub sound-position : (s : State) → soundOf s ≡ true → s .running .position < 65535
-sound-position s h =
-    let p = sound-parts s h .running in
-    omega (arith, p .position, plan-fits (s .running .copy) (ready-plan (s .running .copy) (p .checks)) .most)

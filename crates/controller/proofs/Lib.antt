@@ -1,11 +1,9 @@
 pub mod Laws
 pub mod Judging
 pub mod Replying
-pub mod Written
 pub mod Keeping
 pub mod Answering
 pub mod Serving
 pub mod Latest
 pub mod Run
 pub mod Table
-pub mod Only

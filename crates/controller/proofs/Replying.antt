@@ -1,6 +1,6 @@
--- What an octet call writes: every reply is a message that the writer writes, its INFO fits a frame, and the frames fit the output.
-use Prim.Native.Nat.{ℕ, zero, suc, _*_, _≤_, _<_}
-use mathlib.Core.Path.{_≡_, refl, subst, _∙_}
+-- What an octet call writes: the INFO of every reply fits a frame, and the frames fit the output.
+use Prim.Native.Nat.{ℕ, _*_, _≤_, _<_}
+use mathlib.Core.Path.{_≡_, refl}
 use mathlib.Core.Bool.{Bool, true, false}
 use mathlib.Core.Logic.{inl, inr}
 use mathlib.Core.List.{List, [], _∷_}
@@ -9,36 +9,28 @@ use native.Mathlib.Nat.{mod-eq-of-lt}
 use native.Mathlib.Omega.{arith}
 use borrow.Author.Tests.{ne-eqb, eqb-true, eqb-false}
 use lib.Dec.{eqb}
-use lib.ListN.{length, take, length-append, List·getD-eq-default}
-use lib.Seq.{length-take-le}
+use lib.ListN.{length, length-append}
 use Rattle.octets.specs.Choice.{pick}
 use Rattle.octets.specs.First.{firstOf}
 use Rattle.octets.specs.Part.{codeLen}
 use Rattle.octets.specs.Refusal as refusal
 use Rattle.octets.specs.Word.{highOf, lowOf}
 use Rattle.octets.proofs.Laws.{pick-by}
-use Rattle.frame.specs.declared.Kind.the-variants.{Message, Ack, Nak}
 use Rattle.frame.specs.declared.decoder.Decoder.{Decoder}
-use Rattle.frame.specs.declared.decoder.Found.{Found}
-use Rattle.frame.specs.declared.decoder.Found.the-variants as found
 use Rattle.frame.specs.Frame.{ack, nak, infoMost, frontOf, sentOf, twice, doubled, written}
 use Rattle.frame.specs.Decoder.{possibleOf, takenOf}
 use Rattle.frame.proofs.Finding.{finds}
 use Rattle.message.specs.declared.Message as message
 use Rattle.message.specs.declared.layout.Field.{Field}
-use Rattle.message.specs.Fields as field
 use Rattle.message.specs.Fields.{twoOf}
 use Rattle.message.specs.Layouts.{layouts, layoutAt, numberOf, rowsAt, rowsOf}
 use Rattle.message.specs.Values.{sizeOf, placed}
 use Rattle.message.specs.Names.{planAt}
 use Rattle.message.specs.Reader.{codeIn, bodyIn, readOf}
 use Rattle.message.specs.Writer.{numberIn, kOf, writable, infoAs, infoOf}
-use Rattle.message.specs.Promises.{RightAt}
 use Rattle.message.proofs.Layouts.{rows-most}
-use Rattle.message.proofs.Ranges.{placed-at}
 use Rattle.message.proofs.Values.{width-most}
 use Rattle.message.proofs.Writing.{info-len, writable-most}
-use Rattle.message.proofs.WrittenSo.{in-writable}
 use Rattle.plan.specs.declared.setting.Answered.{Answered}
 use Rattle.record.specs.Record.{bookLen, plansMost, empty, ready}
 use Rattle.checks.specs.Standing.{standingOf}
@@ -46,7 +38,7 @@ use Rattle.plan.specs.Setting.{setTimesCode, setPlanCode, setTimesOf, setPlanOf
 use Rattle.plan.specs.Reporting.{reportPlanCode, reportRunningCode}
 use Rattle.plan.proofs.Reportable.{report-times-writable, report-plan-writable, standing-past}
 use Rattle.controller.specs.declared.Running.{Running}
-use Rattle.controller.specs.declared.handling.Handled.{Handled}
+use Rattle.controller.specs.declared.Handled.{Handled}
 use Rattle.controller.specs.State.{outputLen, planRecord, readyIn}
 use Rattle.controller.specs.Handling.{Handling, accepted, reads, sets, runCode, queryTimesCode, queryPlanCode, queryRunningCode, carriedOutReply, refusedReply, refusedAs, setAs, unlessUnread, runAs, queryTimesAs, queryPlanAs, queryRunningAs, handlingOf}
 use Rattle.controller.specs.Calls.{sent, repliesOf, CanFind}
@@ -64,48 +56,7 @@ can-find =
       nak = λ seq addr err. tt;
     })
 
--- so its INFO is as long as it says
-pub info-found : {f : Found} {seq addr n : ℕ} (kept : List ℕ) → f ≡ found.Message seq addr n → CanFind f → length kept ≡ infoMost → (codeLen ≤ n) × (length (take n kept) ≡ n)
-info-found kept e c l = let h = subst CanFind e c in (h .0, length-take-le _ kept (omega (arith, h .1, l)))
-
 -- The replies 0F 80 and 0F 81
-
-module _ (code : ℕ) (h : code < 65536) where
-  pub carried-out-writable : writable (carriedOutReply code) ≡ true
-  unfolding carriedOutReply numberOf firstOf layouts layoutAt rowsAt rowsOf placed
-  carried-out-writable =
-      in-writable (carriedOutReply code)
-      (record {
-        listed = record { first = omega arith; last = omega arith };
-        fewest = omega arith;
-        most = omega arith;
-        fields = refl;
-        ranges = ranges;
-        rest = λ j l m. placed-at (code ∷ []) j ∙ List·getD-eq-default (code ∷ []) 0 l;
-      })
-    where
-      ranges : (j : ℕ) → j < 1 → RightAt (field.code ∷ []) (placed (code ∷ [])) j
-      ranges zero l = (omega arith, omega arith)
-      ranges (suc j) l = absurd (omega arith)
-
-  pub refused-writable : (n parameter : ℕ) → n < 256 → parameter < 256 → writable (refusedReply code n parameter) ≡ true
-  unfolding refusedReply numberOf firstOf layouts layoutAt rowsAt rowsOf placed
-  refused-writable n parameter hn hp =
-      in-writable (refusedReply code n parameter)
-      (record {
-        listed = record { first = omega arith; last = omega arith };
-        fewest = omega arith;
-        most = omega arith;
-        fields = refl;
-        ranges = ranges;
-        rest = λ j l m. placed-at (code ∷ n ∷ parameter ∷ []) j ∙ List·getD-eq-default (code ∷ n ∷ parameter ∷ []) 0 l;
-      })
-    where
-      ranges : (j : ℕ) → j < 3 → RightAt (field.code ∷ field.errorNumber ∷ field.parameterNumber ∷ []) (placed (code ∷ n ∷ parameter ∷ [])) j
-      ranges zero l = (omega arith, omega arith)
-      ranges (suc zero) l = (omega arith, omega arith)
-      ranges (suc (suc zero)) l = (omega arith, omega arith)
-      ranges (suc (suc (suc j))) l = absurd (omega arith)
 
 pub carried-out-info : (code : ℕ) → infoOf (carriedOutReply code) ≡ 0x0F ∷ 0x80 ∷ highOf code ∷ lowOf code ∷ []
 unfolding carriedOutReply numberOf firstOf layouts layoutAt rowsAt rowsOf placed infoAs
@@ -205,7 +156,7 @@ module _ (u : Running) (requested : ℕ) (book info : List ℕ) (r : standingOf 
   abbrev code : ℕ
   code = codeIn info
 
-  by-reply : (P : Handled → Type 0) → ((q : ℕ) → P (accepted q (carriedOutReply code))) → ((n m : ℕ) → P (refusedAs code requested n m))
+  pub by-reply : (P : Handled → Type 0) → ((q : ℕ) → P (accepted q (carriedOutReply code))) → ((n m : ℕ) → P (refusedAs code requested n m))
       → ((m : message.Message) → writable m ≡ true → P (accepted requested m)) → P (handlingOf u requested book info .handled)
   by-reply P c f w =
       handling-by (λ h. P (h .handled)) u requested book info
@@ -216,12 +167,6 @@ module _ (u : Running) (requested : ℕ) (book info : List ℕ) (r : standingOf 
       (by-query-plan P code requested book info hb c f w)
       (by-query-running P code requested book info hb c f w u r hp)
       (f refusal.codeUnknown 0)
-
-  pub reply-writable : codeIn info < 65536 → handlingOf u requested book info .handled .refusal < 256 → handlingOf u requested book info .handled .parameter < 256
-      → writable (handlingOf u requested book info .handled .reply) ≡ true
-  reply-writable hc =
-      by-reply (λ h. h .refusal < 256 → h .parameter < 256 → writable (h .reply) ≡ true)
-      (λ _ _ _. carried-out-writable code hc) (λ n m. refused-writable code hc n m) (λ m w _ _. w)
 
   -- its INFO fits a frame, whatever it names
   pub reply-fits : length (infoOf (handlingOf u requested book info .handled .reply)) ≤ infoMost
@@ -251,6 +196,3 @@ ack-fits seq own = omega arith
 pub sent-most : (seq ours own : ℕ) (info : List ℕ) → length info ≤ infoMost → length (sent (repliesOf seq ours own info)) ≤ outputLen
 unfolding written frontOf sentOf
 sent-most seq ours own info h = simp length-append (omega (arith, doubled-most info))
-
-pub reply-frames-fit : (seq ours own : ℕ) (m : message.Message) → writable m ≡ true → length (sent (repliesOf seq ours own (infoOf m))) ≤ outputLen
-reply-frames-fit seq ours own m w = sent-most seq ours own (infoOf m) (info-fits m w .1)

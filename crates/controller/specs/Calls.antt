@@ -29,8 +29,7 @@ use Rattle.controller.specs.declared.Event.{Event}
 use Rattle.controller.specs.declared.Event.the-variants as event
 use Rattle.controller.specs.declared.Answer.{Answer}
 use Rattle.controller.specs.declared.Shown.{Shown}
-use Rattle.controller.specs.declared.handling.Handled.{Handled}
-use Rattle.controller.specs.declared.replies.Brought.{Brought}
+use Rattle.controller.specs.declared.Handled.{Handled}
 use Rattle.controller.specs.State.{all, outputLen, freshOf, soundOf, startedAt, planRecord, readyIn, withDecoder, withRunning}
 use Rattle.controller.specs.Handling.{Handling, carriedOutCode, refusedCode, handlingOf}
 
@@ -122,24 +121,7 @@ pub record Bringing : Type 0 where
   pub result : Result
   pub book : List ℕ
 
--- what is told of it: its frames are counted
-abbrev pub toldAs : Result → Brought
-toldAs w = record { refusal = w .refusal; parameter = w .parameter; event = w .event; count = length (sent (w .frames)); seq = w .seq; requested = w .requested }
-
--- r tells the result w, and the output is so before and after
-pub record Tells (w : Result) (before : List ℕ) (r : Brought) (after : List ℕ) : Type 0 where
-  pub told : r ≡ toldAs w
-  pub out : after ≡ sets before 0 (sent (w .frames))
-
--- and b is left in the book, as it should
-pub record Brings (w : Bringing) (before : List ℕ) (r : Brought) (b after : List ℕ) : Type 0 where
-  pub tells : Tells (w .result) before r after
-  pub book : b ≡ w .book
-
 -- where no message is handled there is no parameter; SEQ, request and book stay
-abbrev pub unchangedAs : ℕ → Event → ℕ → ℕ → ℕ → Brought
-unchangedAs n e count ours requested = record { refusal = n; parameter = 0; event = e; count = count; seq = ours; requested = requested }
-
 abbrev pub unchanged : ℕ → Event → List Frame → ℕ → ℕ → Result
 unchanged n e fs ours requested = record { refusal = n; parameter = 0; event = e; frames = fs; seq = ours; requested = requested }
 
@@ -182,19 +164,12 @@ broughtOf (sound (message seq addr info)) own ours requested u book = messageOf 
 broughtOf (sound (ack seq addr)) own ours requested u book = leaves book (unchanged refusal.none (eventFor own addr (event.Ack seq)) [] ours requested)
 broughtOf (sound (nak seq addr err)) own ours requested u book = leaves book (unchanged refusal.none (eventFor own addr (event.Nak seq err)) [] ours requested)
 
--- the answer that the state s makes of it, whose decoder is then d; and the call
-abbrev pub answeredBy : State → Decoder → Brought → Answer
-answeredBy s d r =
-    record {
-      state = record { own = s .own; seq = r .seq; requested = r .requested; decoder = d; running = s .running };
-      refusal = r .refusal;
-      parameter = r .parameter;
-      event = r .event;
-      count = r .count;
-    }
-
+-- the call that the state s makes of it, whose decoder is then d
 abbrev pub madeOf : State → Decoder → Bringing → List ℕ → Call
-madeOf s d w out = record { answer = answeredBy s d (toldAs (w .result)); book = w .book; out = sets out 0 (sent (w .result .frames)) }
+madeOf s d w out =
+    let r = w .result in
+    let t : State = record { own = s .own; seq = r .seq; requested = r .requested; decoder = d; running = s .running } in
+    callOf t (r .refusal) (r .parameter) (r .event) (r .frames) (w .book) out
 
 unfoldable pub doneOf : State → Taken → List ℕ → List ℕ → Call
 doneOf s t book out = madeOf s (t .decoder) (broughtOf (outcomeOf t) (s .own) (s .seq) (s .requested) (s .running) book) out

@@ -2,9 +2,7 @@
 --
 -- "The controller handles 14, 15, 18, 44, 45, 48, 0F 80 and 0F 81; a report sent to it is refusal 10. Sets and 18 are replied to
 -- with 0F 80, queries with C4, C5, C8."
-use Prim.Native.Nat.{ℕ, _<_}
-use mathlib.Core.Path.{_≡_}
-use mathlib.Core.Bool.{true}
+use Prim.Native.Nat.{ℕ}
 use mathlib.Core.List.{List, [], _∷_}
 use lib.Dec.{eqb}
 use Rattle.octets.specs.Choice.{pick}
@@ -13,14 +11,13 @@ use Rattle.message.specs.declared.Message.{Message}
 use Rattle.message.specs.Names.{planAt}
 use Rattle.message.specs.Reader.{codeIn, bodyIn, readOf}
 use Rattle.message.specs.Values.{placed}
-use Rattle.message.specs.Writer.{writable}
 use Rattle.plan.specs.declared.setting.Answered.{Answered}
 use Rattle.record.specs.Record.{empty}
 use Rattle.checks.specs.Standing.{standingOf}
 use Rattle.plan.specs.Setting.{Setting, setTimesCode, setPlanCode, setTimesOf, setPlanOf, planIn}
 use Rattle.plan.specs.Reporting.{reportPlanCode, reportRunningCode, reportTimesOf, reportPlanOf}
 use Rattle.controller.specs.declared.Running.{Running}
-use Rattle.controller.specs.declared.handling.Handled.{Handled}
+use Rattle.controller.specs.declared.Handled.{Handled}
 use Rattle.controller.specs.State.{planRecord, readyIn}
 
 abbrev pub carriedOutCode : ℕ
@@ -53,15 +50,6 @@ refusedReply code n parameter = record { code = refusedCode; fields = 3; values 
 pub record Handling : Type 0 where
   pub handled : Handled
   pub book : List ℕ
-
--- the message was handled as it should, and b is left in the book
-pub record Handles (w : Handling) (h : Handled) (b : List ℕ) : Type 0 where
-  pub handled : h ≡ w .handled
-  pub book : b ≡ w .book
-
--- its reply can be written, refusal and parameter being octets
-abbrev pub Sendable : Handled → Type 0
-Sendable h = h .refusal < 256 → h .parameter < 256 → writable (h .reply) ≡ true
 
 abbrev pub accepted : ℕ → Message → Handled
 accepted requested reply = record { refusal = refusal.none; parameter = 0; requested = requested; reply = reply }

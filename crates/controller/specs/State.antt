@@ -1,13 +1,12 @@
 -- 01, "Replies" and "Lamps and seconds": the state, a fresh one, and which are sound.
 use Prim.Native.Nat.{ℕ}
-use mathlib.Core.Path.{_≡_}
 use mathlib.Core.Bool.{Bool, true, not}
 use mathlib.Core.List.{List}
 use lib.Dec.{eqb, ltb, leb}
 use Rattle.octets.specs.Choice.{pick, both}
 use Rattle.frame.specs.declared.decoder.Decoder.{Decoder}
 use Rattle.frame.specs.Decoder.{freshDecoder, possibleOf}
-use Rattle.record.specs.Record.{plansMost, empty, ready, stateOf, cycleOf}
+use Rattle.record.specs.Record.{plansMost, ready, cycleOf}
 use Rattle.checks.specs.Standing.{standingOf}
 use Rattle.plan.specs.BuiltIn.{builtIn}
 use Rattle.plan.specs.Reading.{recordAt, same}
@@ -40,13 +39,6 @@ withRunning s u = record { own = s .own; seq = s .seq; requested = s .requested;
 -- the record of plan p: "Plan 0 is built in", all others stand in the book
 abbrev pub planRecord : List ℕ → ℕ → List ℕ
 planRecord book p = pick (eqb p 0) builtIn (recordAt book p)
-
--- r is that record as reading a plan gives it: an empty plan reads as an empty part
-pub record RecordOf (book : List ℕ) (p : ℕ) (r : List ℕ) : Type 0 where
-  pub stands : standingOf r ≡ standingOf (planRecord book p)
-  pub octets : (standingOf r ≡ empty → ⊥) → r ≡ planRecord book p
-  -- it was judged: it stands as its state says
-  pub state : stateOf r ≡ standingOf r
 
 -- "Plan 0 is ready", and so is one whose record in the book is
 abbrev pub readyIn : List ℕ → ℕ → Bool

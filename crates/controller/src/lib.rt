@@ -1,18 +1,9 @@
-// 01, "Replies" and "Lamps and seconds": the controller. Each call is refused 7, 8 or 9, in that order, or done.
-mod handling;
-mod replies;
-mod soundness;
-mod stepper;
-
-ghost use mathlib.Core.Path.{_≡_};
-ghost use Rattle.controller.specs.State.{freshOf, soundOf};
-ghost use Rattle.controller.specs.Calls.{startedOf, Did, quiet, octetOf, lineIdleOf, noSecond, secondOf};
-use frame::decoder;
+// 01, "Replies" and "Lamps and seconds": the controller's state, and what its calls answer. There is nothing to run: what each
+// call makes of state, book and output is defined in specs/, and demands 1 to 3 are proved of it in proofs/. The functions that
+// are proved to do so are the crate `calls`.
 use frame::decoder::Decoder;
 use lamps::Row;
-use octets::refusal;
-use plan::book;
-use record::BOOK_LEN;
+use message::Message;
 use record::RECORD_LEN;
 
 // "FFFF is for all".
@@ -66,113 +57,10 @@ pub struct Shown {
     pub row: Row,
 }
 
-// "A fresh start runs and requests plan 0 at position 0."
-pub fn fresh(own: u16) -> Started
-    ensures { λ r. ⌜ r ≡ startedOf own ⌝ }
-{
-    let running = stepper::started(0, book::built_in());
-    let state = State {
-        own,
-        seq: 0,
-        requested: 0,
-        decoder: decoder::fresh(),
-        running,
-    };
-    if own == ALL {
-        return Started {
-            refusal: refusal::START_WRONG,
-            state,
-        };
-    }
-    Started {
-        refusal: refusal::NONE,
-        state,
-    }
-}
-
-// Is the state one that calls can be made with?
-pub fn sound(s: State) -> bool
-    ensures { λ r. ⌜ r ≡ soundOf s ⌝ }
-{
-    soundness::stands(s)
-}
-
-// Takes one octet from the line. What it ends is carried out on the book and replied to in the output.
-pub fn octet(s: State, book: &mut [u8], out: &mut [u8], b: u8) -> Answer
-    ensures { λ r. ⌜ Did (octetOf s (now (book .entry)) (now (out .entry)) b) r (now (book .exit)) (now (out .exit)) ⌝ }
-{
-    if !soundness::stands(s) {
-        return quiet(s, refusal::STATE_UNSOUND);
-    }
-    if book.len() != BOOK_LEN {
-        return quiet(s, refusal::BOOK_WRONG);
-    }
-    if out.len() < OUTPUT_LEN {
-        return quiet(s, refusal::OUTPUT_SHORT);
-    }
-    replies::taken(s, book, out, b)
-}
-
-// "A line-idle call, made by the host, returns the decoder to idle and changes nothing else."
-pub fn line_idle(s: State) -> Answer
-    ensures { λ r. ⌜ r ≡ lineIdleOf s ⌝ }
-{
-    if !soundness::stands(s) {
-        return quiet(s, refusal::STATE_UNSOUND);
-    }
-    let d = s.decoder;
-    let t = decoder::line_idle(d);
-    let decoder = t.decoder;
-    quiet(State { decoder, ..s }, refusal::NONE)
-}
-
-// What this second shows; then it moves on, and at a cycle's last second picks the next plan from the book.
-pub fn second(s: State, book: &[u8]) -> Shown
-    ensures { λ r. ⌜ r ≡ secondOf s (now (book .entry)) ⌝ }
-{
-    if !soundness::stands(s) {
-        return no_second(s, refusal::STATE_UNSOUND);
-    }
-    if book.len() != BOOK_LEN {
-        return no_second(s, refusal::BOOK_WRONG);
-    }
-    let u = s.running;
-    let copy = u.copy;
-    let row = lamps::row_at(&copy, u.position);
-    let running = stepper::moved_on(u, s.requested, book);
-    Shown {
-        state: State { running, ..s },
-        refusal: refusal::NONE,
-        plan: u.plan,
-        row,
-    }
-}
-
-// "same state, nothing written"; "Other numbers in a refused call's result are 0."
-pub(crate) fn quiet(s: State, n: u8) -> Answer
-    ensures { λ r. ⌜ r ≡ quiet s n ⌝ }
-{
-    Answer {
-        state: s,
-        refusal: n,
-        parameter: 0,
-        event: Event::Nothing,
-        count: 0,
-    }
-}
-
-fn no_second(s: State, n: u8) -> Shown
-    ensures { λ r. ⌜ r ≡ noSecond s n ⌝ }
-{
-    Shown {
-        state: s,
-        refusal: n,
-        plan: 0,
-        row: Row {
-            step: 0,
-            left: 0,
-            steady: 0,
-            flashing: 0,
-        },
-    }
+// What a message brought: the refusal and its parameter, the plan then requested, and the reply.
+pub struct Handled {
+    pub refusal: u8,
+    pub parameter: u8,
+    pub requested: u8,
+    pub reply: Message,
 }

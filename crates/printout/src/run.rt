@@ -19,7 +19,7 @@ pub struct Run {
 pub fn run_start() -> Run
     ensures { λ r. ⌜ r ≡ runStart ⌝ }
 {
-    let s = controller::fresh(OWN);
+    let s = calls::fresh(OWN);
     let state = s.state;
     Run {
         state,
@@ -46,7 +46,7 @@ fn on_second(run: Run, book: &[u8], text: &mut [u8]) -> Run
 {
     let n = run.seconds;
     let at = run.used;
-    let t = controller::second(run.state, book);
+    let t = calls::second(run.state, book);
     let state = t.state;
     let row = t.row;
     Run {
@@ -61,7 +61,7 @@ fn on_octet(run: Run, b: u8, book: &mut [u8], out: &mut [u8], text: &mut [u8]) -
     ensures { λ r. ⌜ Listed (octetMade (run .state) (run .seconds) (now (book .entry)) (now (out .entry)) b) (run .used) (now (text .entry)) r (now (book .exit)) (now (out .exit)) (now (text .exit)) ⌝ }
 {
     let at = run.used;
-    let a = controller::octet(run.state, book, &mut *out, b);
+    let a = calls::octet(run.state, book, &mut *out, b);
     let state = a.state;
     let n = a.count;
     Run {

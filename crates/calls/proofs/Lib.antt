@@ -1,0 +1,4 @@
+pub mod Laws
+pub mod Writable
+pub mod Written
+pub mod Only

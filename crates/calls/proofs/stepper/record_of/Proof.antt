@@ -1,0 +1,13 @@
+-- `calls::stepper::record_of` meets its contract: reading a plan gives its record or an empty part.
+use borrow.Author.Needs.{needs}
+use Rattle.calls.proofs.Laws.{record-of}
+use Rattle.calls.proofs.stepper.record_of.Statement.{statement}
+use Rattle.calls.proofs.stepper.record_of.Tie as tie
+
+returns : tie.Need-returns
+returns c =
+    let a = c .before .before .before .before .args in
+    record-of (a .book) (a .own) (c .read-plan .result) (a .plan) (c .read-plan .ensures .part) (search needs) (search needs)
+
+pub record-of-spec : {M : Type 1} → statement M
+record-of-spec = tie.close (tie.spec (λ c κs. search needs) returns)

@@ -1,0 +1,72 @@
+// 01, "Lamps and seconds": moving on through a cycle, and the pick at its end.
+ghost use mathlib.Core.Path.{_≡_};
+ghost use Prim.Native.Nat.{_<_};
+ghost use lib.ListN.{length};
+ghost use Rattle.record.specs.Record.{recordLen, bookLen};
+ghost use Rattle.plan.specs.BuiltIn.{builtIn};
+ghost use Rattle.controller.specs.State.{startedAt};
+ghost use Rattle.controller.specs.Calls.{pickedOf, movedOn};
+ghost use Rattle.calls.specs.Stepper.{RecordOf};
+use controller::Running;
+use octets::refusal;
+use plan::book;
+use record::RECORD_LEN;
+
+// A plan at its cycle's start.
+pub(crate) fn started(plan: u8, copy: [u8; RECORD_LEN]) -> Running
+    ensures { λ r. ⌜ r ≡ startedAt plan copy ⌝ }
+{
+    Running {
+        plan,
+        position: 0,
+        copy,
+    }
+}
+
+// "then moves on. The call that answers a cycle's last second also picks the next plan".
+pub(crate) fn moved_on(u: Running, requested: u8, book: &[u8]) -> Running
+    requires { ⌜ (length (now book) ≡ bookLen) × (u .position < 65535) ⌝ }
+    ensures { λ r. ⌜ r ≡ movedOn u requested (now (book .entry)) ⌝ }
+{
+    let copy = u.copy;
+    if u.position + 1 < record::cycle(&copy) {
+        return Running {
+            position: u.position + 1,
+            ..u
+        };
+    }
+    picked(u, requested, book)
+}
+
+// "the requested one if it is plan 0 or ready in the book; if not, the running plan repeats and the request stays"
+fn picked(u: Running, requested: u8, book: &[u8]) -> Running
+    requires { ⌜ length (now book) ≡ bookLen ⌝ }
+    ensures { λ r. ⌜ r ≡ pickedOf u requested (now (book .entry)) ⌝ }
+{
+    let own = book::built_in();
+    let rec = record_of(book, &own, requested);
+    // Reading judged it, so it stands as its state says.
+    if record::octet_at(rec, 0) == record::READY {
+        return started(requested, copied(rec));
+    }
+    let copy = u.copy;
+    started(u.plan, copy)
+}
+
+// The record of a plan: the copy of the built-in one for plan 0, the plan's part of the book for any other.
+pub(crate) fn record_of<'a>(book: &'a [u8], own: &'a [u8], plan: u8) -> &'a [u8]
+    requires { ⌜ (length (now book) ≡ bookLen) × (now own ≡ builtIn) ⌝ }
+    ensures { λ r. ⌜ RecordOf (now (book .entry)) plan (now r) ⌝ }
+{
+    let mut why = refusal::NONE;
+    book::read_plan(book, own, plan, &mut why)
+}
+
+fn copied(rec: &[u8]) -> [u8; RECORD_LEN]
+    requires { ⌜ length (now rec) ≡ recordLen ⌝ }
+    ensures { λ r. ⌜ r ≡ now (rec .entry) ⌝ }
+{
+    let mut copy = [0u8; RECORD_LEN];
+    octets::put(rec, &mut copy, 0);
+    copy
+}
