@@ -95,9 +95,7 @@ pub idles-answered : IdlesAnswered
 idles-answered s =
     record {
       refused = idle-7 s;
-      done = λ h. rw (idle-done s h);
-      idle = λ h. rw (idle-done s h, idled-done (s .decoder) (sound-parts s h .decoder));
-      rest = λ h. rw (idle-done s h);
+      done = λ h. rw (idle-done s h, idled-done (s .decoder) (sound-parts s h .decoder));
     }
 
 -- The second call

@@ -166,25 +166,27 @@ module _ (s : State) (book out : List ℕ) (b : ℕ) (h : soundOf s ≡ true) (h
   octet-replies : RepliesSo s book b (outcomeOf (takenOf (s .decoder) b)) w
   octet-replies =
       record {
-        quiet = λ e. rw (brings e) (wrote-none refl, refl, record { state = refl; book = refl }, refl);
+        quiet = λ e. rw (brings e) (wrote-none refl, refl, record { state = refl; book = refl; parameter = refl }, refl);
         nakForUs = λ n err seq g e. rw (brings e, eq-eqb (s .own) (s .own) refl, err-so g) (wrote out (nak seq (s .own) err ∷ []) ho (nak-fits seq (s .own) err) refl refl);
         noNak = λ n k seq addr e g. rw (brings e, no-naks n k seq addr g) (wrote-none refl);
-        named = λ n k seq addr e. rw (brings e) (refl, record { state = refl; book = refl }, refl);
+        named = λ n k seq addr e. rw (brings e) (refl, record { state = refl; book = refl; parameter = refl }, refl);
         ackOnly = λ seq info e a.
             rw (brings e, message-answer (s .own) (s .seq) (s .requested) (s .running) seq (s .own) info book (for-us (s .own) (s .own) (inl refl)) (is-answer info a), eq-eqb (s .own) (s .own) refl)
-            (wrote out (ack seq (s .own) ∷ []) ho (ack-fits seq (s .own)) refl refl, refl, record { state = refl; book = refl });
+            (wrote out (ack seq (s .own) ∷ []) ho (ack-fits seq (s .own)) refl refl, refl, record { state = refl; book = refl; parameter = refl });
         replied = λ seq info e a.
             let v = message-served seq (s .own) info e (inl refl) (no-answer info a) .reply refl in
             (infoOf (handlingOf (s .running) (s .requested) book info .handled .reply), v .0, v .1);
         forAll = λ seq info e. for-all seq info e (isAnswer (codeIn info)) refl;
-        dropped = λ seq addr info e n m. rw (brings e, message-other (s .own) (s .seq) (s .requested) (s .running) seq addr info book (for-another (s .own) addr n m)) (wrote-none refl, refl, record { state = refl; book = refl });
-        noEvent = λ seq addr info e. rw (brings e) (message-event (s .own) (s .seq) (s .requested) (s .running) seq addr info book);
+        answerForAll = λ seq info e a. rw (brings e, message-answer (s .own) (s .seq) (s .requested) (s .running) seq all info book (for-us (s .own) all (inr refl)) (is-answer info a)) (refl, record { state = refl; book = refl; parameter = refl });
+        dropped = λ seq addr info e n m. rw (brings e, message-other (s .own) (s .seq) (s .requested) (s .running) seq addr info book (for-another (s .own) addr n m)) (wrote-none refl, refl, record { state = refl; book = refl; parameter = refl });
+        noEvent = λ seq addr info e. rw (brings e, message-event (s .own) (s .seq) (s .requested) (s .running) seq addr info book);
         ackEvent = λ seq e. rw (brings e, eq-eqb (s .own) (s .own) refl);
         nakEvent = λ seq err e. rw (brings e, eq-eqb (s .own) (s .own) refl);
-        ackQuiet = λ seq addr e. rw (brings e) (wrote-none refl, refl, record { state = refl; book = refl });
-        nakQuiet = λ seq addr err e. rw (brings e) (wrote-none refl, refl, record { state = refl; book = refl });
+        ackQuiet = λ seq addr e. rw (brings e) (wrote-none refl, refl, record { state = refl; book = refl; parameter = refl });
+        nakQuiet = λ seq addr err e. rw (brings e) (wrote-none refl, refl, record { state = refl; book = refl; parameter = refl });
         ackOther = λ seq addr e n. rw (brings e, ne-eqb addr (s .own) n);
         nakOther = λ seq addr err e n. rw (brings e, ne-eqb addr (s .own) n);
+        rest = rw (brings refl);
       }
 
 pub replies : Replies

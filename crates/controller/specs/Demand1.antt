@@ -11,6 +11,7 @@ use Rattle.octets.specs.Octet.{Octets}
 use Rattle.octets.specs.Refusal as refusal
 use Rattle.frame.specs.declared.decoder.Place.the-variants.{Idle}
 use Rattle.frame.specs.Decoder.{possibleOf}
+use Rattle.frame.specs.Promises.{placedAt}
 use Rattle.record.specs.Record.{recordLen, plansMost, bookLen, cycleOf, Ready}
 use Rattle.plan.specs.BuiltIn.{builtIn}
 use Rattle.controller.specs.declared.Running.{Running}
@@ -80,9 +81,7 @@ SecondsAnswered = (s : State) (book : List ℕ) → SecondAnswered s book
 -- "A line-idle call .. returns the decoder to idle and changes nothing else"; refusal 7 of it
 pub record IdleAnswered (s : State) : Type 0 where
   pub refused : soundOf s ≡ false → lineIdleOf s ≡ quiet s refusal.stateUnsound
-  pub done : soundOf s ≡ true → lineIdleOf s .refusal ≡ refusal.none
-  pub idle : soundOf s ≡ true → lineIdleOf s .state .decoder .head .place ≡ Idle
-  pub rest : soundOf s ≡ true → lineIdleOf s ≡ quiet (withDecoder s (lineIdleOf s .state .decoder)) refusal.none
+  pub done : soundOf s ≡ true → lineIdleOf s ≡ quiet (withDecoder s (placedAt Idle (s .decoder))) refusal.none
 
 abbrev pub IdlesAnswered : Type 0
 IdlesAnswered = (s : State) → IdleAnswered s

@@ -25,6 +25,7 @@ use Rattle.plan.specs.Reporting.{reportPlanCode, reportRunningCode, timesInfo, 
 use Rattle.lamps.specs.Rows.{secondsOf, stepsOf}
 use Rattle.lamps.specs.Promises.{Due}
 use Rattle.controller.specs.declared.State.{State}
+use Rattle.controller.specs.declared.Event.{Event}
 use Rattle.controller.specs.declared.Event.the-variants as event
 use Rattle.controller.specs.State.{all, outputLen, soundOf, planRecord, withDecoder, withRunning}
 use Rattle.controller.specs.Handling.{runCode, queryTimesCode, queryPlanCode, queryRunningCode}
@@ -47,20 +48,31 @@ pub data Err : ℕ → ℕ → Type 0 where
 abbrev pub IsAnswer : List ℕ → Type 0
 IsAnswer info = (codeIn info ≡ 0x0F80) ⊎ (codeIn info ≡ 0x0F81)
 
--- nothing but the decoder has changed: the book is as it came
+-- nothing but the decoder has changed: the book is as it came, and no parameter is named
 pub record OnlyTaken (s : State) (before : List ℕ) (b : ℕ) (w : Call) : Type 0 where
   pub state : w .answer .state ≡ withDecoder s (takenOf (s .decoder) b .decoder)
   pub book : w .book ≡ before
+  pub parameter : w .answer .parameter ≡ 0
+
+-- the frames that an event hands to the host: none, or one
+abbrev pub eventFrames : ℕ → Event → List Frame
+eventFrames own event.Nothing = []
+eventFrames own (event.Ack seq) = ack seq own ∷ []
+eventFrames own (event.Nak seq err) = nak seq own err ∷ []
+
+-- the call hands these frames to the host as its event
+abbrev pub Hands : State → List Frame → Call → Type 0
+Hands s fs w = eventFrames (s .own) (w .answer .event) ≡ fs
 
 -- an octet call that is done, by what the octet brought, `o`
 pub record RepliesSo (s : State) (book : List ℕ) (b : ℕ) (o : Outcome) (w : Call) : Type 0 where
-  pub quiet : o ≡ nothing → Wrote w [] × (w .answer .refusal ≡ refusal.none) × OnlyTaken s book b w × (w .answer .event ≡ event.Nothing)
+  pub quiet : o ≡ nothing → Wrote w [] × (w .answer .refusal ≡ refusal.none) × OnlyTaken s book b w × Hands s [] w
   -- "Refusals 1 to 3 of a message frame write one NAK with the received SEQ, if the received ADDR is ours"
   pub nakForUs : (n err seq : ℕ) → Err n err → o ≡ refused n Message seq (s .own) → Wrote w (nak seq (s .own) err ∷ [])
   -- "Faulty ACK and NAK frames are never replied to."
   pub noNak : (n : ℕ) (k : Kind) (seq addr : ℕ) → o ≡ refused n k seq addr → ((k ≡ Message → ⊥) ⊎ (addr ≡ s .own → ⊥)) → Wrote w []
   -- "the result names the refusal for any address"
-  pub named : (n : ℕ) (k : Kind) (seq addr : ℕ) → o ≡ refused n k seq addr → (w .answer .refusal ≡ n) × OnlyTaken s book b w × (w .answer .event ≡ event.Nothing)
+  pub named : (n : ℕ) (k : Kind) (seq addr : ℕ) → o ≡ refused n k seq addr → (w .answer .refusal ≡ n) × OnlyTaken s book b w × Hands s [] w
   -- "A received 0F 80 or 0F 81 of any length gets the ACK only (nothing for FFFF) and is no refusal."
   pub ackOnly : (seq : ℕ) (info : List ℕ) → o ≡ sound (message seq (s .own) info) → IsAnswer info
       → Wrote w (ack seq (s .own) ∷ []) × (w .answer .refusal ≡ refusal.none) × OnlyTaken s book b w
@@ -70,18 +82,23 @@ pub record RepliesSo (s : State) (book : List ℕ) (b : ℕ) (o : Outcome) (w : 
       → (reply : List ℕ) × Wrote w (ack seq (s .own) ∷ message (s .seq) (s .own) reply ∷ []) × (w .answer .state .seq ≡ (s .seq + 1) % 256)
   -- "FFFF is for all: carried out, never replied to."
   pub forAll : (seq : ℕ) (info : List ℕ) → o ≡ sound (message seq all info) → Wrote w [] × (w .answer .state .seq ≡ s .seq)
-  -- "A sound frame for another address is dropped silently."
+  -- of 0F 80 and 0F 81: "(nothing for FFFF) and is no refusal"
+  pub answerForAll : (seq : ℕ) (info : List ℕ) → o ≡ sound (message seq all info) → IsAnswer info → (w .answer .refusal ≡ refusal.none) × OnlyTaken s book b w
+  -- "A sound frame for another address is dropped silently."; "Address is judged after CKS."
   pub dropped : (seq addr : ℕ) (info : List ℕ) → o ≡ sound (message seq addr info) → (addr ≡ s .own → ⊥) → (addr ≡ all → ⊥)
       → Wrote w [] × (w .answer .refusal ≡ refusal.none) × OnlyTaken s book b w
   -- no message is an event
-  pub noEvent : (seq addr : ℕ) (info : List ℕ) → o ≡ sound (message seq addr info) → w .answer .event ≡ event.Nothing
+  pub noEvent : (seq addr : ℕ) (info : List ℕ) → o ≡ sound (message seq addr info) → Hands s [] w
   -- "A sound ACK or NAK for us is handed to the host as an event and changes nothing; one to FFFF is dropped."
-  pub ackEvent : (seq : ℕ) → o ≡ sound (ack seq (s .own)) → (w .answer .event ≡ event.Ack seq)
-  pub nakEvent : (seq err : ℕ) → o ≡ sound (nak seq (s .own) err) → (w .answer .event ≡ event.Nak seq err)
+  pub ackEvent : (seq : ℕ) → o ≡ sound (ack seq (s .own)) → Hands s (ack seq (s .own) ∷ []) w
+  pub nakEvent : (seq err : ℕ) → o ≡ sound (nak seq (s .own) err) → Hands s (nak seq (s .own) err ∷ []) w
   pub ackQuiet : (seq addr : ℕ) → o ≡ sound (ack seq addr) → Wrote w [] × (w .answer .refusal ≡ refusal.none) × OnlyTaken s book b w
   pub nakQuiet : (seq addr err : ℕ) → o ≡ sound (nak seq addr err) → Wrote w [] × (w .answer .refusal ≡ refusal.none) × OnlyTaken s book b w
-  pub ackOther : (seq addr : ℕ) → o ≡ sound (ack seq addr) → (addr ≡ s .own → ⊥) → w .answer .event ≡ event.Nothing
-  pub nakOther : (seq addr err : ℕ) → o ≡ sound (nak seq addr err) → (addr ≡ s .own → ⊥) → w .answer .event ≡ event.Nothing
+  pub ackOther : (seq addr : ℕ) → o ≡ sound (ack seq addr) → (addr ≡ s .own → ⊥) → Hands s [] w
+  pub nakOther : (seq addr err : ℕ) → o ≡ sound (nak seq addr err) → (addr ≡ s .own → ⊥) → Hands s [] w
+  -- whatever it brought: the octet is taken, and own address and running plan stay
+  pub rest : w .answer .state
+      ≡ record { own = s .own; seq = w .answer .state .seq; requested = w .answer .state .requested; decoder = takenOf (s .decoder) b .decoder; running = s .running }
 
 abbrev pub Replies : Type 0
 Replies =
