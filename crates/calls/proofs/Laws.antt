@@ -39,7 +39,8 @@ use Rattle.controller.specs.declared.State.{State}
 use Rattle.controller.specs.declared.Handled.{Handled}
 use Rattle.controller.specs.State.{all, runningSound, soundOf, planRecord, startedAt}
 use Rattle.controller.specs.Handling.{runCode, queryTimesCode, queryPlanCode, queryRunningCode, carriedOutReply, accepted, refusedAs, setAs, unlessUnread, runAs, queryTimesAs, queryPlanAs, queryRunningAs, handlingOf}
-use Rattle.controller.specs.Calls.{refusedCall, doneOf, pickedOf}
+use Rattle.controller.specs.Replies.{refusedCall, doneOf}
+use Rattle.controller.specs.Seconds.{pickedOf}
 use Rattle.controller.proofs.Laws.{picked-ready, picked-stays}
 use Rattle.controller.proofs.Judging.{sound-parts}
 use Rattle.calls.specs.Handling.{Handles}

@@ -25,7 +25,7 @@ use Rattle.checks.specs.Standing.{standingOf}
 use Rattle.controller.specs.declared.Running.{Running}
 use Rattle.controller.specs.State.{outputLen}
 use Rattle.controller.specs.Handling.{carriedOutReply, refusedReply, handlingOf}
-use Rattle.controller.specs.Calls.{sent, repliesOf, CanFind}
+use Rattle.controller.specs.Replies.{sent, repliesOf, CanFind}
 use Rattle.controller.proofs.Replying.{info-fits, by-reply, sent-most}
 
 -- What the decoder finds

@@ -30,7 +30,7 @@ use Rattle.controller.specs.declared.Answer.{Answer}
 use Rattle.controller.specs.declared.Handled.{Handled}
 use Rattle.controller.specs.State.{outputLen}
 use Rattle.controller.specs.Handling.{Handling}
-use Rattle.controller.specs.Calls.{Did, sent, naks, acks, errOf, repliesOf, unchanged, repliedOf, handledOf, broughtOf, doneOf}
+use Rattle.controller.specs.Replies.{Did, sent, naks, acks, errOf, repliesOf, unchanged, repliedOf, handledOf, broughtOf, doneOf}
 use Rattle.controller.proofs.Replying.{info-fits, ack-fits, nak-fits}
 use Rattle.calls.specs.declared.replies.Brought.{Brought}
 use Rattle.calls.specs.Handling.{Handles}

@@ -5,7 +5,7 @@ use mathlib.Core.List.{List}
 use lib.ListN.{length}
 use lib.Seq.{sets}
 use Rattle.controller.specs.declared.Event.{Event}
-use Rattle.controller.specs.Calls.{sent, Result, Bringing}
+use Rattle.controller.specs.Replies.{sent, Result, Bringing}
 use Rattle.calls.specs.declared.replies.Brought.{Brought}
 
 -- what is told of it: its frames are counted

@@ -6,7 +6,8 @@ mod stepper;
 
 ghost use mathlib.Core.Path.{_≡_};
 ghost use Rattle.controller.specs.State.{soundOf};
-ghost use Rattle.controller.specs.Calls.{startedOf, Did, quiet, octetOf, lineIdleOf, noSecond, secondOf};
+ghost use Rattle.controller.specs.Replies.{Did, quiet, octetOf, lineIdleOf};
+ghost use Rattle.controller.specs.Seconds.{startedOf, noSecond, secondOf};
 use controller::ALL;
 use controller::Answer;
 use controller::Event;

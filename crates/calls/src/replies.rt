@@ -12,7 +12,7 @@ ghost use Rattle.message.specs.Writer.{writable, infoOf};
 ghost use Rattle.record.specs.Record.{plansMost, bookLen, ready};
 ghost use Rattle.checks.specs.Standing.{standingOf};
 ghost use Rattle.controller.specs.State.{outputLen, soundOf};
-ghost use Rattle.controller.specs.Calls.{Did, sent, errOf, naks, acks, forUs, isAnswer, eventFor, repliesOf, CanFind, repliedOf, messageOf, broughtOf, doneOf};
+ghost use Rattle.controller.specs.Replies.{Did, sent, errOf, naks, acks, forUs, isAnswer, eventFor, repliesOf, CanFind, repliedOf, messageOf, broughtOf, doneOf};
 ghost use Rattle.calls.specs.Handling.{Sendable};
 ghost use Rattle.calls.specs.Replies.{Tells, Brings, unchangedAs};
 use crate::handling;

@@ -5,7 +5,7 @@ ghost use lib.ListN.{length};
 ghost use Rattle.record.specs.Record.{recordLen, bookLen};
 ghost use Rattle.plan.specs.BuiltIn.{builtIn};
 ghost use Rattle.controller.specs.State.{startedAt};
-ghost use Rattle.controller.specs.Calls.{pickedOf, movedOn};
+ghost use Rattle.controller.specs.Seconds.{pickedOf, movedOn};
 ghost use Rattle.calls.specs.Stepper.{RecordOf};
 use controller::Running;
 use octets::refusal;

@@ -1,9 +1,9 @@
 -- What each call leaves of the state, and that a sound state stays sound.
 use Prim.Native.Nat.{ℕ, _+_, _≤_, _<_}
 use mathlib.Core.Path.{_≡_, refl, sym, _∙_}
-use mathlib.Core.Bool.{Bool, true, false}
+use mathlib.Core.Bool.{Bool, true, false, not}
 use mathlib.Core.List.{List}
-use native.Mathlib.Decide.{decLt}
+use native.Mathlib.Decide.{decLt, ℕ-discrete}
 use native.Mathlib.Omega.{arith}
 use borrow.Author.Tests.{eq-eqb, ne-eqb, eqb-true, eqb-false, leb-true}
 use lib.Dec.{eqb, leb}
@@ -32,13 +32,14 @@ use Rattle.controller.specs.declared.State.{State}
 use Rattle.controller.specs.declared.Handled.{Handled}
 use Rattle.controller.specs.State.{all, outputLen, freshOf, soundOf, readyIn, planRecord, startedAt, withDecoder, withRunning}
 use Rattle.controller.specs.Handling.{Handling, unlessUnread, runCode, queryTimesCode, queryPlanCode, queryRunningCode, setAs, runAs, queryTimesAs, queryPlanAs, queryRunningAs, handlingOf}
-use Rattle.controller.specs.Calls.{refusedCall, forUs, isAnswer, Bringing, repliedOf, messageOf, broughtOf, doneOf, octetOf, lineIdleOf, pickedOf, movedOn, secondShown, noSecond, secondOf}
+use Rattle.controller.specs.Replies.{refusedCall, forUs, isAnswer, Bringing, repliedOf, messageOf, broughtOf, doneOf, octetOf, lineIdleOf}
+use Rattle.controller.specs.Seconds.{pickedOf, movedOn, secondShown, noSecond, secondOf}
 use Rattle.controller.specs.declared.Answer.{Answer}
 use Rattle.controller.specs.declared.Shown.{Shown}
 use Rattle.controller.specs.Demand1.{SoundKept}
 use Rattle.controller.specs.Demand3.{runIn, latestAfter}
 use Rattle.controller.proofs.Judging.{four, RunningParts, sound-parts, parts-sound}
-use Rattle.controller.proofs.Laws.{idle-done, moved-within, moved-ends}
+use Rattle.controller.proofs.Laws.{idle-done, moved-within, moved-ends, second-8, second-done}
 
 -- The octet call
 
@@ -147,8 +148,8 @@ module _ (s : State) (book out : List ℕ) (b : ℕ) where
   by-octet P same done = by (soundOf s) refl (eqb (length book) bookLen) refl (leb outputLen (length out)) refl
     where
       by : (h : Bool) → soundOf s ≡ h → (n : Bool) → eqb (length book) bookLen ≡ n → (l : Bool) → leb outputLen (length out) ≡ l
-          → P (both h (both n l)) (pick h (pick n (pick l (doneOf s (takenOf (s .decoder) b) book out) (refusedCall s refusal.outputShort book out))
-          (refusedCall s refusal.bookWrong book out)) (refusedCall s refusal.stateUnsound book out) .answer .state)
+          → P (both h (both n l)) (pick (not h) (refusedCall s refusal.stateUnsound book out) (pick (not n) (refusedCall s refusal.bookWrong book out)
+          (pick (not l) (refusedCall s refusal.outputShort book out) (doneOf s (takenOf (s .decoder) b) book out))) .answer .state)
       by true h true n true l = done h (eqb-true (length book) bookLen n) (leb-true outputLen (length out) l)
       by true h true n false l = same
       by true h false n l _ = same
@@ -200,7 +201,7 @@ module _ (s : State) where
   -- all but the decoder is as it was
   pub idle-left : lineIdleOf s .state ≡ withDecoder s (lineIdleOf s .state .decoder)
   unfolding lineIdleOf
-  idle-left = pick-by (λ (a : Answer). a .state ≡ withDecoder s (a .state .decoder)) (soundOf s) (λ _. refl) (λ _. refl)
+  idle-left = pick-by (λ (a : Answer). a .state ≡ withDecoder s (a .state .decoder)) (not (soundOf s)) (λ _. refl) (λ _. refl)
 
   idle-sound : soundOf s ≡ true → soundOf (lineIdleOf s .state) ≡ true
   idle-sound h =
@@ -246,14 +247,13 @@ module _ (s : State) (book : List ℕ) where
   unfolding secondOf noSecond
   second-left =
       let P : Shown → Type 0 = λ a. a .state ≡ withRunning s (a .state .running) in
-      pick-by P (soundOf s) (λ _. pick-by P (eqb (length book) bookLen) (λ _. refl) (λ _. refl)) (λ _. refl)
+      pick-by P (not (soundOf s)) (λ _. refl) (λ _. pick-by P (not (eqb (length book) bookLen)) (λ _. refl) (λ _. refl))
 
   -- by the two ways of a second in a sound state
   pub by-second : soundOf s ≡ true → (P : Shown → Type 0) → (length book ≡ bookLen → P (secondShown s book)) → P (noSecond s refusal.bookWrong)
       → P (secondOf s book)
-  unfolding secondOf
   by-second h P done none =
-      rw h (pick-by P (eqb (length book) bookLen) (λ n. done (eqb-true (length book) bookLen n)) (λ _. none))
+      elim (ℕ-discrete (length book) bookLen) [ yes n ↦ rw (second-done s book h n) (done n) | no n ↦ rw (second-8 s book h n) none ]
 
   second-sound : soundOf s ≡ true → soundOf (secondOf s book .state) ≡ true
   unfolding noSecond

@@ -14,7 +14,7 @@ use Rattle.controller.specs.declared.Answer.{Answer}
 use Rattle.controller.specs.declared.Running.{Running}
 use Rattle.controller.specs.declared.State.{State}
 use Rattle.controller.specs.State.{all, freshOf, soundOf}
-use Rattle.controller.specs.Calls.{movedOn, pickedOf, noSecond}
+use Rattle.controller.specs.Seconds.{movedOn, pickedOf, noSecond}
 use Rattle.controller.specs.Demand3.{Event, octet, lineIdle, second, next, goesOn, run, Heard, hearsOctet, hears, hearsOn, LatestKept}
 use Rattle.controller.proofs.Laws.{idle-done, moved-within, moved-ends}
 use Rattle.controller.proofs.Judging.{octets-built-in, record-octets}

@@ -15,7 +15,8 @@ use Rattle.controller.specs.declared.State.{State}
 use Rattle.controller.specs.declared.Event.the-variants as event
 use Rattle.controller.specs.State.{outputLen, soundOf, readyIn, planRecord, startedAt, withDecoder}
 use Rattle.controller.specs.Handling.{handlingOf}
-use Rattle.controller.specs.Calls.{refusedCall, quiet, acks, forUs, isAnswer, unchanged, leaves, handledOf, messageOf, broughtOf, madeOf, doneOf, octetOf, lineIdleOf, pickedOf, movedOn, noSecond, secondShown, secondOf}
+use Rattle.controller.specs.Replies.{refusedCall, quiet, acks, forUs, isAnswer, unchanged, leaves, handledOf, messageOf, broughtOf, madeOf, doneOf, octetOf, lineIdleOf}
+use Rattle.controller.specs.Seconds.{pickedOf, movedOn, noSecond, secondShown, secondOf}
 
 -- The octet call
 

@@ -41,7 +41,7 @@ use Rattle.controller.specs.declared.Running.{Running}
 use Rattle.controller.specs.declared.Handled.{Handled}
 use Rattle.controller.specs.State.{outputLen, planRecord, readyIn}
 use Rattle.controller.specs.Handling.{Handling, accepted, reads, sets, runCode, queryTimesCode, queryPlanCode, queryRunningCode, carriedOutReply, refusedReply, refusedAs, setAs, unlessUnread, runAs, queryTimesAs, queryPlanAs, queryRunningAs, handlingOf}
-use Rattle.controller.specs.Calls.{sent, repliesOf, CanFind}
+use Rattle.controller.specs.Replies.{sent, repliesOf, CanFind}
 
 -- What the decoder finds
 

@@ -30,7 +30,8 @@ use Rattle.controller.specs.declared.Running.{Running}
 use Rattle.controller.specs.declared.Shown.{Shown}
 use Rattle.controller.specs.declared.State.{State}
 use Rattle.controller.specs.State.{all, freshOf, soundOf, readyIn}
-use Rattle.controller.specs.Calls.{octetOf, lineIdleOf, pickedOf, noSecond, secondOf}
+use Rattle.controller.specs.Replies.{octetOf, lineIdleOf}
+use Rattle.controller.specs.Seconds.{pickedOf, noSecond, secondOf}
 use Rattle.controller.specs.Demand3.{Event, octet, lineIdle, second, next, goesOn, run, Second, secondOfPlan, accepted, says, saysOn, seconds, latestRun, cycleOfPlan, Chosen, OneChoice, WholeCycles, unfinished, whole, RunsWholeCycles, HoldsWhole, AnyWindow, NoSecond, SetsNeverAlter, leftOf, crossing, CrossingCycles, CrossingHolds}
 use Rattle.plan.proofs.Cases.{built-in-stands}
 use Rattle.controller.proofs.Laws.{picked-ready, picked-stays, moved-within, moved-ends, second-8, second-done}

@@ -52,7 +52,7 @@ use Rattle.controller.specs.declared.Event.the-variants as event
 use Rattle.controller.specs.State.{all, outputLen, planRecord, soundOf}
 use Rattle.controller.specs.Handling as handling
 use Rattle.controller.specs.Handling.{Handling, carriedOutCode, refusedCode, runCode, queryTimesCode, queryPlanCode, queryRunningCode, carriedOutReply, setAs, runAs, queryTimesAs, queryPlanAs, queryRunningAs, handlingOf}
-use Rattle.controller.specs.Calls.{Call, sent, errOf, naks, forUs, isAnswer, repliesOf, Bringing, repliedOf, handledOf, messageOf, broughtOf, madeOf, octetOf}
+use Rattle.controller.specs.Replies.{Call, sent, errOf, naks, forUs, isAnswer, repliesOf, Bringing, repliedOf, handledOf, messageOf, broughtOf, madeOf, octetOf}
 use Rattle.controller.specs.Demand1.{InDone}
 use Rattle.controller.specs.Demand2.{Wrote, Err, IsAnswer, RepliesSo, Replies, Answers, CarriedOut, Reported, Refused, HandledSo, Handles, SecondsShow}
 use Rattle.controller.proofs.Judging.{RunningParts, sound-parts, record-octets}

@@ -16,7 +16,7 @@ use Rattle.plan.specs.Reporting.{planInfo, reportPlanOf}
 use Rattle.lamps.specs.Rows.{phaseTable, secondsOf}
 use Rattle.controller.specs.State.{freshOf, runningSound, soundOf}
 use Rattle.controller.specs.Handling.{carriedOutReply, refusedReply, runAs, queryRunningAs, handlingOf}
-use Rattle.controller.specs.Calls.{repliedOf, messageOf, doneOf, octetOf}
+use Rattle.controller.specs.Replies.{repliedOf, messageOf, doneOf, octetOf}
 use Rattle.controller.specs.Table.{cameOut, stateAfter, rows, due, OneTable}
 
 pub one-table : OneTable

@@ -17,7 +17,8 @@ use Rattle.plan.specs.BuiltIn.{builtIn}
 use Rattle.controller.specs.declared.Running.{Running}
 use Rattle.controller.specs.declared.State.{State}
 use Rattle.controller.specs.State.{all, outputLen, freshOf, soundOf, withDecoder}
-use Rattle.controller.specs.Calls.{startedOf, quiet, refusedCall, octetOf, lineIdleOf, noSecond, secondOf}
+use Rattle.controller.specs.Replies.{quiet, refusedCall, octetOf, lineIdleOf}
+use Rattle.controller.specs.Seconds.{startedOf, noSecond, secondOf}
 
 -- Which states are sound
 

@@ -29,7 +29,8 @@ use Rattle.controller.specs.declared.Event.{Event}
 use Rattle.controller.specs.declared.Event.the-variants as event
 use Rattle.controller.specs.State.{all, outputLen, soundOf, planRecord, withDecoder, withRunning}
 use Rattle.controller.specs.Handling.{runCode, queryTimesCode, queryPlanCode, queryRunningCode}
-use Rattle.controller.specs.Calls.{Call, sent, octetOf, secondOf}
+use Rattle.controller.specs.Replies.{Call, sent, octetOf}
+use Rattle.controller.specs.Seconds.{secondOf}
 
 -- What is written
 

@@ -33,7 +33,8 @@ use Rattle.controller.specs.declared.State.{State}
 use Rattle.controller.specs.declared.Shown.{Shown}
 use Rattle.controller.specs.State.{all, outputLen, freshOf, readyIn}
 use Rattle.controller.specs.Handling.{runCode}
-use Rattle.controller.specs.Calls.{forUs, octetOf, lineIdleOf, secondOf}
+use Rattle.controller.specs.Replies.{forUs, octetOf, lineIdleOf}
+use Rattle.controller.specs.Seconds.{secondOf}
 
 -- A run
 

@@ -1,6 +1,7 @@
 pub mod State
 pub mod Handling
-pub mod Calls
+pub mod Replies
+pub mod Seconds
 pub mod Demand1
 pub mod Demand2
 pub mod Demand3

@@ -9,7 +9,7 @@ use Rattle.plan.specs.BuiltIn.{builtIn}
 use Rattle.lamps.specs.Rows.{secondsOf}
 use Rattle.controller.specs.declared.State.{State}
 use Rattle.controller.specs.State.{outputLen, freshOf}
-use Rattle.controller.specs.Calls.{Call, octetOf}
+use Rattle.controller.specs.Replies.{Call, octetOf}
 
 -- octets go in one by one, each with an empty book and an output of zeros; what comes out of each call, one after another
 abbrev pub emptyBook : List ℕ

@@ -15,7 +15,7 @@ use Rattle.line.specs.Line.{tab, lineFeed}
 use Rattle.controller.specs.declared.State.{State}
 use Rattle.controller.specs.declared.Answer.{Answer}
 use Rattle.controller.specs.State.{outputLen}
-use Rattle.controller.specs.Calls.{Did, octetOf}
+use Rattle.controller.specs.Replies.{Did, octetOf}
 use Rattle.controller.proofs.Answering.{outputs-left}
 use Rattle.printout.specs.declared.run.Run.{Run}
 use Rattle.printout.specs.Listing.{replyLine}

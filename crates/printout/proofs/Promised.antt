@@ -1,6 +1,7 @@
 -- The promises of specs/Promises.antt: the words by those of the diagrams, 01's listing by computation.
 use Prim.Native.Nat.{ℕ, _%_, _^_, _<_}
 use mathlib.Core.Path.{_≡_, refl}
+use mathlib.Core.Bool.{not}
 use mathlib.Core.List.{List}
 use native.Mathlib.Decide.{decLt}
 use native.Mathlib.Omega.{arith}
@@ -26,7 +27,7 @@ use Rattle.lamps.proofs.Second.{lamps-of-step, dark-past}
 use Rattle.controller.specs.declared.State.{State}
 use Rattle.controller.specs.declared.Shown.{Shown}
 use Rattle.controller.specs.State.{freshOf, runningSound, soundOf}
-use Rattle.controller.specs.Calls.{movedOn, noSecond, secondOf}
+use Rattle.controller.specs.Seconds.{movedOn, noSecond, secondOf}
 use Rattle.text.specs.Text.{digits, placesWithin, places, decimal}
 use Rattle.text.proofs.Means.{hex-means}
 use Rattle.line.specs.Line as line
@@ -54,9 +55,9 @@ row-fits rec p =
 second-fits : (s : State) (book : List ℕ) → Fits (secondOf s book .row)
 unfolding secondOf noSecond
 second-fits s book =
-    pick-by (λ (w : Shown). Fits (w .row)) (soundOf s)
-    (λ _. pick-by (λ (w : Shown). Fits (w .row)) (eqb (length book) bookLen) (λ _. row-fits (s .running .copy) (s .running .position)) (λ _. (omega arith, omega arith)))
-    (λ _. (omega arith, omega arith))
+    let P : Shown → Type 0 = λ w. Fits (w .row) in
+    pick-by P (not (soundOf s)) (λ _. (omega arith, omega arith))
+    (λ _. pick-by P (not (eqb (length book) bookLen)) (λ _. (omega arith, omega arith)) (λ _. row-fits (s .running .copy) (s .running .position)))
 
 pub words-whole : WordsWhole
 words-whole s book = let f = second-fits s book in (whole (secondOf s book .row .steady) (f .0), whole (secondOf s book .row .flashing) (f .1))

@@ -5,7 +5,7 @@ use mathlib.Core.List.{List, [], _∷_, _++_}
 use Rattle.text.specs.Promises.{Means}
 use Rattle.line.specs.Line.{letterT, tab, lineFeed}
 use Rattle.controller.specs.declared.State.{State}
-use Rattle.controller.specs.Calls.{secondOf}
+use Rattle.controller.specs.Seconds.{secondOf}
 use Rattle.printout.specs.Listing.{wordText, header}
 use Rattle.printout.specs.Run.{listingOf}
 

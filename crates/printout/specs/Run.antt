@@ -7,7 +7,8 @@ use Rattle.octets.specs.Put.{Put}
 use Rattle.record.specs.Record.{bookLen}
 use Rattle.controller.specs.declared.State.{State}
 use Rattle.controller.specs.State.{outputLen, freshOf}
-use Rattle.controller.specs.Calls.{octetOf, secondOf}
+use Rattle.controller.specs.Replies.{octetOf}
+use Rattle.controller.specs.Seconds.{secondOf}
 use Rattle.line.specs.declared.Found.{Found}
 use Rattle.line.specs.declared.Found.the-variants as found
 use Rattle.line.specs.Line.{startOf}

@@ -2,7 +2,7 @@
 use borrow.Author.Needs.{needs}
 use borrow.Author.Tests.{eq-eqb, ne-eqb}
 use Rattle.controller.specs.State.{freshOf}
-use Rattle.controller.specs.Calls.{startedOf}
+use Rattle.controller.specs.Seconds.{startedOf}
 use Rattle.calls.proofs.fresh.Statement.{statement}
 use Rattle.calls.proofs.fresh.Tie as tie
 

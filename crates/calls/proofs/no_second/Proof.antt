@@ -1,6 +1,6 @@
 -- `calls::no_second` meets its contract: nothing is shown.
 use mathlib.Core.Path.{refl}
-use Rattle.controller.specs.Calls.{noSecond}
+use Rattle.controller.specs.Seconds.{noSecond}
 use Rattle.calls.proofs.no_second.Statement.{statement}
 use Rattle.calls.proofs.no_second.Tie as tie
 

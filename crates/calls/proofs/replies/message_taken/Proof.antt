@@ -4,7 +4,7 @@ use mathlib.Core.Path.{refl, sym, ap, _∙_}
 use native.Mathlib.Omega.{arith}
 use borrow.Author.Needs.{needs}
 use borrow.Author.Tests.{not-true, not-false}
-use Rattle.controller.specs.Calls.{isAnswer}
+use Rattle.controller.specs.Replies.{isAnswer}
 use Rattle.controller.proofs.Laws.{message-other, message-answer, message-handled}
 use Rattle.calls.proofs.Written.{stored-tells, handled-brings}
 use Rattle.calls.proofs.Writable.{reply-writable}

@@ -1,5 +1,5 @@
 -- `printout::run::run_start` meets its contract: the controller starts fresh.
-use Rattle.controller.specs.Calls.{startedOf}
+use Rattle.controller.specs.Seconds.{startedOf}
 use Rattle.printout.specs.Run.{runStart}
 use borrow.Author.Needs.{needs}
 use Rattle.printout.proofs.run.run_start.Statement.{statement}

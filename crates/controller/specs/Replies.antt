@@ -1,9 +1,9 @@
--- 01, "Replies" and "Lamps and seconds": what each call answers, and what it leaves in the state, the book and the output.
+-- 01, "Replies": what an octet call and a line-idle call answer, and what they leave in the state, the book and the output.
 use Prim.Native.Nat.{ℕ, _+_, _%_, _≤_}
 use mathlib.Core.Path.{_≡_}
-use mathlib.Core.Bool.{Bool, true}
+use mathlib.Core.Bool.{Bool, true, not}
 use mathlib.Core.List.{List, [], _∷_, _++_}
-use lib.Dec.{eqb, ltb, leb}
+use lib.Dec.{eqb, leb}
 use lib.ListN.{length}
 use lib.Seq.{sets}
 use Rattle.octets.specs.Choice.{pick}
@@ -20,23 +20,15 @@ use Rattle.frame.specs.Decoder.{takenOf, idledOf}
 use Rattle.frame.specs.Run.{Outcome, nothing, refused, sound, outcomeOf}
 use Rattle.message.specs.Reader.{codeIn}
 use Rattle.message.specs.Writer.{infoOf}
-use Rattle.record.specs.Record.{bookLen, cycleOf}
-use Rattle.lamps.specs.Rows.{rowAt, noRow}
+use Rattle.record.specs.Record.{bookLen}
 use Rattle.controller.specs.declared.Running.{Running}
 use Rattle.controller.specs.declared.State.{State}
-use Rattle.controller.specs.declared.Started.{Started}
 use Rattle.controller.specs.declared.Event.{Event}
 use Rattle.controller.specs.declared.Event.the-variants as event
 use Rattle.controller.specs.declared.Answer.{Answer}
-use Rattle.controller.specs.declared.Shown.{Shown}
 use Rattle.controller.specs.declared.Handled.{Handled}
-use Rattle.controller.specs.State.{all, outputLen, freshOf, soundOf, startedAt, planRecord, readyIn, withDecoder, withRunning}
+use Rattle.controller.specs.State.{all, outputLen, soundOf, withDecoder}
 use Rattle.controller.specs.Handling.{Handling, carriedOutCode, refusedCode, handlingOf}
-
--- The fresh start: "fresh start with address FFFF: a fresh state but for own address FFFF, so unsound"
-
-unfoldable pub startedOf : ℕ → Started
-startedOf own = record { refusal = pick (eqb own all) refusal.startWrong refusal.none; state = freshOf own }
 
 -- The octet call
 
@@ -177,45 +169,14 @@ doneOf s t book out = madeOf s (t .decoder) (broughtOf (outcomeOf t) (s .own) (s
 -- "Order: 7, 8, 9 in a call"
 unfoldable pub octetOf : State → List ℕ → List ℕ → ℕ → Call
 octetOf s book out b =
-    pick (soundOf s)
-    (pick (eqb (length book) bookLen)
-    (pick (leb outputLen (length out)) (doneOf s (takenOf (s .decoder) b) book out)
-    (refusedCall s refusal.outputShort book out))
-    (refusedCall s refusal.bookWrong book out))
-    (refusedCall s refusal.stateUnsound book out)
+    pick (not (soundOf s)) (refusedCall s refusal.stateUnsound book out)
+    (pick (not (eqb (length book) bookLen)) (refusedCall s refusal.bookWrong book out)
+    (pick (not (leb outputLen (length out))) (refusedCall s refusal.outputShort book out)
+    (doneOf s (takenOf (s .decoder) b) book out)))
 
 -- The line-idle call: "returns the decoder to idle and changes nothing else"
 
 unfoldable pub lineIdleOf : State → Answer
 lineIdleOf s =
-    pick (soundOf s) (quiet (withDecoder s (idledOf (s .decoder) .decoder)) refusal.none)
-    (quiet s refusal.stateUnsound)
-
--- The second call
-
--- "the requested one if it is plan 0 or ready in the book; if not, the running plan repeats"
-unfoldable pub pickedOf : Running → ℕ → List ℕ → Running
-pickedOf u requested book =
-    pick (readyIn book requested) (startedAt requested (planRecord book requested))
-    (startedAt (u .plan) (u .copy))
-
--- "then moves on. The call that answers a cycle's last second also picks the next plan"
-unfoldable pub movedOn : Running → ℕ → List ℕ → Running
-movedOn u requested book =
-    pick (ltb (u .position + 1) (cycleOf (u .copy))) (record { plan = u .plan; position = u .position + 1; copy = u .copy })
-    (pickedOf u requested book)
-
-unfoldable pub noSecond : State → ℕ → Shown
-noSecond s n = record { state = s; refusal = n; plan = 0; row = noRow }
-
--- "A second call answers the current plan, step, seconds left in the step (this one counted) and both words"
-abbrev pub secondShown : State → List ℕ → Shown
-secondShown s book =
-    let u = s .running in
-    record { state = withRunning s (movedOn u (s .requested) book); refusal = refusal.none; plan = u .plan; row = rowAt (u .copy) (u .position) }
-
-unfoldable pub secondOf : State → List ℕ → Shown
-secondOf s book =
-    pick (soundOf s)
-    (pick (eqb (length book) bookLen) (secondShown s book) (noSecond s refusal.bookWrong))
-    (noSecond s refusal.stateUnsound)
+    pick (not (soundOf s)) (quiet s refusal.stateUnsound)
+    (quiet (withDecoder s (idledOf (s .decoder) .decoder)) refusal.none)

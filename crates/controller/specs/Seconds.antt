@@ -1,0 +1,49 @@
+-- 01, "Lamps and seconds": the fresh start, and what a second call answers and leaves in the state.
+use Prim.Native.Nat.{ℕ, _+_}
+use mathlib.Core.Bool.{not}
+use mathlib.Core.List.{List}
+use lib.Dec.{eqb, ltb}
+use lib.ListN.{length}
+use Rattle.octets.specs.Choice.{pick}
+use Rattle.octets.specs.Refusal as refusal
+use Rattle.record.specs.Record.{bookLen, cycleOf}
+use Rattle.lamps.specs.Rows.{rowAt, noRow}
+use Rattle.controller.specs.declared.Running.{Running}
+use Rattle.controller.specs.declared.State.{State}
+use Rattle.controller.specs.declared.Started.{Started}
+use Rattle.controller.specs.declared.Shown.{Shown}
+use Rattle.controller.specs.State.{all, freshOf, soundOf, startedAt, planRecord, readyIn, withRunning}
+
+-- The fresh start: "fresh start with address FFFF: a fresh state but for own address FFFF, so unsound"
+
+unfoldable pub startedOf : ℕ → Started
+startedOf own = record { refusal = pick (eqb own all) refusal.startWrong refusal.none; state = freshOf own }
+
+-- The second call
+
+-- "the requested one if it is plan 0 or ready in the book; if not, the running plan repeats"
+unfoldable pub pickedOf : Running → ℕ → List ℕ → Running
+pickedOf u requested book =
+    pick (readyIn book requested) (startedAt requested (planRecord book requested))
+    (startedAt (u .plan) (u .copy))
+
+-- "then moves on. The call that answers a cycle's last second also picks the next plan"
+unfoldable pub movedOn : Running → ℕ → List ℕ → Running
+movedOn u requested book =
+    pick (ltb (u .position + 1) (cycleOf (u .copy))) (record { plan = u .plan; position = u .position + 1; copy = u .copy })
+    (pickedOf u requested book)
+
+unfoldable pub noSecond : State → ℕ → Shown
+noSecond s n = record { state = s; refusal = n; plan = 0; row = noRow }
+
+-- "A second call answers the current plan, step, seconds left in the step (this one counted) and both words"
+abbrev pub secondShown : State → List ℕ → Shown
+secondShown s book =
+    let u = s .running in
+    record { state = withRunning s (movedOn u (s .requested) book); refusal = refusal.none; plan = u .plan; row = rowAt (u .copy) (u .position) }
+
+unfoldable pub secondOf : State → List ℕ → Shown
+secondOf s book =
+    pick (not (soundOf s)) (noSecond s refusal.stateUnsound)
+    (pick (not (eqb (length book) bookLen)) (noSecond s refusal.bookWrong)
+    (secondShown s book))
