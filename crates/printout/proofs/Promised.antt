@@ -7,19 +7,23 @@ use native.Mathlib.Decide.{decLt}
 use native.Mathlib.Omega.{arith}
 use lib.Dec.{eqb}
 use lib.ListN.{length}
+use Rattle.octets.specs.ExclusiveOr.{xor, exclusiveOr}
 use Rattle.octets.specs.First.{firstOf}
 use Rattle.octets.proofs.Laws.{pick-by}
 use Rattle.diagram.specs.Table as diagram
 use Rattle.diagram.proofs.Words.{words-fit}
-use Rattle.frame.specs.Decoder.{freshDecoder, possibleOf}
+use Rattle.frame.specs.Frame.{frontOf, bodyOf, sentOf, cksOf, twice, doubled, written}
+use Rattle.frame.specs.Decoder.{freshDecoder, possibleOf, frontIn, cksIn, stepOf, takenOf}
 use Rattle.message.specs.Layouts.{layouts, layoutAt, known, numberOf, rowsAt}
 use Rattle.message.specs.Layouts as message
 use Rattle.message.specs.Values.{zeros, placed, firstOut}
 use Rattle.message.specs.Reader.{noMessage, refusedAs, partOf, rangedOf, readPartOf, readOf}
+use Rattle.message.specs.Writer.{infoAs}
 use Rattle.record.specs.Record.{bookLen, orderOf}
 use Rattle.checks.specs.Standing.{timesDisagree, planDisagree, ranged, timesStand, planStands, readyStands, allZero, standingOf}
 use Rattle.plan.specs.BuiltIn.{padded, builtIn}
 use Rattle.plan.specs.Reading.{same}
+use Rattle.plan.specs.Reporting.{planInfo, reportPlanOf}
 use Rattle.lamps.specs.declared.Row.{Row}
 use Rattle.lamps.specs.Rows.{phaseTable, secondsOf, rowAt}
 use Rattle.lamps.specs.Rows as lamps
@@ -27,14 +31,16 @@ use Rattle.lamps.proofs.Second.{lamps-of-step, dark-past}
 use Rattle.controller.specs.declared.State.{State}
 use Rattle.controller.specs.declared.Shown.{Shown}
 use Rattle.controller.specs.State.{freshOf, runningSound, soundOf}
+use Rattle.controller.specs.Handling.{queryRunningAs, handlingOf}
+use Rattle.controller.specs.Replies.{repliedOf, messageOf, doneOf, octetOf}
 use Rattle.controller.specs.Seconds.{movedOn, noSecond, secondOf}
-use Rattle.text.specs.Text.{digits, placesWithin, places, decimal}
+use Rattle.text.specs.Text.{digits, placesWithin, places, decimal, blankHex2, spaced, octetsHex}
 use Rattle.text.proofs.Means.{hex-means}
 use Rattle.line.specs.Line as line
 use Rattle.line.specs.Promises.{founds, after, foundIn}
-use Rattle.printout.specs.Listing.{header, field, wordLimit, wordText, numbers, secondLine}
-use Rattle.printout.specs.Run.{secondSaid, madeOf, listingFrom, listingOf}
-use Rattle.printout.specs.Promises.{Whole, WordsWhole, TwoSeconds}
+use Rattle.printout.specs.Listing.{header, field, wordLimit, wordText, numbers, secondLine, replyLine, badLine}
+use Rattle.printout.specs.Run.{secondSaid, badSaid, octetMade, madeOf, listingFrom, listingOf}
+use Rattle.printout.specs.Promises.{Whole, WordsWhole, TwoSeconds, ReplyAndBad}
 
 -- Words
 
@@ -67,3 +73,7 @@ words-whole s book = let f = second-fits s book in (whole (secondOf s book .row 
 pub two-seconds : TwoSeconds
 unfolding firstOf diagram.find diagram.directory diagram.diagramOf diagram.rows diagram.rowNumber diagram.rowOf freshDecoder possibleOf layouts layoutAt known numberOf rowsAt message.rowsOf zeros placed firstOut noMessage refusedAs partOf rangedOf readPartOf readOf timesDisagree planDisagree ranged timesStand planStands readyStands allZero standingOf padded builtIn same phaseTable secondsOf lamps.counted lamps.rowsFrom lamps.rowsOf rowAt freshOf runningSound soundOf movedOn secondOf digits line.octetOf line.endOf founds after foundIn header placesWithin places decimal field wordText numbers secondLine secondSaid madeOf listingFrom listingOf
 two-seconds = refl
+
+pub reply-and-bad : ReplyAndBad
+unfolding xor exclusiveOr firstOf diagram.find diagram.directory diagram.diagramOf diagram.rows diagram.rowNumber diagram.rowOf frontOf bodyOf sentOf cksOf twice doubled written freshDecoder possibleOf frontIn cksIn stepOf takenOf layouts layoutAt known numberOf rowsAt message.rowsOf zeros placed firstOut noMessage refusedAs partOf rangedOf readPartOf readOf infoAs timesDisagree planDisagree ranged timesStand planStands readyStands allZero standingOf padded builtIn same planInfo reportPlanOf phaseTable secondsOf freshOf runningSound soundOf queryRunningAs handlingOf repliedOf messageOf doneOf octetOf digits line.hexOf line.octetOf line.endOf founds after foundIn header placesWithin places decimal blankHex2 spaced octetsHex replyLine badLine octetMade badSaid madeOf listingFrom listingOf
+reply-and-bad = refl

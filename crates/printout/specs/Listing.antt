@@ -1,7 +1,7 @@
 -- 01, "Cases": what the listing program prints, in ASCII codes.
 use Prim.Native.Nat.{ℕ, _%_, _^_}
 use mathlib.Core.List.{List, [], _∷_, _++_}
-use Rattle.text.specs.Text.{hex8, decimal, octetsHex}
+use Rattle.text.specs.Text.{codes, hex8, decimal, octetsHex}
 use Rattle.line.specs.Line.{tab, lineFeed}
 use Rattle.lamps.specs.declared.Row.{Row}
 
@@ -16,15 +16,9 @@ wordMost = 9
 abbrev pub lineMost : ℕ
 lineMost = 102
 
--- "It prints a header": `second`, `plan`, `step`, `left`, `steady`, `flashing`
+-- "It prints a header"
 unfoldable pub header : List ℕ
-header =
-    (0x73 ∷ 0x65 ∷ 0x63 ∷ 0x6F ∷ 0x6E ∷ 0x64 ∷ tab ∷ [])
-    ++ (0x70 ∷ 0x6C ∷ 0x61 ∷ 0x6E ∷ tab ∷ [])
-    ++ (0x73 ∷ 0x74 ∷ 0x65 ∷ 0x70 ∷ tab ∷ [])
-    ++ (0x6C ∷ 0x65 ∷ 0x66 ∷ 0x74 ∷ tab ∷ [])
-    ++ (0x73 ∷ 0x74 ∷ 0x65 ∷ 0x61 ∷ 0x64 ∷ 0x79 ∷ tab ∷ [])
-    ++ (0x66 ∷ 0x6C ∷ 0x61 ∷ 0x73 ∷ 0x68 ∷ 0x69 ∷ 0x6E ∷ 0x67 ∷ lineFeed ∷ [])
+header = codes "second\tplan\tstep\tleft\tsteady\tflashing\n"
 
 -- "fields parted by tabs": a number, and the tab after it
 unfoldable pub field : ℕ → List ℕ
@@ -48,8 +42,8 @@ secondLine n plan row = numbers n plan row ++ (wordText (row .steady) ++ tab ∷
 -- "for each call that wrote a reply `reply`, tab, octets in hex with spaces": the octets that the call wrote
 unfoldable pub replyLine : List ℕ → List ℕ
 replyLine [] = []
-replyLine (x ∷ xs) = (0x72 ∷ 0x65 ∷ 0x70 ∷ 0x6C ∷ 0x79 ∷ tab ∷ []) ++ octetsHex (x ∷ xs) ++ lineFeed ∷ []
+replyLine (x ∷ xs) = codes "reply\t" ++ octetsHex (x ∷ xs) ++ lineFeed ∷ []
 
 -- "for a bad line `bad`, tab, its number from 1"
 unfoldable pub badLine : ℕ → List ℕ
-badLine n = (0x62 ∷ 0x61 ∷ 0x64 ∷ tab ∷ []) ++ decimal n ++ lineFeed ∷ []
+badLine n = codes "bad\t" ++ decimal n ++ lineFeed ∷ []

@@ -1,12 +1,12 @@
--- 01, "Cases": the lamp words are printed whole, and two T lines print what 01 shows.
+-- 01, "Cases": the lamp words are printed whole; two T lines print what 01 shows, and P1's octets its reply.
 use Prim.Native.Nat.{ℕ}
 use mathlib.Core.Path.{_≡_}
-use mathlib.Core.List.{List, [], _∷_, _++_}
+use mathlib.Core.List.{List, _++_}
+use Rattle.text.specs.Text.{codes}
 use Rattle.text.specs.Promises.{Means}
-use Rattle.line.specs.Line.{letterT, tab, lineFeed}
 use Rattle.controller.specs.declared.State.{State}
 use Rattle.controller.specs.Seconds.{secondOf}
-use Rattle.printout.specs.Listing.{wordText, header}
+use Rattle.printout.specs.Listing.{wordText}
 use Rattle.printout.specs.Run.{listingOf}
 
 -- The lamp words
@@ -21,23 +21,16 @@ WordsWhole = (s : State) (book : List ℕ) → Whole (secondOf s book .row .stea
 
 -- 01's listing
 
-abbrev pub twoSeconds : List ℕ
-twoSeconds = letterT ∷ lineFeed ∷ letterT ∷ lineFeed ∷ []
-
--- `0`, `0`, `1`, `18`, `41418888`, `00000000`
-abbrev pub firstSecond : List ℕ
-firstSecond =
-    (0x30 ∷ tab ∷ 0x30 ∷ tab ∷ 0x31 ∷ tab ∷ 0x31 ∷ 0x38 ∷ tab ∷ [])
-    ++ (0x34 ∷ 0x31 ∷ 0x34 ∷ 0x31 ∷ 0x38 ∷ 0x38 ∷ 0x38 ∷ 0x38 ∷ tab ∷ [])
-    ++ (0x30 ∷ 0x30 ∷ 0x30 ∷ 0x30 ∷ 0x30 ∷ 0x30 ∷ 0x30 ∷ 0x30 ∷ lineFeed ∷ [])
-
--- `1`, `0`, `1`, `17`, `41418888`, `00000000`
-abbrev pub nextSecond : List ℕ
-nextSecond =
-    (0x31 ∷ tab ∷ 0x30 ∷ tab ∷ 0x31 ∷ tab ∷ 0x31 ∷ 0x37 ∷ tab ∷ [])
-    ++ (0x34 ∷ 0x31 ∷ 0x34 ∷ 0x31 ∷ 0x38 ∷ 0x38 ∷ 0x38 ∷ 0x38 ∷ tab ∷ [])
-    ++ (0x30 ∷ 0x30 ∷ 0x30 ∷ 0x30 ∷ 0x30 ∷ 0x30 ∷ 0x30 ∷ 0x30 ∷ lineFeed ∷ [])
-
--- "Two T lines give"
+-- "Two T lines give, fields parted by tabs"
 abbrev pub TwoSeconds : Type 0
-TwoSeconds = listingOf twoSeconds ≡ header ++ firstSecond ++ nextSecond
+TwoSeconds =
+    listingOf (codes "T\nT\n")
+    ≡ codes "second\tplan\tstep\tleft\tsteady\tflashing\n0\t0\t1\t18\t41418888\t00000000\n1\t0\t1\t17\t41418888\t00000000\n"
+
+-- P1 as octets, in capitals or not, and a bad line: "`reply`, tab, octets in hex with spaces, and for a bad line `bad`, tab, its
+-- number from 1"; the reply is P2 and P3
+abbrev pub ReplyAndBad : Type 0
+ReplyAndBad =
+    listingOf (codes "B\tAA\nB\tBB\nB\t07\nB\t00\nB\t01\nB\t00\nB\t0c\nB\t5F\nB\t48\nB\taa\nB\tCC\nB\t6a\nB\t6\n")
+    ≡ codes "second\tplan\tstep\tleft\tsteady\tflashing\n"
+    ++ codes "reply\tAA DD 07 00 01 00 08 79 AA BB 00 00 01 00 18 5F C8 00 00 00 02 00 19 00 19 00 3C 00 00 AA CC C7\nbad\t13\n"
