@@ -8,10 +8,10 @@ use lib.ListN.{length, take, drop, length-append, length-take}
 use lib.Seq.{sets-eq, take-at}
 use Rattle.octets.specs.Put.{Stored, Put}
 use Rattle.octets.proofs.Laws.{pick-by}
-use Rattle.text.specs.Text.{octetsHex}
+use Rattle.text.specs.Text.{codes, octetsHex}
 use Rattle.text.proofs.Laws.{octets-length}
 use Rattle.line.specs.declared.Found.the-variants as found
-use Rattle.line.specs.Line.{tab, lineFeed}
+use Rattle.line.specs.Line.{lineFeed}
 use Rattle.controller.specs.declared.State.{State}
 use Rattle.controller.specs.declared.Answer.{Answer}
 use Rattle.controller.specs.State.{outputLen}
@@ -41,7 +41,7 @@ unfolding replyLine
 reply-none [] h = refl
 reply-none (x ∷ xs) h = absurd (omega arith)
 
-pub reply-some : (xs : List ℕ) → 0 < length xs → replyLine xs ≡ (0x72 ∷ 0x65 ∷ 0x70 ∷ 0x6C ∷ 0x79 ∷ tab ∷ []) ++ octetsHex xs ++ lineFeed ∷ []
+pub reply-some : (xs : List ℕ) → 0 < length xs → replyLine xs ≡ codes "reply\t" ++ octetsHex xs ++ lineFeed ∷ []
 unfolding replyLine
 reply-some [] h = absurd (omega arith)
 reply-some (x ∷ xs) h = refl
