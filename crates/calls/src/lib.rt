@@ -1,4 +1,5 @@
-// 01, "Replies" and "Lamps and seconds": the controller's calls. Each is refused 7, 8 or 9, in that order, or done.
+// 01, "Replies" and "Lamps and seconds": the controller's calls. A call is refused by the first of 7, 8 and 9 that it
+// can meet, or done.
 mod handling;
 mod replies;
 mod soundness;

@@ -87,7 +87,7 @@ pub record IdleAnswered (s : State) : Type 0 where
 abbrev pub IdlesAnswered : Type 0
 IdlesAnswered = (s : State) → IdleAnswered s
 
--- "fresh start with address FFFF: a fresh state but for own address FFFF, so unsound"
+-- "fresh start with address FFFF": "a fresh state but for own address FFFF, so unsound"
 pub record StartAnswered (own : ℕ) : Type 0 where
   pub state : startedOf own .state ≡ freshOf own
   pub refused : own ≡ all → (startedOf own .refusal ≡ refusal.startWrong) × (soundOf (freshOf own) ≡ false)

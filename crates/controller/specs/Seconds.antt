@@ -14,7 +14,7 @@ use Rattle.controller.specs.declared.Started.{Started}
 use Rattle.controller.specs.declared.Shown.{Shown}
 use Rattle.controller.specs.State.{all, freshOf, soundOf, startedAt, planRecord, readyIn, withRunning}
 
--- The fresh start: "fresh start with address FFFF: a fresh state but for own address FFFF, so unsound"
+-- The fresh start: "fresh start with address FFFF": "a fresh state but for own address FFFF, so unsound"
 
 unfoldable pub startedOf : ℕ → Started
 startedOf own = record { refusal = pick (eqb own all) refusal.startWrong refusal.none; state = freshOf own }
