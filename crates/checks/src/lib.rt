@@ -1,8 +1,9 @@
 // 01, "Plan book": how a record stands. "Octets that are not such a record, checks included, read as empty."
 ghost use mathlib.Core.Path.{_≡_};
-ghost use Prim.Native.Nat.{_<_};
+ghost use Prim.Native.Nat.{_≤_, _<_};
 ghost use lib.ListN.{length, drop};
 ghost use Rattle.octets.specs.Choice.{pick};
+ghost use Rattle.octets.specs.First.{firstOf};
 ghost use Rattle.record.specs.Record.{recordLen, kOf, sumOf, phaseSeconds, empty, TimesFit, AllTimesFit, GreensWithin};
 ghost use Rattle.checks.specs.Standing.{timesFail, timesDisagree, greenFails, planFails, planDisagree, timesStand, planStands, readyStands, allZero, every, Tells, standingOf};
 use message::layout;
@@ -144,18 +145,37 @@ fn every(checks: &[bool]) -> bool
 pub fn times_disagree(rec: &[u8]) -> u16
     ensures { λ r. ⌜ r ≡ timesDisagree (now (rec .entry)) ⌝ }
 {
-    let k = record::count(rec);
-    let n = 2 * k as u16;
-    let mut c: u16 = 0;
-    loop {
-        if n <= c {
-            break 0;
+    first_failed(rec, true, 2 * record::count(rec) as u16)
+}
+
+// The first check of the rest that fails, from 1; 0 where none does.
+pub fn plan_disagree(rec: &[u8]) -> u16
+    ensures { λ r. ⌜ r ≡ planDisagree (now (rec .entry)) ⌝ }
+{
+    first_failed(rec, false, record::count(rec) as u16 + 3)
+}
+
+// The same, of n checks, those of the times or else those of the rest.
+fn first_failed(rec: &[u8], times: bool, n: u16) -> u16
+    requires { ⌜ n ≤ 512 ⌝ }
+    ensures { λ r. ⌜ r ≡ firstOf (pick times timesFail planFails (now (rec .entry))) 0 n ⌝ }
+{
+    for c in 0..n {
+        if fails(rec, times, c) {
+            return c + 1;
         }
-        if times_fail(rec, c) {
-            break c + 1;
-        }
-        c += 1;
     }
+    0
+}
+
+fn fails(rec: &[u8], times: bool, c: u16) -> bool
+    requires { ⌜ c < 512 ⌝ }
+    ensures { λ r. ⌜ r ≡ pick times timesFail planFails (now (rec .entry)) c ⌝ }
+{
+    if times {
+        return times_fail(rec, c);
+    }
+    plan_fails(rec, c)
 }
 
 // Of phase i, check 2i is "maximum at least minimum", check 2i + 1 "walk flash plus red man less than minimum".
@@ -169,24 +189,6 @@ fn times_fail(rec: &[u8], c: u16) -> bool
         return record::maximum(rec, i) < least;
     }
     least <= record::walk_flash(rec, i) as u16 + record::red_man(rec, i) as u16
-}
-
-// The first check of the rest that fails, from 1; 0 where none does.
-pub fn plan_disagree(rec: &[u8]) -> u16
-    ensures { λ r. ⌜ r ≡ planDisagree (now (rec .entry)) ⌝ }
-{
-    let k = record::count(rec);
-    let n = k as u16 + 3;
-    let mut c: u16 = 0;
-    loop {
-        if n <= c {
-            break 0;
-        }
-        if plan_fails(rec, c) {
-            break c + 1;
-        }
-        c += 1;
-    }
 }
 
 // Check 0 is the count's, the next k are the greens', then come the cycle's and the offset's.

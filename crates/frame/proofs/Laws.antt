@@ -20,7 +20,7 @@ use Rattle.frame.specs.declared.decoder.Head.{Head}
 use Rattle.frame.specs.declared.decoder.Decoder.{Decoder}
 use Rattle.frame.specs.Frame.{Frame, message, ack, nak, infoLeast, infoMost, messageLen, ackLen, nakLen, lenFits, infoFits, front, frontOf, bodyOf, sentOf, cksOf, twice, doubled, written}
 use Rattle.frame.specs.Writer.{writeOf}
-use Rattle.frame.specs.Decoder.{infoDue, infoWhole, idleDrops, possibleOf, possibleAt, stepped, placed, ended, afterAa, stepOf, stepAt, cksIn, frontIn, taken, infoThen, takenAs, takenOf, idledOf, unsound, headOf, lenJudged, afterLen, refusedBy}
+use Rattle.frame.specs.Decoder.{hasInfo, infoDue, idleDrops, possibleOf, possibleAt, stepped, placed, ended, afterAa, stepOf, stepAt, cksIn, frontIn, taken, infoThen, takenAs, takenOf, idledOf, unsound, headOf, lenJudged, afterLen, refusedBy}
 use Rattle.frame.specs.declared.decoder.Place.the-variants.{Idle, LoneAa, Seq, AddrHigh, AddrLow, LenHigh, LenLow, Info, InfoAa, CloseAa, CloseCc, Err, Cks}
 use Rattle.frame.specs.declared.decoder.Stepped.{Stepped}
 use Rattle.frame.specs.declared.decoder.Found.{Found}
@@ -82,15 +82,10 @@ module _ (f : Frame) (out : List ℕ) (at : ℕ) where
 pub message-len : (n : ℕ) → lenFits Message n ≡ true → 12 ≤ n
 message-len n h = leb-true 12 n (both-left (leb 12 n) (leb n 266) h)
 
-module _ {k : Kind} (n g : ℕ) (e : k ≡ Message) where
-  pub info-due : lenFits k n ≡ true → infoDue k n g ≡ ltb g (n - messageLen)
-  info-due f = rw (e, rw e at f)
-
-  pub info-whole : lenFits k n ≡ true → infoWhole k n g ≡ eqb g (n - messageLen)
-  info-whole f = rw (e, rw e at f)
-
-  pub info-not : lenFits k n ≡ false → (infoDue k n g ≡ false) × (infoWhole k n g ≡ false)
-  info-not f = (rw (e, rw e at f), rw (e, rw e at f))
+pub info-len : (k : Kind) (n : ℕ) → hasInfo k n ≡ true → (12 ≤ n) × (n ≤ 266)
+info-len Message n h = (message-len n h, leb-true n 266 (both-right (leb 12 n) (leb n 266) h))
+info-len Ack n h = absurd (clash refl h)
+info-len Nak n h = absurd (clash refl h)
 
 pub possible-at : (h : Head) {p : Place} → h .place ≡ p → possibleOf h ≡ possibleAt p (h .kind) (h .addr) (h .len) (h .got)
 unfolding possibleOf
@@ -123,12 +118,10 @@ module _ (h : Head) (n : ℕ) where
 
 -- INFO that is still to come has its place in the array
 info-room : (k : Kind) (n g : ℕ) → infoDue k n g ≡ true → g < infoMost
-info-room Message n g h =
-    let f = both-left (lenFits Message n) (ltb g (n - messageLen)) h in
-    let q = ltb-true g (n - messageLen) (both-right (lenFits Message n) (ltb g (n - messageLen)) h) in
-    omega (arith, leb-true n 266 (both-right (leb 12 n) (leb n 266) f))
-info-room Ack n g h = absurd (clash refl h)
-info-room Nak n g h = absurd (clash refl h)
+info-room k n g h =
+    let f = info-len k n (both-left (hasInfo k n) (ltb g (n - messageLen)) h) in
+    let q = ltb-true g (n - messageLen) (both-right (hasInfo k n) (ltb g (n - messageLen)) h) in
+    omega arith
 
 module _ (h : Head) where
   pub room-info : h .place ≡ Info → possibleOf h ≡ true → h .got < infoMost

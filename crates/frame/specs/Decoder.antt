@@ -30,17 +30,19 @@ freshDecoder = record { head = headOf Idle Message 0 0 0 0 0; info = replicate i
 
 -- Which decoders are possible
 
+-- a message whose LEN is right: no other frame has INFO
+abbrev pub hasInfo : Kind → ℕ → Bool
+hasInfo Message n = lenFits Message n
+hasInfo Ack n = false
+hasInfo Nak n = false
+
 -- a message some of whose INFO is still to come
 abbrev pub infoDue : Kind → ℕ → ℕ → Bool
-infoDue Message n g = both (lenFits Message n) (ltb g (n - messageLen))
-infoDue Ack n g = false
-infoDue Nak n g = false
+infoDue k n g = both (hasInfo k n) (ltb g (n - messageLen))
 
 -- a message all of whose INFO is in
 abbrev pub infoWhole : Kind → ℕ → ℕ → Bool
-infoWhole Message n g = both (lenFits Message n) (eqb g (n - messageLen))
-infoWhole Ack n g = false
-infoWhole Nak n g = false
+infoWhole k n g = both (hasInfo k n) (eqb g (n - messageLen))
 
 -- a NAK, whose ERR is still to come
 abbrev pub errDue : Kind → ℕ → Bool

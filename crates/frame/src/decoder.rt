@@ -5,7 +5,7 @@ ghost use Prim.Native.Nat.{_≤_, _<_};
 ghost use lib.ListN.{take};
 ghost use Rattle.octets.specs.ExclusiveOr.{exclusiveOr};
 ghost use Rattle.frame.specs.Frame.{lenFits, infoMost};
-ghost use Rattle.frame.specs.Decoder.{freshDecoder, infoDue, infoWhole, errDue, cksDue, idleDrops, possibleOf, placed, foundAt, moved, ended, opened, refusedBy, idleOctet, afterAa, afterLen, lenJudged, afterInfo, kept, infoOctet, infoAaOctet, closeAaOctet, closeCcOctet, cksIn, soundBy, cksOctet, stepAt, takenOf, idledOf};
+ghost use Rattle.frame.specs.Decoder.{freshDecoder, hasInfo, infoDue, infoWhole, errDue, cksDue, idleDrops, possibleOf, placed, foundAt, moved, ended, opened, refusedBy, idleOctet, afterAa, afterLen, lenJudged, afterInfo, kept, infoOctet, infoAaOctet, closeAaOctet, closeCcOctet, cksIn, soundBy, cksOctet, stepAt, takenOf, idledOf};
 use crate::AA;
 use crate::ACK_LEN;
 use crate::BB;
@@ -180,36 +180,29 @@ pub fn possible(h: Head) -> bool
     }
 }
 
+// A message whose LEN is right. No other frame has INFO.
+fn has_info(k: Kind, len: u16) -> bool
+    ensures { λ r. ⌜ r ≡ hasInfo k len ⌝ }
+{
+    match k {
+        Kind::Message => len_fits(k, len),
+        Kind::Ack => false,
+        Kind::Nak => false,
+    }
+}
+
 // A message some of whose INFO is still to come.
 fn info_due(k: Kind, len: u16, got: u16) -> bool
     ensures { λ r. ⌜ r ≡ infoDue k len got ⌝ }
 {
-    match k {
-        Kind::Message => {
-            if !len_fits(k, len) {
-                return false;
-            }
-            got < len - MESSAGE_LEN
-        }
-        Kind::Ack => false,
-        Kind::Nak => false,
-    }
+    has_info(k, len) && got < len - MESSAGE_LEN
 }
 
 // A message all of whose INFO is in.
 fn info_whole(k: Kind, len: u16, got: u16) -> bool
     ensures { λ r. ⌜ r ≡ infoWhole k len got ⌝ }
 {
-    match k {
-        Kind::Message => {
-            if !len_fits(k, len) {
-                return false;
-            }
-            got == len - MESSAGE_LEN
-        }
-        Kind::Ack => false,
-        Kind::Nak => false,
-    }
+    has_info(k, len) && got == len - MESSAGE_LEN
 }
 
 // A NAK, whose ERR is still to come.

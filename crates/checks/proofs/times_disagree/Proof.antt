@@ -1,60 +1,12 @@
--- `checks::times_disagree` meets its contract: what is left of the search gives what the whole gives.
-use Prim.Native.Nat.{_*_, _≤_, _-_}
-use mathlib.Core.Path.{_≡_, refl, sym, ap, _∙_}
-use native.Mathlib.Omega.{arith}
+-- `checks::times_disagree` meets its contract: the checks of the times are two of each phase.
 use borrow.Author.Needs.{needs}
-use Rattle.octets.specs.First.{firstOf}
-use Rattle.octets.proofs.Search.{search-ends, search-stops, search-goes}
-use Rattle.checks.specs.Standing.{timesFail, timesDisagree}
+use Rattle.checks.specs.Standing.{timesDisagree}
 use Rattle.checks.proofs.times_disagree.Statement.{statement}
 use Rattle.checks.proofs.times_disagree.Tie as tie
 
-abbrev Inv-loop : tie.InvT-loop
-Inv-loop rec k n c₀ c = (c ≤ n) × (firstOf (timesFail rec) c (n - c) ≡ timesDisagree rec)
-
-abbrev μ-loop : tie.MeasureT-loop
-μ-loop rec k n c₀ c = n - c
-
-loop-holds : tie.Need-loop-holds Inv-loop μ-loop
+returns : tie.Need-returns
 unfolding timesDisagree
-loop-holds c =
-    let rec = c .before .before .args .rec .now in
-    (search needs, ap (firstOf (timesFail rec) 0) (omega (arith, c .count .ensures)))
-
-loop-again : tie.Need-loop-again Inv-loop μ-loop
-loop-again c =
-    let d = c .before .before .before in
-    let rec = d .before .before .before .args .rec .now in
-    let t = sym (c .before .times-fail .ensures) ∙ c .if2 .left in
-    (search needs, sym (search-goes (timesFail rec) (2 * d .before .count .result) (d .loop .c) (search needs) t) ∙ d .loop .inv .1)
-
-returns : tie.Need-returns Inv-loop μ-loop
-returns c =
-    let d = c .before in
-    let rec = d .before .before .before .args .rec .now in
-    sym (search-ends (timesFail rec) (2 * d .before .count .result) (d .loop .c) (search needs)) ∙ d .loop .inv .1
-
-returns-2 : tie.Need-returns-2 Inv-loop μ-loop
-returns-2 c =
-    let d = c .before .before .before in
-    let rec = d .before .before .before .args .rec .now in
-    let t = sym (c .before .times-fail .ensures) ∙ c .if2 .taken in
-    sym (search-stops (timesFail rec) (2 * d .before .count .result) (d .loop .c) (search needs) t) ∙ d .loop .inv .1
+returns c = rw (← c .before .count .ensures) (c .first-failed .ensures)
 
 pub times-disagree-spec : {M : Type 1} → statement M
-times-disagree-spec =
-    tie.close
-    (tie.spec
-    Inv-loop
-    μ-loop
-    (λ c κs. search needs)
-    (λ c. search needs)
-    (λ c. search needs)
-    loop-holds
-    (λ c κs. search needs)
-    (λ c. search needs)
-    (λ c. search needs)
-    (λ c. search needs)
-    loop-again
-    returns
-    returns-2)
+times-disagree-spec = tie.close (tie.spec (λ c κs. search needs) (λ c. search needs) (λ c. search needs) (λ c κs. search needs) returns)
