@@ -1,4 +1,4 @@
--- A possible decoder stays possible, place by place.
+-- A possible decoder stays possible, place by place; an impossible one is refused.
 use Prim.Native.Nat.{ℕ, _+_, _-_, _≤_, _<_}
 use mathlib.Core.Path.{_≡_, refl, sym, ap, _∙_}
 use mathlib.Core.Bool.{Bool, true, false}
@@ -21,8 +21,8 @@ use Rattle.frame.specs.declared.decoder.Found.the-variants as found
 use Rattle.frame.specs.declared.decoder.Stepped.{Stepped}
 use Rattle.frame.specs.Frame.{lenFits, messageLen}
 use Rattle.frame.specs.Decoder.{headOf, possibleAt, possibleOf, freshDecoder, infoDue, infoWhole, errDue, cksDue, afterLen, afterAa, kept, stepAt, stepOf, takenOf, idledOf, cksIn}
-use Rattle.frame.specs.Promises.{PossibleFrom, PossibleKept}
-use Rattle.frame.proofs.Laws.{message-len, taken-done, idled-done}
+use Rattle.frame.specs.Promises.{CallsOf, CallsAnswered, PossibleFrom, PossibleKept}
+use Rattle.frame.proofs.Laws.{message-len, taken-7, taken-done, idled-7, idled-done}
 
 -- a decoder with all its fields given
 abbrev pub at : Place → Kind → ℕ → ℕ → ℕ → ℕ → ℕ → List ℕ → Decoder
@@ -88,6 +88,16 @@ pub step-possible : (d : Decoder) (b : ℕ) → b < 256 → possibleOf (d .head)
 unfolding stepOf
 step-possible d b o h =
     let q = d .head in step-at-place (q .seq) (q .err) (q .addr) (q .len) (q .got) (d .info) b o (q .place) (q .kind) h
+
+pub calls-answered : CallsAnswered
+unfolding stepOf
+calls-answered d =
+    record {
+      octetRefused = taken-7 d;
+      octetDone = λ b h. rw (taken-done d b h);
+      idleRefused = idled-7 d;
+      idleDone = idled-done d;
+    }
 
 pub possible-kept : PossibleKept
 unfolding possibleOf freshDecoder

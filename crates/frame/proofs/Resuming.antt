@@ -1,7 +1,8 @@
--- Where the decoder is after a refusal or a sound frame, place by place.
+-- Where the decoder is in idle and after a lone AA, and after a refusal or a sound frame, place by place.
 use Prim.Native.Nat.{ℕ}
 use mathlib.Core.Path.{_≡_, refl, ap, _∙_}
 use mathlib.Core.Bool.{Bool, true, false}
+use borrow.Author.Tests.{ne-eqb}
 use lib.Dec.{eqb}
 use Rattle.octets.specs.Choice.{pick}
 use Rattle.octets.specs.Refusal as refusal
@@ -16,9 +17,22 @@ use Rattle.frame.specs.declared.decoder.Stepped.{Stepped}
 use Rattle.frame.specs.Frame.{lenFits}
 use Rattle.frame.specs.Decoder.{possibleOf, afterAa, refusedBy, stepOf, stepAt, takenAs, takenOf, cksIn}
 use Rattle.frame.specs.Run.{nothing, outcomeOf}
-use Rattle.frame.specs.Promises.{placedAt, resumedAt, Resumes}
+use Rattle.frame.specs.Promises.{placedAt, WaitsFrom, Waits, resumedAt, Resumes}
 use Rattle.frame.proofs.Laws.{taken-done}
 use Rattle.frame.proofs.Refusing.{after-aa-outcome}
+
+pub waits : Waits
+unfolding takenOf stepOf possibleOf
+waits d =
+    record {
+      remembered = refl;
+      dropped = λ b aa. rw (ne-eqb b 0xAA aa);
+      opensMessage = refl;
+      opensAck = refl;
+      opensNak = refl;
+      stays = refl;
+      returns = λ b bb dd ee aa. rw (ne-eqb b 0xAA aa, ne-eqb b 0xBB bb, ne-eqb b 0xDD dd, ne-eqb b 0xEE ee);
+    }
 
 -- two choices by one test
 pick-two : {A : Type 0} (R : A → A → Type 0) (t : Bool) {a b a′ b′ : A} → R a a′ → R b b′ → R (pick t a b) (pick t a′ b′)

@@ -1,18 +1,20 @@
--- What LEN and CKS of a frame as written are, and what the writers leave.
-use Prim.Native.Nat.{ℕ, suc, _+_, _-_, _≤_}
+-- What LEN and CKS of a frame as written are; and the writers refuse when, and only when, 01 says so.
+use Prim.Native.Nat.{ℕ, suc, _+_, _-_, _≤_, _<_}
 use mathlib.Core.Path.{_≡_, refl, sym, ap, _∙_}
 use mathlib.Core.Bool.{Bool, true, false}
 use mathlib.Core.List.{List, [], _∷_, _++_, append-assoc}
 use native.Mathlib.Omega.{arith}
+use borrow.Author.Tests.{leb-true, leb-false, le-leb, lt-leb}
+use lib.Dec.{leb}
 use lib.ListN.{length, take, drop, getD, length-append}
-use lib.Seq.{getD-append-seam}
+use lib.Seq.{getD-append-seam, sets-eq}
 use Rattle.octets.specs.ExclusiveOr.{exclusiveOr}
-use Rattle.octets.specs.Writing.{Leaves}
+use Rattle.octets.specs.Writing.{Writing, writtenAs}
 use Rattle.octets.specs.Word.{highOf, lowOf, wordOf}
-use Rattle.octets.proofs.Laws.{pick-by, exclusive-or-closed, word-back, written-leaves}
+use Rattle.octets.proofs.Laws.{pick-by, both-left, both-right, clash, exclusive-or-closed, word-back}
 use Rattle.frame.specs.Frame.{Frame, message, ack, nak, lenOf, messageLen, infoFits, frontOf, bodyOf, sentOf, cksOf, undoubled, written}
 use Rattle.frame.specs.Writer.{writeOf}
-use Rattle.frame.specs.Promises.{LenCounts, CksCovers, WritersLeave}
+use Rattle.frame.specs.Promises.{LenCounts, CksCovers, InfoFits, WriteJudged, infoWrong, outputShort, stored, WrittenSo}
 use Rattle.frame.proofs.Reading.{whole}
 
 undoubled-length : (f : Frame) → length (undoubled f) ≡ lenOf f
@@ -34,9 +36,42 @@ pub cks-covers : CksCovers
 unfolding undoubled cksOf
 cks-covers f = (rw (← append-assoc (frontOf f) (bodyOf f) (cksOf f ∷ [])) (exclusive-or-closed (frontOf f ++ bodyOf f)), rw (whole f) (last-of (frontOf f ++ sentOf f) (cksOf f)))
 
-pub writers-leave : WritersLeave
-unfolding writeOf
-writers-leave f at out =
-    pick-by (Leaves (written f) at out) (infoFits f)
-    (λ _. written-leaves (written f) out at)
-    (λ _. record { refused = λ _. (refl, refl); stored = λ p. absurd (omega arith) })
+-- the test of INFO is the one of 01
+fits-in : (f : Frame) → infoFits f ≡ true → InfoFits f
+fits-in (message s a i) h = let n = length i in (leb-true 2 n (both-left (leb 2 n) (leb n 256) h), leb-true n 256 (both-right (leb 2 n) (leb n 256) h))
+fits-in (ack s a) h = tt
+fits-in (nak s a e) h = tt
+
+in-fits : (f : Frame) → InfoFits f → infoFits f ≡ true
+in-fits (message s a i) h = rw (le-leb 2 (length i) (h .0), le-leb (length i) 256 (h .1))
+in-fits (ack s a) h = refl
+in-fits (nak s a e) h = refl
+
+not-in : (f : Frame) → (InfoFits f → ⊥) → infoFits f ≡ false
+not-in f n = by (infoFits f) refl
+  where
+    by : (b : Bool) → infoFits f ≡ b → b ≡ false
+    by true e = absurd (n (fits-in f e))
+    by false e = refl
+
+module _ (f : Frame) (at : ℕ) (out : List ℕ) where
+  abbrev vs : List ℕ
+  vs = written f
+
+  when : {w : Writing} → WriteJudged f at out w → w ≡ writeOf f at out
+  unfolding writeOf writtenAs
+  when (infoWrong n) = rw (not-in f n)
+  when (outputShort p h) = rw (in-fits f p, lt-leb (at + length vs) (length out) h)
+  when (stored p h) = rw (in-fits f p, le-leb (at + length vs) (length out) h, sets-eq vs out at h, append-assoc)
+
+  then′ : WriteJudged f at out (writeOf f at out)
+  unfolding writeOf writtenAs
+  then′ =
+      pick-by (WriteJudged f at out) (infoFits f)
+      (λ t. pick-by (WriteJudged f at out) (leb (at + length vs) (length out))
+      (λ r. let h = leb-true (at + length vs) (length out) r in rw (sets-eq vs out at h, append-assoc) (stored (fits-in f t) h))
+      (λ r. outputShort (fits-in f t) (leb-false (at + length vs) (length out) r)))
+      (λ t. infoWrong (λ p. clash t (in-fits f p)))
+
+pub written-so : WrittenSo
+written-so f at out w = (when f at out, λ e. rw e (then′ f at out))

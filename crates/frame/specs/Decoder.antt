@@ -162,7 +162,7 @@ lenJudged h n =
     (stepped (headOf (afterLen (h .kind)) (h .kind) (h .seq) (h .err) (h .addr) n 0) found.Nothing)
     (ended h (refusedBy h refusal.lenWrong))
 
--- "after n octets of INFO come AA and CC": the place where g of them are in
+-- "After n octets of INFO come AA and CC": the place where g of them are in
 abbrev pub afterInfo : ℕ → ℕ → Place
 afterInfo n g = pick (ltb (messageLen + g) n) Info CloseAa
 
@@ -172,6 +172,7 @@ kept h =
     let g = h .got + 1 in
     record { head = headOf (afterInfo (h .len) g) (h .kind) (h .seq) (h .err) (h .addr) (h .len) g; found = found.Nothing; keeps = true }
 
+-- an AA of INFO comes twice: the first is not kept
 abbrev pub infoOctet : Head → ℕ → Stepped
 infoOctet h b = pick (eqb b 0xAA) (moved h InfoAa) (kept h)
 
@@ -180,10 +181,12 @@ infoOctet h b = pick (eqb b 0xAA) (moved h InfoAa) (kept h)
 abbrev pub infoAaOctet : Head → ℕ → Stepped
 infoAaOctet h b = pick (eqb b 0xAA) (kept h) (afterAa h b (refusedBy h refusal.closingWrong))
 
--- "a wrong octet where the closing AA was due returns to idle"
+-- "or a wrong octet at the AA or CC of the end, is refusal 2"; "a wrong octet where the closing AA was due returns to
+-- idle"
 abbrev pub closeAaOctet : Head → ℕ → Stepped
 closeAaOctet h b = pick (eqb b 0xAA) (moved h CloseCc) (ended h (refusedBy h refusal.closingWrong))
 
+-- "The wrong octet after an AA is then judged as if it had followed a lone AA": here too
 abbrev pub closeCcOctet : Head → ℕ → Stepped
 closeCcOctet h b = pick (eqb b 0xCC) (moved h Cks) (afterAa h b (refusedBy h refusal.closingWrong))
 
@@ -243,7 +246,7 @@ stepOf d b = takenAs d b (stepAt (d .head .place) (d .head) (d .info) b)
 
 -- The calls
 
--- "state handed in is unsound (.. impossible decoder place): same state"
+-- "state handed in is unsound (.. impossible decoder place)": "same state"
 abbrev pub unsound : Decoder → Taken
 unsound d = record { refusal = refusal.stateUnsound; decoder = d; found = found.Nothing }
 

@@ -104,7 +104,7 @@ bodyOf (message s a i) = i ++ (0xAA ∷ 0xCC ∷ [])
 bodyOf (ack s a) = []
 bodyOf (nak s a e) = e ∷ []
 
--- between LEN and CKS, as sent
+-- between LEN and CKS, as sent: "SEQ, ADDR, LEN, ERR and CKS go as they are, being found by count"
 unfoldable pub sentOf : Frame → List ℕ
 sentOf (message s a i) = doubled i ++ (0xAA ∷ 0xCC ∷ [])
 sentOf (ack s a) = []

@@ -1,23 +1,51 @@
 -- What 01 demands of frames, stated from outside.
-use Prim.Native.Nat.{ℕ, _+_, _-_, _<_}
+use Prim.Native.Nat.{ℕ, _+_, _-_, _≤_, _<_}
 use mathlib.Core.Path.{_≡_}
 use mathlib.Core.Bool.{true, false}
 use mathlib.Core.List.{List, [], _∷_, _++_}
-use lib.ListN.{length, replicate, getD}
+use lib.ListN.{length, take, drop, replicate, getD}
 use Rattle.octets.specs.ExclusiveOr.{exclusiveOr}
 use Rattle.octets.specs.Octet.{Octets}
 use Rattle.octets.specs.Refusal as refusal
 use Rattle.octets.specs.Word.{wordOf}
-use Rattle.octets.specs.Writing.{Leaves}
+use Rattle.octets.specs.Writing.{Writing, refusedAs}
 use Rattle.frame.specs.declared.Kind.{Kind}
 use Rattle.frame.specs.declared.Kind.the-variants.{Message, Ack, Nak}
 use Rattle.frame.specs.declared.decoder.Place.{Place}
 use Rattle.frame.specs.declared.decoder.Place.the-variants.{Idle, LoneAa, Seq, AddrHigh, AddrLow, LenHigh, LenLow, Info, InfoAa, CloseAa, CloseCc, Err, Cks}
 use Rattle.frame.specs.declared.decoder.Decoder.{Decoder}
+use Rattle.frame.specs.declared.decoder.Found.the-variants as found
+use Rattle.frame.specs.declared.decoder.Taken.{Taken}
 use Rattle.frame.specs.Frame.{Frame, message, ack, nak, messageLen, InOctets, kindOf, seqOf, addrOf, lenFits, lenOf, infoFits, front, frontOf, sentOf, doubled, cksOf, undoubled, written}
 use Rattle.frame.specs.Decoder.{headOf, possibleOf, freshDecoder, takenOf, idledOf}
 use Rattle.frame.specs.Writer.{writeOf}
 use Rattle.frame.specs.Run.{Outcome, nothing, refused, sound, outcomeOf, outcomes, after, AtRest, NothingDropped}
+
+-- d at another place, or of another kind too: nothing else of it changes
+abbrev pub placedAs : Place → Kind → Decoder → Decoder
+placedAs p k d = let h = d .head in record { head = headOf p k (h .seq) (h .err) (h .addr) (h .len) (h .got); info = d .info }
+
+abbrev pub placedAt : Place → Decoder → Decoder
+placedAt p d = placedAs p (d .head .kind) d
+
+-- a call that gives d back and brings nothing: done, or refused 7
+abbrev pub quiet : Decoder → Taken
+quiet d = record { refusal = refusal.none; decoder = d; found = found.Nothing }
+
+abbrev pub refusedCall : Decoder → Taken
+refusedCall d = record { refusal = refusal.stateUnsound; decoder = d; found = found.Nothing }
+
+-- Refusal 7 of the decoder's calls, "When, and only then": "state handed in is unsound (.. impossible decoder place)",
+-- "same state"
+pub record CallsOf (d : Decoder) : Type 0 where
+  pub octetRefused : (b : ℕ) → possibleOf (d .head) ≡ false → takenOf d b ≡ refusedCall d
+  pub octetDone : (b : ℕ) → possibleOf (d .head) ≡ true → takenOf d b .refusal ≡ refusal.none
+  pub idleRefused : possibleOf (d .head) ≡ false → idledOf d ≡ refusedCall d
+  -- "A line-idle call, made by the host, returns the decoder to idle and changes nothing else."
+  pub idleDone : possibleOf (d .head) ≡ true → idledOf d ≡ quiet (placedAt Idle d)
+
+abbrev pub CallsAnswered : Type 0
+CallsAnswered = (d : Decoder) → CallsOf d
 
 -- A fresh decoder is possible, and whatever octet comes, or the line falls idle, a possible one stays so: no refusal 7
 -- comes of states handed back as given.
@@ -38,12 +66,45 @@ LenCounts = (f : Frame) → (length (undoubled f) ≡ lenOf f) × (wordOf (getD 
 abbrev pub CksCovers : Type 0
 CksCovers = (f : Frame) → (exclusiveOr 0 (undoubled f) ≡ 0) × (getD (written f) (length (written f) - 1) 0 ≡ cksOf f)
 
--- "nothing written"; "A call writes only the octets that its result counts; the output beyond them stays."
-abbrev pub WritersLeave : Type 0
-WritersLeave = (f : Frame) (at : ℕ) (out : List ℕ) → Leaves (written f) at out (writeOf f at out)
+-- INFO as in the frame's row: "n from 2 to 256"; an ACK and a NAK have none
+abbrev pub InfoFits : Frame → Type 0
+InfoFits (message s a i) = (2 ≤ length i) × (length i ≤ 256)
+InfoFits (ack s a) = Unit
+InfoFits (nak s a e) = Unit
+
+-- What writing comes to, and why: "4 or 5 before 9 in a writer"
+pub data WriteJudged (f : Frame) (at : ℕ) (out : List ℕ) : Writing → Type 0 where
+  -- "frame writer given INFO not 2 to 256 long": "nothing written"
+  infoWrong : (InfoFits f → ⊥) → WriteJudged f at out (refusedAs refusal.infoWrong out)
+  -- "output too short: .. exact need for a writer"
+  outputShort : InfoFits f → length out < at + length (written f) → WriteJudged f at out (refusedAs refusal.outputShort out)
+  -- "A call writes only the octets that its result counts; the output beyond them stays."
+  stored : InfoFits f → at + length (written f) ≤ length out
+      → WriteJudged f at out (record {
+        answer = record { refusal = refusal.none; count = length (written f) };
+        out = take at out ++ (written f ++ drop (at + length (written f)) out);
+      })
+
+-- "When, and only then": refusals 4 and 9.
+abbrev pub WrittenSo : Type 0
+WrittenSo = (f : Frame) (at : ℕ) (out : List ℕ) (w : Writing) → (WriteJudged f at out w → w ≡ writeOf f at out) × (w ≡ writeOf f at out → WriteJudged f at out w)
+
+-- "Idle: AA is remembered, all else is dropped. After a lone AA: BB, DD or EE opens a frame, AA stays remembered, all else
+-- returns to idle." Of an opened frame SEQ is due; nothing else of the decoder changes.
+pub record WaitsFrom (d : Decoder) : Type 0 where
+  pub remembered : takenOf (placedAt Idle d) 0xAA ≡ quiet (placedAt LoneAa d)
+  pub dropped : (b : ℕ) → (b ≡ 0xAA → ⊥) → takenOf (placedAt Idle d) b ≡ quiet (placedAt Idle d)
+  pub opensMessage : takenOf (placedAt LoneAa d) 0xBB ≡ quiet (placedAs Seq Message d)
+  pub opensAck : takenOf (placedAt LoneAa d) 0xDD ≡ quiet (placedAs Seq Ack d)
+  pub opensNak : takenOf (placedAt LoneAa d) 0xEE ≡ quiet (placedAs Seq Nak d)
+  pub stays : takenOf (placedAt LoneAa d) 0xAA ≡ quiet (placedAt LoneAa d)
+  pub returns : (b : ℕ) → (b ≡ 0xBB → ⊥) → (b ≡ 0xDD → ⊥) → (b ≡ 0xEE → ⊥) → (b ≡ 0xAA → ⊥) → takenOf (placedAt LoneAa d) b ≡ quiet (placedAt Idle d)
+
+abbrev pub Waits : Type 0
+Waits = (d : Decoder) → WaitsFrom d
 
 -- Reading undoes writing: octet by octet, from idle, a frame as written brings nothing before its last octet and the
--- frame itself with it; "the end of a sound frame also leaves it idle, with no AA remembered".
+-- frame itself with it; "the end of a sound frame" leaves it idle, "with no AA remembered".
 pub record ReadBack (d : Decoder) (f : Frame) : Type 0 where
   pub outcome : outcomes d (written f) ≡ replicate (length (written f) - 1) nothing ++ (sound f ∷ [])
   pub rest : AtRest (after d (written f))
@@ -65,7 +126,8 @@ WritingUndoesReading =
     → outcomeOf (takenOf (after d xs) x) ≡ sound f
     → WrittenBack d xs x f
 
--- Refusals 1 to 3: "When, and only then". The octets of a frame that is refused, up to the one that refuses it:
+-- Refusals 1 to 3: "When, and only then", "3, 2, 1 as octets arrive". The octets of a frame that is refused, up to the one
+-- that refuses it:
 pub data Refusable : ℕ → Kind → ℕ → ℕ → List ℕ → Type 0 where
   -- "LEN not as in its kind's row above"
   len : (k : Kind) (s a n : ℕ) → lenFits k n ≡ false → Refusable refusal.lenWrong k s a (front k s a n)
@@ -100,11 +162,7 @@ RefusedOnlyThen =
     → outcomeOf (takenOf (after d xs) x) ≡ refused n k s a
     → RefusedFor xs x n k s a
 
--- "The wrong octet after an AA is then judged as if it had followed a lone AA; a wrong octet where the closing AA was due
--- returns to idle. Refusals 1 and 3 and the end of a sound frame also leave it idle, with no AA remembered."
-abbrev pub placedAt : Place → Decoder → Decoder
-placedAt p d = let h = d .head in record { head = headOf p (h .kind) (h .seq) (h .err) (h .addr) (h .len) (h .got); info = d .info }
-
+-- where the octet b leaves d when it brings a refusal or a sound frame at this place
 abbrev pub resumedAt : Place → Decoder → ℕ → Decoder
 resumedAt Idle d b = placedAt Idle d
 resumedAt LoneAa d b = placedAt Idle d
@@ -120,7 +178,8 @@ resumedAt CloseCc d b = takenOf (placedAt LoneAa d) b .decoder
 resumedAt Err d b = placedAt Idle d
 resumedAt Cks d b = placedAt Idle d
 
--- where an octet brings a refusal or a sound frame, the decoder is then
+-- "The wrong octet after an AA is then judged as if it had followed a lone AA; a wrong octet where the closing AA was due
+-- returns to idle. Refusals 1 and 3 and the end of a sound frame also leave it idle, with no AA remembered."
 abbrev pub Resumes : Type 0
 Resumes =
     (d : Decoder) (b : ℕ) → possibleOf (d .head) ≡ true → (outcomeOf (takenOf d b) ≡ nothing → ⊥)

@@ -43,7 +43,8 @@ unfoldable pub after : Decoder → List ℕ → Decoder
 after d [] = d
 after d (x ∷ xs) = after (takenOf d x .decoder) xs
 
--- a decoder that waits for a frame; its `info` is an array, so as long as every one
+-- "Demand 2's round trip starts from idle.": a decoder that waits for a frame; its `info` is an array, so as long as
+-- every one
 pub record AtRest (d : Decoder) : Type 0 where
   pub idle : d .head .place ≡ Idle
   pub long : length (d .info) ≡ infoMost

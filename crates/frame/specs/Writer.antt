@@ -6,6 +6,6 @@ use Rattle.octets.specs.Refusal as refusal
 use Rattle.octets.specs.Writing.{Writing, refusedAs, writtenAs}
 use Rattle.frame.specs.Frame.{Frame, infoFits, written}
 
--- "frame writer given INFO not 2 to 256 long: nothing written"; "4 or 5 before 9 in a writer"
+-- "frame writer given INFO not 2 to 256 long": "nothing written"; "4 or 5 before 9 in a writer"
 unfoldable pub writeOf : Frame → ℕ → List ℕ → Writing
 writeOf f at out = pick (infoFits f) (writtenAs (written f) at out) (refusedAs refusal.infoWrong out)

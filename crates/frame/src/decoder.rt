@@ -367,6 +367,7 @@ fn kept(mut h: Head) -> Stepped
     t
 }
 
+// An AA of INFO comes twice: the first is not kept.
 fn info_octet(h: Head, b: u8) -> Stepped
     requires { ⌜ h .got < infoMost ⌝ }
     ensures { λ r. ⌜ r ≡ infoOctet h b ⌝ }
@@ -377,8 +378,8 @@ fn info_octet(h: Head, b: u8) -> Stepped
     }
 }
 
-// "In INFO an AA followed by something else .. is refusal 2." "The wrong octet after an AA is then judged as if it had
-// followed a lone AA."
+// "In INFO an AA followed by something else .. is refusal 2. The wrong octet after an AA is then judged as if it had
+// followed a lone AA"
 fn info_aa_octet(h: Head, b: u8) -> Stepped
     requires { ⌜ h .got < infoMost ⌝ }
     ensures { λ r. ⌜ r ≡ infoAaOctet h b ⌝ }
@@ -389,7 +390,8 @@ fn info_aa_octet(h: Head, b: u8) -> Stepped
     }
 }
 
-// "A wrong octet where the closing AA was due returns to idle."
+// "or a wrong octet at the AA or CC of the end, is refusal 2"; "a wrong octet where the closing AA was due returns to
+// idle"
 fn close_aa_octet(h: Head, b: u8) -> Stepped
     ensures { λ r. ⌜ r ≡ closeAaOctet h b ⌝ }
 {
@@ -399,6 +401,7 @@ fn close_aa_octet(h: Head, b: u8) -> Stepped
     }
 }
 
+// "The wrong octet after an AA is then judged as if it had followed a lone AA": here too.
 fn close_cc_octet(h: Head, b: u8) -> Stepped
     ensures { λ r. ⌜ r ≡ closeCcOctet h b ⌝ }
 {

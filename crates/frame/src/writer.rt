@@ -55,7 +55,7 @@ pub fn write_nak(seq: u8, addr: u16, err: u8, out: &mut [u8], at: usize) -> Writ
     write_parts(&f, &[0u8; 0], &e, out, at)
 }
 
-// "INFO(n), n from 2 to 256".
+// "n from 2 to 256"
 fn info_fits(n: usize) -> bool
     ensures { λ r. ⌜ r ≡ both (leb infoLeast n) (leb n infoMost) ⌝ }
 {
@@ -114,7 +114,7 @@ fn put_doubled(info: &[u8], out: &mut [u8], at: usize) -> usize
     p
 }
 
-// "Only an AA within INFO is sent twice."
+// "Only an AA within INFO is sent twice"
 fn put_twice(b: u8, out: &mut [u8], at: usize) -> usize
     requires { ⌜ at + length (twice b) ≤ length (now out) ⌝ }
     ensures { λ r. ⌜ Stored (twice b) at (now (out .entry)) r (now (out .exit)) ⌝ }
