@@ -1,5 +1,5 @@
 -- What specs/Known.antt promises. Each line of the directory and each row of the table pass a computed test.
-use Prim.Native.Nat.{ℕ, suc, _+_, _-_, _≤_, _<_}
+use Prim.Native.Nat.{ℕ, zero, suc, _+_, _-_, _≤_, _<_}
 use mathlib.Core.Path.{_≡_, refl, sym, ap, _∙_}
 use mathlib.Core.Bool.{Bool, true}
 use mathlib.Core.List.{List, [], _∷_}
@@ -12,7 +12,7 @@ use Rattle.octets.specs.Choice.{pick, both}
 use Rattle.octets.proofs.Every.{every, every-at, below, below-at, all, all-at}
 use Rattle.diagram.specs.declared.Diagram.{Diagram}
 use Rattle.diagram.specs.Table.{Row, rows, diagram, directory, unknown, find, diagramOf, phasesOf, stepsIn, stepsOf, rowNumber}
-use Rattle.diagram.specs.Known.{noLine, lineAt, Known, EachFound, KnownPhases, EachUsed, AllDark, OutsideDark, Absent, UnknownDark}
+use Rattle.diagram.specs.Known.{noLine, lineAt, Known, OneOrder, EachFound, KnownPhases, EachUsed, AllDark, OutsideDark, Absent, UnknownDark}
 use Rattle.diagram.proofs.Laws.{number-none, number-past, row-past}
 
 -- What is not there
@@ -152,3 +152,13 @@ each-used n h =
       has = record { first = leb-true 1 (stepOf n) (t 0); last = leb-true (stepOf n) (stepsOf (orderOf n)) (t 1) };
       there = eqb-true (rowNumber (orderOf n) (stepOf n)) n (t 2);
     }
+
+-- Which orders have phases
+
+pub one-order : OneOrder
+unfolding directory diagramOf find
+one-order = (refl, λ order h. let k = phases-known order h in by order (k .line) (k .within) (k .there))
+  where
+    by : (order i : ℕ) → i < length directory → lineAt i .order ≡ order → order ≡ 0x00
+    by order zero l e = sym e
+    by order (suc i) l e = absurd (omega arith)

@@ -22,6 +22,10 @@ pub record Known (order : ℕ) : Type 0 where
 abbrev pub EachFound : Type 0
 EachFound = (i : ℕ) → i < length directory → diagramOf (lineAt i .order) ≡ lineAt i
 
+-- "phase order 00", and "the diagram's, which is 2": order 00 has two phases, and no other order has any.
+abbrev pub OneOrder : Type 0
+OneOrder = (phasesOf 0x00 ≡ 2) × ((order : ℕ) → 1 ≤ phasesOf order → order ≡ 0x00)
+
 -- "k is 1 to 8", and equal to the diagram's: a known order has 1 to 8 phases.
 abbrev pub KnownPhases : Type 0
 KnownPhases = (order : ℕ) → Known order → (1 ≤ phasesOf order) × (phasesOf order ≤ 8)

@@ -17,7 +17,7 @@ use Rattle.lamps.specs.declared.Row.{Row}
 abbrev pub greenLess : List ℕ → ℕ → ℕ
 greenLess rec i = greenOf rec i - walkFlashOf rec i - redManOf rec i
 
--- "| Step | Seconds |", the five steps of phase i
+-- "Step", "Seconds": the five steps of phase i
 unfoldable pub phaseTable : List ℕ → ℕ → List ℕ
 phaseTable rec i =
     greenLess rec i  -- 1
@@ -27,7 +27,7 @@ phaseTable rec i =
     ∷ allRedOf rec i  -- 5
     ∷ []
 
--- "| 6 | as 1 with phase 2 |", "| 7 | as 2 |": steps are counted from 1 and go on through the phases
+-- step 6 "as 1 with phase 2", step 7 "as 2": steps are counted from 1 and go on through the phases
 abbrev pub stepsOf : List ℕ → ℕ
 stepsOf rec = stepsAPhase * kOf rec
 

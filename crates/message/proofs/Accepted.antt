@@ -9,6 +9,7 @@ use lib.ListN.{length, List·getD-eq-default}
 use Rattle.octets.specs.First.{First}
 use Rattle.octets.specs.Part.{codeLen}
 use Rattle.octets.specs.Refusal as refusal
+use Rattle.octets.proofs.Search.{search-first}
 use Rattle.message.specs.declared.Message.{Message}
 use Rattle.message.specs.declared.Read.{Read}
 use Rattle.message.specs.declared.layout.Field.{Field}
@@ -17,7 +18,6 @@ use Rattle.message.specs.Values.{valuesOf, placed}
 use Rattle.message.specs.Reader.{readAs, kIn, partOf, codeIn, bodyIn, readOf, refusedAs}
 use Rattle.message.specs.Writer.{numberIn, kOf}
 use Rattle.message.specs.Promises.{accepted, Writable, RightAt, Known, RightLength, unknown, wrongLength, outOfRange, Judged, short, body}
-use Rattle.message.proofs.Numbers.{codes-listed}
 use Rattle.message.proofs.Ranges.{placed-at, right-same}
 use Rattle.message.proofs.Reading.{k-placed}
 use Rattle.message.proofs.Values.{length-values}
@@ -45,7 +45,8 @@ accepted-in info e = accepted-as (read-so info (readOf info) .1 refl) e
 
 -- the layout found for a code has that code
 pub code-found : (c : ℕ) → 1 ≤ numberOf c → layoutAt (numberOf c) .code ≡ c
-code-found c h = by (numberOf c) (codes-listed c) h
+unfolding numberOf
+code-found c h = by (numberOf c) (search-first (λ j. eqb (layoutAt (j + 1) .code) c) codes) h
   where
     by : (n : ℕ) → First (λ j. eqb (layoutAt (j + 1) .code) c) codes n → 1 ≤ n → layoutAt n .code ≡ c
     by zero f h = absurd (omega arith)

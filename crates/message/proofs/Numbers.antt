@@ -5,6 +5,7 @@ use mathlib.Core.Bool.{false}
 use mathlib.Core.List.{List, [], _∷_, _++_, append-assoc}
 use native.Mathlib.Nat.{mul-le-mul-right, zero-mul, suc-mul}
 use native.Mathlib.Omega.{arith}
+use lib.Dec.{eqb}
 use lib.ListN.{length, getD, take, drop, length-append, List·getD-append}
 use lib.Seq.{getD-append-add, drop-append-add, getD-drop, take-add, take-append-add, take-append-le}
 use Rattle.octets.specs.First.{firstOf}
@@ -12,15 +13,15 @@ use Rattle.octets.proofs.Search.{search-first}
 use Rattle.message.specs.declared.layout.Field.{Field}
 use Rattle.message.specs.Fields as field
 use Rattle.message.specs.Fields.{twoOf, noField}
-use Rattle.message.specs.Layouts.{layouts, layoutAt, numberOf, codes, rowsAt, rowsOf, repeated, times, greens, cycleOffset}
+use Rattle.message.specs.Layouts.{layouts, layoutAt, numberOf, rowsAt, rowsOf, repeated, times, greens, cycleOffset}
 use Rattle.message.specs.Values.{sizeOf, startOf}
-use Rattle.message.specs.Promises.{CodesListed, Stands, PhaseFields, GreenFields, TimesFields, PlanFields, OnePlan, FieldNumbers, StoredParts}
+use Rattle.message.specs.Promises.{listed, CodesListed, Stands, PhaseFields, GreenFields, TimesFields, PlanFields, OnePlan, FieldNumbers, StoredParts}
 use Rattle.message.proofs.Layouts.{length-repeated}
 use Rattle.message.proofs.Values.{size-append, size-repeated}
 
 pub codes-listed : CodesListed
-unfolding numberOf
-codes-listed c = search-first _ codes
+unfolding numberOf firstOf layoutAt layouts
+codes-listed c = search-first (λ j. eqb (getD listed j 0) c) (length listed)
 
 module _ (g t : List Field) where
   drop-repeated : (k i : ℕ) → i ≤ k → drop (i * length g) (repeated k g ++ t) ≡ repeated (k - i) g ++ t

@@ -17,7 +17,7 @@ use Rattle.message.specs.declared.layout.Field.{Field}
 use Rattle.message.specs.declared.layout.Field.the-variants.{Octet, Two, Order}
 use Rattle.message.specs.Fields as field
 use Rattle.message.specs.Fields.{twoOf, valueOf, noField}
-use Rattle.message.specs.Layouts.{layouts, layoutAt, codes, numberOf, rowsAt, storedTimes, storedPlan}
+use Rattle.message.specs.Layouts.{layouts, layoutAt, numberOf, rowsAt, storedTimes, storedPlan}
 use Rattle.message.specs.Values.{fieldsMost, sizeOf, startOf, valuesOf, numbered}
 use Rattle.message.specs.Reader.{refusedAs, readAs, kIn, partOf, readPartOf, codeIn, bodyIn, readOf}
 use Rattle.message.specs.Writer.{numberIn, kOf, infoOf, writeOf}
@@ -25,9 +25,13 @@ use Rattle.message.specs.Names.{answeredAt, errorAt, parameterAt, planAt
 
 -- The layouts
 
--- A code's number is its row in 01's table, and 0 exactly where it has none.
+-- the codes of 01's table, in its order
+abbrev pub listed : List ℕ
+listed = 0x0F80 ∷ 0x0F81 ∷ 0x5F14 ∷ 0x5FC4 ∷ 0x5F15 ∷ 0x5FC5 ∷ 0x5FC8 ∷ 0x5F18 ∷ 0x5F44 ∷ 0x5F45 ∷ 0x5F48 ∷ []
+
+-- A code's number is its place among them, from 1, and 0 exactly where it is none of them.
 abbrev pub CodesListed : Type 0
-CodesListed = (c : ℕ) → First (λ j. eqb (layoutAt (j + 1) .code) c) codes (numberOf c)
+CodesListed = (c : ℕ) → First (λ j. eqb (getD listed j 0) c) (length listed) (numberOf c)
 
 -- "Fields are numbered from 1 after the code, two octets as one field": field number n is f, and the octets before it are s
 pub record Stands (fs : List Field) (n : ℕ) (f : Field) (s : ℕ) : Type 0 where

@@ -11,7 +11,7 @@ use crate::info;
 use crate::layout;
 use octets::refusal;
 
-// The message that stands in INFO. "It refuses with 10, 11 (so for under two octets) or 12 and then gives no message."
+// The message that stands in INFO; "it refuses with 10, 11 (so for under two octets) or 12 and then gives no message."
 pub fn read(info: &[u8]) -> Read
     ensures { λ r. ⌜ r ≡ readOf (now (info .entry)) ⌝ }
 {

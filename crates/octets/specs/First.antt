@@ -1,4 +1,4 @@
--- "The search stops at the first that fails and yields its number": the idea, over any test.
+-- "The search over fields stops at the first that fails and yields its number": the idea, over any test.
 use Prim.Native.Nat.{ℕ, zero, suc, _+_, _≤_, _<_}
 use mathlib.Core.Path.{_≡_}
 use mathlib.Core.Bool.{Bool, true, false}

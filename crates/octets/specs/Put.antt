@@ -7,10 +7,6 @@ use lib.ListN.{length}
 use lib.Seq.{sets}
 use Rattle.octets.specs.Choice.{pick}
 
--- do the octets vs fit in l from place i on?
-abbrev pub fitsAt : List ℕ → ℕ → List ℕ → Type 0
-fitsAt vs i l = i + length vs ≤ length l
-
 -- vs is stored in l from place i on, r is the place after it, and l′ is what l then holds
 pub record Stored (vs : List ℕ) (i : ℕ) (l : List ℕ) (r : ℕ) (l′ : List ℕ) : Type 0 where
   pub place : r ≡ i + length vs

@@ -13,14 +13,14 @@ ghost use Rattle.octets.specs.Part.{PartFrom, codeLen};
 // The octets of a message's code, before its fields.
 pub const CODE_LEN: usize = 2;
 
-// The high octet of a number of two.
+// The high octet of a number of two octets.
 pub fn high(x: u16) -> u8
     ensures { λ r. ⌜ r ≡ highOf x ⌝ }
 {
     (x / 256) as u8
 }
 
-// The low octet of a number of two.
+// The low octet of a number of two octets.
 pub fn low(x: u16) -> u8
     ensures { λ r. ⌜ r ≡ lowOf x ⌝ }
 {

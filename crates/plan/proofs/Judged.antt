@@ -15,60 +15,60 @@ use Rattle.plan.specs.BuiltIn.{builtIn}
 use Rattle.plan.specs.Reading.{startOf, recordAt, same, readRefusal}
 use Rattle.plan.specs.Promises.{ReadingJudged, wrongLength, overRange, unlike, emptyPlan, builtInRead, bookRead, PlansReadSo}
 use Rattle.plan.proofs.Readying.{stands-has, has-stands}
-use Rattle.plan.proofs.Laws.{same-is, is-same, length-built-in, octets-part, refused-book, refused-own, refused-range, read-zero, refused-zero, refused-empty, read-set}
+use Rattle.plan.proofs.Laws.{same-is, is-same, length-built-in, octets-part, refused-book, refused-copy, refused-range, read-zero, refused-zero, refused-empty, read-set}
 
-module _ (book own : List ℕ) (p : ℕ) (o : Octets book) where
+module _ (book copy : List ℕ) (p : ℕ) (o : Octets book) where
   octets : Octets (recordAt book p)
   octets = octets-part recordLen (startOf p) book o
 
-  module _ (hb : length book ≡ bookLen) (ho : length own ≡ recordLen) where
-    zero-by : p ≡ 0 → (t : Bool) → t ≡ same own builtIn → ReadingJudged book own p (readRefusal book own p)
-    zero-by z true e = subst (ReadingJudged book own p) (read-zero book own p hb ho (omega (arith, z)) z e refl) (builtInRead hb z (same-is own builtIn (sym e)))
+  module _ (hb : length book ≡ bookLen) (ho : length copy ≡ recordLen) where
+    zero-by : p ≡ 0 → (t : Bool) → t ≡ same copy builtIn → ReadingJudged book copy p (readRefusal book copy p)
+    zero-by z true e = subst (ReadingJudged book copy p) (read-zero book copy p hb ho (omega (arith, z)) z e refl) (builtInRead hb z (same-is copy builtIn (sym e)))
     zero-by z false e =
-        subst (ReadingJudged book own p) (refused-zero book own p hb ho (omega (arith, z)) z e refl)
+        subst (ReadingJudged book copy p) (refused-zero book copy p hb ho (omega (arith, z)) z e refl)
         (unlike hb ho z (λ q. clash (sym e) (rw q (is-same builtIn))))
 
     module _ (l : 1 ≤ p) (m : p ≤ plansMost) where
-      stands-by : Dec (standingOf (recordAt book p) ≡ empty) → ReadingJudged book own p (readRefusal book own p)
+      stands-by : Dec (standingOf (recordAt book p) ≡ empty) → ReadingJudged book copy p (readRefusal book copy p)
       stands-by (yes z) =
-          subst (ReadingJudged book own p) (refused-empty book own p hb ho m (λ z. omega (arith, z)) refl z)
+          subst (ReadingJudged book copy p) (refused-empty book copy p hb ho m (λ z. omega (arith, z)) refl z)
           (emptyPlan hb ho l m (λ h. has-stands (recordAt book p) octets h z))
       stands-by (no n) =
-          subst (ReadingJudged book own p) (read-set book own p hb ho m (λ z. omega (arith, z)) refl n)
+          subst (ReadingJudged book copy p) (read-set book copy p hb ho m (λ z. omega (arith, z)) refl n)
           (bookRead hb ho l m (stands-has (recordAt book p) octets n))
 
-    known-by : Dec (p ≤ plansMost) → Dec (p ≡ 0) → ReadingJudged book own p (readRefusal book own p)
-    known-by (no n) d = subst (ReadingJudged book own p) (refused-range book own p hb ho (omega (arith, n))) (overRange hb ho (omega (arith, n)))
-    known-by (yes m) (yes z) = zero-by z (same own builtIn) refl
+    known-by : Dec (p ≤ plansMost) → Dec (p ≡ 0) → ReadingJudged book copy p (readRefusal book copy p)
+    known-by (no n) d = subst (ReadingJudged book copy p) (refused-range book copy p hb ho (omega (arith, n))) (overRange hb ho (omega (arith, n)))
+    known-by (yes m) (yes z) = zero-by z (same copy builtIn) refl
     known-by (yes m) (no n) = stands-by (omega (arith, n)) m (ℕ-discrete (standingOf (recordAt book p)) empty)
 
-  only-then : Dec (length book ≡ bookLen) → Dec (length own ≡ recordLen) → ReadingJudged book own p (readRefusal book own p)
-  only-then (no n) d = subst (ReadingJudged book own p) (refused-book book own p n) (wrongLength (λ b _. n b))
-  only-then (yes b) (no n) = subst (ReadingJudged book own p) (refused-own book own p b n) (wrongLength (λ _ q. n q))
+  only-then : Dec (length book ≡ bookLen) → Dec (length copy ≡ recordLen) → ReadingJudged book copy p (readRefusal book copy p)
+  only-then (no n) d = subst (ReadingJudged book copy p) (refused-book book copy p n) (wrongLength (λ b _. n b))
+  only-then (yes b) (no n) = subst (ReadingJudged book copy p) (refused-copy book copy p b n) (wrongLength (λ _ q. n q))
   only-then (yes b) (yes q) = known-by b q (decLe p plansMost) (ℕ-discrete p 0)
 
-  when : {n : ℕ} → ReadingJudged book own p n → n ≡ readRefusal book own p
+  when : {n : ℕ} → ReadingJudged book copy p n → n ≡ readRefusal book copy p
   when (wrongLength n) = by (ℕ-discrete (length book) bookLen)
     where
-      by : Dec (length book ≡ bookLen) → refusal.bookWrong ≡ readRefusal book own p
-      by (no m) = refused-book book own p m
-      by (yes b) = refused-own book own p b (n b)
-  when (overRange b q l) = refused-range book own p b q l
-  when (unlike b q z n) = refused-zero book own p b q (omega (arith, z)) z refl (not-same (same own builtIn) refl)
+      by : Dec (length book ≡ bookLen) → refusal.bookWrong ≡ readRefusal book copy p
+      by (no m) = refused-book book copy p m
+      by (yes b) = refused-copy book copy p b (n b)
+  when (overRange b q l) = refused-range book copy p b q l
+  when (unlike b q z n) = refused-zero book copy p b q (omega (arith, z)) z refl (not-same (same copy builtIn) refl)
     where
-      not-same : (t : Bool) → same own builtIn ≡ t → same own builtIn ≡ false
-      not-same true e = absurd (n (same-is own builtIn e))
+      not-same : (t : Bool) → same copy builtIn ≡ t → same copy builtIn ≡ false
+      not-same true e = absurd (n (same-is copy builtIn e))
       not-same false e = e
   when (emptyPlan b q l m h) = by (ℕ-discrete (standingOf (recordAt book p)) empty)
     where
-      by : Dec (standingOf (recordAt book p) ≡ empty) → refusal.notReady ≡ readRefusal book own p
-      by (yes e) = refused-empty book own p b q m (λ z. omega (arith, z)) refl e
+      by : Dec (standingOf (recordAt book p) ≡ empty) → refusal.notReady ≡ readRefusal book copy p
+      by (yes e) = refused-empty book copy p b q m (λ z. omega (arith, z)) refl e
       by (no n) = absurd (h (stands-has (recordAt book p) octets n))
-  when (builtInRead b z e) = read-zero book own p b (rw e length-built-in) (omega (arith, z)) z refl (rw e (is-same builtIn))
-  when (bookRead b q l m h) = read-set book own p b q m (λ z. omega (arith, z)) refl (has-stands (recordAt book p) octets h)
+  when (builtInRead b z e) = read-zero book copy p b (rw e length-built-in) (omega (arith, z)) z refl (rw e (is-same builtIn))
+  when (bookRead b q l m h) = read-set book copy p b q m (λ z. omega (arith, z)) refl (has-stands (recordAt book p) octets h)
 
 pub plans-read-so : PlansReadSo
-plans-read-so book own p n o = (
-  when book own p o,
-  λ e. subst (ReadingJudged book own p) (sym e) (only-then book own p o (ℕ-discrete (length book) bookLen) (ℕ-discrete (length own) recordLen)),
+plans-read-so book copy p n o = (
+  when book copy p o,
+  λ e. subst (ReadingJudged book copy p) (sym e) (only-then book copy p o (ℕ-discrete (length book) bookLen) (ℕ-discrete (length copy) recordLen)),
 )

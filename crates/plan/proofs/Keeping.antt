@@ -1,4 +1,4 @@
--- A set leaves every other plan as it was, and a well-formed book well formed.
+-- A set refuses what is not its own, leaves every other plan as it was, and a well-formed book well formed.
 use Prim.Native.Nat.{ℕ, _≤_, _<_}
 use mathlib.Core.Path.{_≡_, refl, sym, ap, subst, _∙_}
 use mathlib.Core.Logic.{_⊎_, inl, inr}
@@ -8,16 +8,43 @@ use native.Mathlib.Omega.{arith}
 use borrow.Author.Tests.{eq-eqb, ne-eqb, lt-leb}
 use lib.ListN.{length}
 use Rattle.octets.specs.Octet.{Octets}
+use Rattle.octets.specs.Part.{codeLen}
 use Rattle.octets.specs.Refusal as refusal
-use Rattle.message.specs.Reader.{codeIn, bodyIn}
+use Rattle.message.specs.declared.Read.{Read}
+use Rattle.message.specs.Reader.{codeIn, bodyIn, refusedAs, readOf}
+use Rattle.message.proofs.Reading.{read-11}
+use Rattle.plan.specs.declared.setting.Answered.{Answered}
 use Rattle.plan.specs.declared.setting.Made.{Made}
 use Rattle.record.specs.Record.{bookLen, plansMost, Empty, TimesSet, Ready}
 use Rattle.plan.specs.Reading.{recordAt, readRefusal}
-use Rattle.plan.specs.Setting.{planIn, frontOf, setOf, timesMade, readyMade, setTimesCode, setPlanCode, setTimesOf, setPlanOf}
-use Rattle.plan.specs.Promises.{Stored, OthersRead, SetsLeaveOthers, WellFormed, BookWellFormed, SetsKeepForm}
-use Rattle.plan.proofs.Sets.{front-sound}
+use Rattle.plan.specs.Setting.{planIn, answered, frontOf, setOf, timesMade, readyMade, setTimesCode, setPlanCode, setTimesOf, setPlanOf}
+use Rattle.plan.specs.Promises.{SetRefused, SetsRefuse, Stored, OthersRead, SetsLeaveOthers, WellFormed, BookWellFormed, SetsKeepForm}
+use Rattle.plan.proofs.Sets.{front-book, front-code, front-read, other-code, no-code, front-sound}
 use Rattle.plan.proofs.Storing.{times-stored-exactly-when}
 use Rattle.plan.proofs.Readying.{plan-stored-exactly-when}
+
+module _ (code : ℕ) (m : Made) (book info : List ℕ) where
+  set-is : {a : Answered} → a ≡ frontOf (length book) code info → (a .refusal ≡ refusal.none → ⊥) → setOf code m book info ≡ record { answer = a; book = book }
+  unfolding setOf
+  set-is {a} e n = rw (← e, ne-eqb (a .refusal) refusal.none n)
+
+  short : length info < codeLen → answered refusal.lengthWrong 0 ≡ answered (readOf info .refusal) (readOf info .field)
+  unfolding refusedAs
+  short l = ap (λ (r : Read). answered (r .refusal) (r .field)) (read-11 info l)
+
+  set-refuses : SetRefused code book info (setOf code m book info)
+  set-refuses =
+      record {
+        wrongBook = λ n. set-is (front-book (length book) code info n) (λ z. absurd (omega arith));
+        otherCode = λ hb l n. set-is (front-code (length book) code info hb (other-code (length book) code info l n) refl) (λ z. absurd (omega arith));
+        noCode = λ hb l. set-is (short l ∙ front-read (length book) code info hb (no-code (length book) code info l) refl refl) (λ z. absurd (omega arith));
+      }
+
+pub sets-refuse : SetsRefuse
+sets-refuse book info = (
+  set-refuses setTimesCode (timesMade (bodyIn info)) book info,
+  set-refuses setPlanCode (readyMade (recordAt book (planIn (bodyIn info))) (bodyIn info)) book info,
+)
 
 -- a set leaves the book as it was, or stores a record that stands
 pub data Left (book : List ℕ) (p : ℕ) : List ℕ → Type 0 where
@@ -62,21 +89,21 @@ module _ (book info : List ℕ) (hb : length book ≡ bookLen) where
               put (j .rec) (setPlanOf book info .book) (j .stored (j .only a)) (inr (inr (j .holds (j .only a) .stands)))
 
 -- a plan whose record is the same reads the same
-reads-same : (book book′ own : List ℕ) (q : ℕ) → length book′ ≡ length book → (1 ≤ q → q ≤ plansMost → recordAt book′ q ≡ recordAt book q)
-    → readRefusal book′ own q ≡ readRefusal book own q
+reads-same : (book book′ copy : List ℕ) (q : ℕ) → length book′ ≡ length book → (1 ≤ q → q ≤ plansMost → recordAt book′ q ≡ recordAt book q)
+    → readRefusal book′ copy q ≡ readRefusal book copy q
 unfolding readRefusal
-reads-same book book′ own q e h = by (ℕ-discrete q 0) (decLt plansMost q)
+reads-same book book′ copy q e h = by (ℕ-discrete q 0) (decLt plansMost q)
   where
-    by : Dec (q ≡ 0) → Dec (plansMost < q) → readRefusal book′ own q ≡ readRefusal book own q
+    by : Dec (q ≡ 0) → Dec (plansMost < q) → readRefusal book′ copy q ≡ readRefusal book copy q
     by (yes z) d = rw (e, eq-eqb q 0 z)
     by (no n) (yes l) = rw (e, lt-leb q plansMost l)
     by (no n) (no g) = rw (e, h (omega arith) (omega arith))
 
 others-read : (book : List ℕ) (p : ℕ) → length book ≡ bookLen → {book′ : List ℕ} → Left book p book′ → OthersRead book book′ p
-others-read book p hb same = record { refusal = λ own q n. refl; octets = λ q a b n. refl }
+others-read book p hb same = record { refusal = λ copy q n. refl; octets = λ q a b n. refl }
 others-read book p hb (put rec book′ s w) =
     record {
-      refusal = λ own q n. reads-same book book′ own q (s .long ∙ sym hb) (λ a b. s .others q a b n);
+      refusal = λ copy q n. reads-same book book′ copy q (s .long ∙ sym hb) (λ a b. s .others q a b n);
       octets = s .others;
     }
 

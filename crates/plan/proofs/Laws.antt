@@ -64,54 +64,54 @@ record-from book at p e = let n : at + recordLen - at ≡ recordLen = omega arit
 pub record-long : (book : List ℕ) (at : ℕ) → at + recordLen ≤ length book → length (take (at + recordLen - at) (drop at book)) ≡ recordLen
 record-long book at h = length-take-le (at + recordLen - at) (drop at book) (simp length-drop (omega arith)) ∙ omega arith
 
-module _ (book own : List ℕ) (p : ℕ) where
-  pub refused-book : (length book ≡ bookLen → ⊥) → refusal.bookWrong ≡ readRefusal book own p
+module _ (book copy : List ℕ) (p : ℕ) where
+  pub refused-book : (length book ≡ bookLen → ⊥) → refusal.bookWrong ≡ readRefusal book copy p
   unfolding readRefusal
   refused-book n = rw (ne-eqb (length book) bookLen n)
 
   module _ (hb : length book ≡ bookLen) where
-    pub refused-own : (length own ≡ recordLen → ⊥) → refusal.bookWrong ≡ readRefusal book own p
+    pub refused-copy : (length copy ≡ recordLen → ⊥) → refusal.bookWrong ≡ readRefusal book copy p
     unfolding readRefusal
-    refused-own n = rw (eq-eqb (length book) bookLen hb, ne-eqb (length own) recordLen n)
+    refused-copy n = rw (eq-eqb (length book) bookLen hb, ne-eqb (length copy) recordLen n)
 
-    module _ (ho : length own ≡ recordLen) where
-      pub refused-range : plansMost < p → refusal.outOfRange ≡ readRefusal book own p
+    module _ (ho : length copy ≡ recordLen) where
+      pub refused-range : plansMost < p → refusal.outOfRange ≡ readRefusal book copy p
       unfolding readRefusal
-      refused-range l = rw (eq-eqb (length book) bookLen hb, eq-eqb (length own) recordLen ho, lt-leb p plansMost l)
+      refused-range l = rw (eq-eqb (length book) bookLen hb, eq-eqb (length copy) recordLen ho, lt-leb p plansMost l)
 
       module _ (hp : p ≤ plansMost) where
         abbrev tests : ℕ → ℕ
-        tests n = pick (both (eqb (length book) bookLen) (eqb (length own) recordLen)) (pick (leb p plansMost) n refusal.outOfRange) refusal.bookWrong
+        tests n = pick (both (eqb (length book) bookLen) (eqb (length copy) recordLen)) (pick (leb p plansMost) n refusal.outOfRange) refusal.bookWrong
 
         passed : (n : ℕ) → tests n ≡ n
-        passed n = rw (eq-eqb (length book) bookLen hb, eq-eqb (length own) recordLen ho, le-leb p plansMost hp)
+        passed n = rw (eq-eqb (length book) bookLen hb, eq-eqb (length copy) recordLen ho, le-leb p plansMost hp)
 
-        module _ (z : p ≡ 0) {t : Bool} (e : t ≡ same own builtIn) where
-          pub read-zero : t ≡ true → refusal.none ≡ readRefusal book own p
+        module _ (z : p ≡ 0) {t : Bool} (e : t ≡ same copy builtIn) where
+          pub read-zero : t ≡ true → refusal.none ≡ readRefusal book copy p
           unfolding readRefusal
           read-zero f = sym (rw (eq-eqb p 0 z, ← e, f) (passed refusal.none))
 
-          pub refused-zero : t ≡ false → refusal.notReady ≡ readRefusal book own p
+          pub refused-zero : t ≡ false → refusal.notReady ≡ readRefusal book copy p
           unfolding readRefusal
           refused-zero f = sym (rw (eq-eqb p 0 z, ← e, f) (passed refusal.notReady))
 
         module _ (z : p ≡ 0 → ⊥) {s : ℕ} (e : s ≡ standingOf (recordAt book p)) where
-          pub refused-empty : s ≡ empty → refusal.notReady ≡ readRefusal book own p
+          pub refused-empty : s ≡ empty → refusal.notReady ≡ readRefusal book copy p
           unfolding readRefusal
           refused-empty f = sym (rw (ne-eqb p 0 z, ← e, eq-eqb s empty f) (passed refusal.notReady))
 
-          pub read-set : (s ≡ empty → ⊥) → refusal.none ≡ readRefusal book own p
+          pub read-set : (s ≡ empty → ⊥) → refusal.none ≡ readRefusal book copy p
           unfolding readRefusal
           read-set f = sym (rw (ne-eqb p 0 z, ← e, ne-eqb s empty f) (passed refusal.none))
 
   -- what no refusal tells
-  pub read-sound : readRefusal book own p ≡ refusal.none → (length book ≡ bookLen) × (length own ≡ recordLen) × (p ≤ plansMost)
+  pub read-sound : readRefusal book copy p ≡ refusal.none → (length book ≡ bookLen) × (length copy ≡ recordLen) × (p ≤ plansMost)
   unfolding readRefusal
-  read-sound e = by (eqb (length book) bookLen) refl (eqb (length own) recordLen) refl (leb p plansMost) refl _ e
+  read-sound e = by (eqb (length book) bookLen) refl (eqb (length copy) recordLen) refl (leb p plansMost) refl _ e
     where
-      by : (a : Bool) → eqb (length book) bookLen ≡ a → (b : Bool) → eqb (length own) recordLen ≡ b → (c : Bool) → leb p plansMost ≡ c
-          → (n : ℕ) → pick (both a b) (pick c n refusal.outOfRange) refusal.bookWrong ≡ refusal.none → (length book ≡ bookLen) × (length own ≡ recordLen) × (p ≤ plansMost)
-      by true ea true eb true ec n h = (eqb-true (length book) bookLen ea, eqb-true (length own) recordLen eb, leb-true p plansMost ec)
+      by : (a : Bool) → eqb (length book) bookLen ≡ a → (b : Bool) → eqb (length copy) recordLen ≡ b → (c : Bool) → leb p plansMost ≡ c
+          → (n : ℕ) → pick (both a b) (pick c n refusal.outOfRange) refusal.bookWrong ≡ refusal.none → (length book ≡ bookLen) × (length copy ≡ recordLen) × (p ≤ plansMost)
+      by true ea true eb true ec n h = (eqb-true (length book) bookLen ea, eqb-true (length copy) recordLen eb, leb-true p plansMost ec)
       by true ea true eb false ec n h = absurd (omega arith)
       by true ea false eb c ec n h = absurd (omega arith)
       by false ea b eb c ec n h = absurd (omega arith)

@@ -47,8 +47,8 @@ only-read-plan : (κs : _) (a : _) (r s : _) (x y : _) → read-plan.Post κs a 
     → (r .ptr ≡ s .ptr) × (now r ≡ now s) × (now (x .1 .1 .1 .0) ≡ now (y .1 .1 .1 .0))
 only-read-plan κs a r s x y p q =
     let book = a .0 in
-    let own = a .1 .0 in
+    let copy = a .1 .0 in
     let plan = a .1 .1 .0 in
     let e =
-    one-part (eqb (readRefusal (now book) (now own) plan) refusal.none) (eqb plan 0) own book own 0 recordLen (startOf plan) recordLen 0 0 r s (p .part) (q .part) in
+    one-part (eqb (readRefusal (now book) (now copy) plan) refusal.none) (eqb plan 0) copy book copy 0 recordLen (startOf plan) recordLen 0 0 r s (p .part) (q .part) in
     (e .0, e .1, p .refusal ∙ sym (q .refusal))

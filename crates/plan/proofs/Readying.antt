@@ -336,27 +336,27 @@ module _ (book info : List ℕ) (hb : length book ≡ bookLen) (ob : Octets book
   module _ (er : readOf info .refusal ≡ refusal.none) where
     read-unset : standingOf old ≡ empty → setPlanOf book info ≡ no-set refusal.notReady planAt
     unfolding readyMade
-    read-unset z = set-read setPlanCode what book info hb er hc ∙ rw (eq-eqb (standingOf old) empty z) (kept-not-made p book refusal.notReady planAt (λ z. absurd (omega arith)))
+    read-unset z = set-read setPlanCode what book info hb hc er ∙ rw (eq-eqb (standingOf old) empty z) (kept-not-made p book refusal.notReady planAt (λ z. absurd (omega arith)))
 
     module _ (hs : standingOf old ≡ empty → ⊥) where
       read-count : (countIn os ≡ kOf old → ⊥) → setPlanOf book info ≡ no-set refusal.disagree planCountAt
       unfolding readyMade
       read-count n =
-          set-read setPlanCode what book info hb er hc
+          set-read setPlanCode what book info hb hc er
           ∙ rw (ne-eqb (standingOf old) empty hs, ne-eqb (countIn os) (kOf old) n) (kept-not-made p book refusal.disagree planCountAt (λ z. absurd (omega arith)))
 
       module _ (ek : countIn os ≡ kOf old) where
         read-disagrees : (planDisagree m15 ≡ 0 → ⊥) → setPlanOf book info ≡ no-set refusal.disagree (planField (planDisagree m15))
         unfolding readyMade
         read-disagrees n =
-            set-read setPlanCode what book info hb er hc
+            set-read setPlanCode what book info hb hc er
             ∙ rw (ne-eqb (standingOf old) empty hs, eq-eqb (countIn os) (kOf old) ek, ne-eqb (planDisagree m15) 0 n)
             (kept-not-made p book refusal.disagree (planField (planDisagree m15)) (λ z. absurd (omega arith)))
 
         read-done : planDisagree m15 ≡ 0 → setPlanOf book info ≡ done
         unfolding readyMade
         read-done z =
-            set-read setPlanCode what book info hb er hc
+            set-read setPlanCode what book info hb hc er
             ∙ rw (ne-eqb (standingOf old) empty hs, eq-eqb (countIn os) (kOf old) ek, eq-eqb (planDisagree m15) 0 z) (kept-made p book m15)
 
   pub fit-done : Fit15 old os → setPlanOf book info ≡ done
@@ -375,7 +375,7 @@ module _ (book info : List ℕ) (hb : length book ≡ bookLen) (ob : Octets book
   way = by (ℕ-discrete (readOf info .refusal) refusal.none) (ℕ-discrete (standingOf old) empty) (ℕ-discrete (countIn os) (kOf old)) (ℕ-discrete (planDisagree m15) 0)
     where
       by : Dec (readOf info .refusal ≡ refusal.none) → Dec (standingOf old ≡ empty) → Dec (countIn os ≡ kOf old) → Dec (planDisagree m15 ≡ 0) → Way (setPlanOf book info)
-      by (no n) d d′ d″ = subst Way (sym (set-unread setPlanCode what book info hb n)) (unread n)
+      by (no n) d d′ d″ = subst Way (sym (set-unread setPlanCode what book info hb hc n)) (unread n)
       by (yes e) (yes z) d′ d″ = subst Way (sym (read-unset e z)) (unset e (λ h. has-stands old old-octets h z))
       by (yes e) (no hs) (no n) d″ = subst Way (sym (read-count e hs n)) (refused planCountAt (stands-has old old-octets hs) (count (λ a. n (a .stored))))
       by (yes e) (no hs) (yes ek) (no n) =
@@ -422,7 +422,7 @@ module _ (book info : List ℕ) (hb : length book ≡ bookLen) (ob : Octets book
         only = only way;
         kept = kept way;
         unread = λ n.
-            let e = set-unread setPlanCode what book info hb n in
+            let e = set-unread setPlanCode what book info hb hc n in
             (ap (λ (w : Setting). w .answer .refusal) e, ap (λ (w : Setting). w .answer .field) e);
         unset = unset-is way;
         named = named way;

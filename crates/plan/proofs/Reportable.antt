@@ -1,10 +1,12 @@
 -- Every report of a plan is a message: the reader reads its octets, nothing refused, and so the writer writes it.
 use Prim.Native.Nat.{ℕ, _+_, _*_, _-_, _≤_, _<_}
 use mathlib.Core.Path.{_≡_, refl, sym, subst, _∙_}
-use mathlib.Core.Bool.{true}
+use mathlib.Core.Bool.{true, false}
 use mathlib.Core.Logic.{_⊎_, inl, inr}
 use mathlib.Core.List.{List, [], _∷_, _++_}
+use native.Mathlib.Decide.{ℕ-discrete}
 use native.Mathlib.Omega.{arith}
+use borrow.Author.Tests.{ne-eqb}
 use lib.ListN.{length, drop, drop-of-length-le}
 use lib.Seq.{take-nil, drop-drop, getD-take, getD-drop}
 use Rattle.octets.specs.First.{firstOf}
@@ -15,7 +17,7 @@ use Rattle.message.specs.declared.layout.Field.{Field}
 use Rattle.message.specs.Fields as field
 use Rattle.message.specs.Layouts.{layouts, layoutAt, numberOf, rowsAt, rowsOf, counted, repeated, times, greens, cycleOffset}
 use Rattle.message.specs.Values.{sizeOf}
-use Rattle.message.specs.Reader.{kIn, readOf}
+use Rattle.message.specs.Reader.{noMessage, kIn, readOf}
 use Rattle.message.specs.Writer.{writable}
 use Rattle.message.specs.Promises.{Known}
 use Rattle.message.proofs.Accepted.{accepted-in, is-part, again, readPart}
@@ -24,13 +26,13 @@ use Rattle.message.proofs.Values.{size-append, size-repeated}
 use Rattle.record.specs.Record.{bookLen, plansMost, empty, ready, kOf, timesEnd, greensAt, readyEnd, directOf, orderOf, AllTimesFit}
 use Rattle.checks.specs.Standing.{between, standingOf}
 use Rattle.plan.specs.Reading.{startOf, recordAt}
-use Rattle.plan.specs.Reporting.{reportPlanCode, reportRunningCode, timesInfo, planInfo, reportTimesOf, reportPlanOf}
+use Rattle.plan.specs.Reporting.{reportPlanCode, reportRunningCode, timesInfo, planInfo, reportTimesOf, reportsPlan, reportPlanOf}
 use Rattle.plan.specs.Promises.{ReportsRead}
 use Rattle.checks.proofs.Laws.{stands-long}
 use Rattle.checks.proofs.Fields.{at-one, inside, Pass, Read1, pass-part}
 use Rattle.checks.proofs.Stands.{part-long, times-pass, times-fit, plan-pass, some-long, some-times, ready-plan}
 use Rattle.plan.proofs.Storing.{is-read}
-use Rattle.plan.proofs.Reports.{times-told, plan-told}
+use Rattle.plan.proofs.Reports.{times-none, times-told, plan-none, plan-other, plan-told}
 
 module _ (rec : List ℕ) (p : ℕ) (hp : p ≤ plansMost) (n : standingOf rec ≡ empty → ⊥) where
   abbrev k : ℕ
@@ -69,7 +71,7 @@ module _ (rec : List ℕ) (p : ℕ) (hp : p ≤ plansMost) (n : standingOf rec �
   unfolding timesInfo numberOf firstOf layoutAt layouts
   times-read = (
     is-read (0x5F ∷ 0xC4 ∷ timesBody) 4 k refl times-count (omega arith) (record { first = omega arith; last = omega arith }) times-body,
-    sym (times-told rec p refl times-in (omega (arith, fit .count .most)) refl refl refl),
+    sym (times-told rec p refl n refl refl refl refl),
   )
 
   -- 5F C5 and 5F C8
@@ -111,24 +113,35 @@ module _ (rec : List ℕ) (p : ℕ) (hp : p ≤ plansMost) (n : standingOf rec �
               );
         }
 
-    plan-read : (readOf (planInfo rec p code) .refusal ≡ refusal.none) × (reportPlanOf rec p code ≡ readOf (planInfo rec p code) .message)
+    plan-read : reportsPlan code ≡ true → (readOf (planInfo rec p code) .refusal ≡ refusal.none) × (reportPlanOf rec p code ≡ readOf (planInfo rec p code) .message)
     unfolding planInfo
-    plan-read = (
+    plan-read t = (
       is-read (highOf code ∷ lowOf code ∷ planBody) l k (rw word-back el) (rw ey) (omega arith) kn plan-body,
-      sym (plan-told rec p code refl plan-in (omega (arith, fit .count .most)) refl refl refl refl refl refl refl),
+      sym (plan-told rec p refl code h refl t refl refl refl refl refl refl refl refl),
     )
 
 pub reports-read : ReportsRead
 unfolding numberOf firstOf layoutAt layouts
-reports-read rec p hp = record { times = times-read rec p hp; plan = by }
+reports-read rec p hp =
+    record {
+      times = times-read rec p hp;
+      plan = by;
+      noTimes = λ z. sym (times-none rec p refl z refl);
+      noPlan = λ code n. sym (plan-none rec p refl code n refl);
+      otherCode = λ code a b. none code (rw (ne-eqb code reportPlanCode a, ne-eqb code reportRunningCode b)) (ℕ-discrete (standingOf rec) ready);
+    }
   where
+    none : (code : ℕ) → false ≡ reportsPlan code → Dec (standingOf rec ≡ ready) → reportPlanOf rec p code ≡ noMessage
+    none code t (yes h) = sym (plan-other rec p refl code h t refl refl)
+    none code t (no n) = sym (plan-none rec p refl code n refl)
+
     some : standingOf rec ≡ ready → standingOf rec ≡ empty → ⊥
     some h z = absurd (omega arith)
 
     by : (code : ℕ) → standingOf rec ≡ ready → (code ≡ reportPlanCode) ⊎ (code ≡ reportRunningCode)
         → (readOf (planInfo rec p code) .refusal ≡ refusal.none) × (reportPlanOf rec p code ≡ readOf (planInfo rec p code) .message)
-    by code h (inl e) = rw e (plan-read rec p hp (some h) h 6 reportPlanCode refl (record { first = omega arith; last = omega arith }) refl)
-    by code h (inr e) = rw e (plan-read rec p hp (some h) h 7 reportRunningCode refl (record { first = omega arith; last = omega arith }) refl)
+    by code h (inl e) = rw e (plan-read rec p hp (some h) h 6 reportPlanCode refl (record { first = omega arith; last = omega arith }) refl refl)
+    by code h (inr e) = rw e (plan-read rec p hp (some h) h 7 reportRunningCode refl (record { first = omega arith; last = omega arith }) refl refl)
 
 -- What was read is written
 

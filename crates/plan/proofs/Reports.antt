@@ -1,23 +1,22 @@
 -- What follows from the definitions of a report: one law for each way.
-use Prim.Native.Nat.{ℕ, _+_, _-_, _≤_, _<_}
+use Prim.Native.Nat.{ℕ, _+_, _≤_}
 use mathlib.Core.Path.{_≡_, refl, sym, ap, _∙_}
-use mathlib.Core.Bool.{true, false}
+use mathlib.Core.Bool.{Bool, true, false}
 use mathlib.Core.List.{List, [], _∷_, _++_}
 use native.Mathlib.Omega.{arith}
-use borrow.Author.Tests.{le-leb, lt-leb}
-use lib.Dec.{leb}
+use borrow.Author.Tests.{eq-eqb, ne-eqb}
 use lib.ListN.{length, take, drop, replicate, length-append, length-replicate}
 use lib.Seq.{sets, sets-eq, take-at}
-use Rattle.octets.specs.Choice.{both}
 use Rattle.octets.specs.Put.{Put, Stored}
 use Rattle.octets.specs.Word.{highOf, lowOf}
 use Rattle.octets.proofs.Laws.{put-stored, stored-then}
 use Rattle.message.specs.declared.Message.{Message}
 use Rattle.message.specs.declared.Read.{Read}
 use Rattle.message.specs.Reader.{noMessage, readOf}
-use Rattle.record.specs.Record.{recordLen, kOf, timesEnd, greensAt, readyEnd, directOf, orderOf}
-use Rattle.checks.specs.Standing.{between}
-use Rattle.plan.specs.Reporting.{infoMost, reportTimesCode, timesInfo, planInfo, reportTimesOf, reportPlanOf}
+use Rattle.record.specs.Record.{recordLen, empty, ready, kOf, timesEnd, greensAt, readyEnd, directOf, orderOf}
+use Rattle.checks.specs.Standing.{between, standingOf}
+use Rattle.plan.specs.Reporting.{infoMost, reportTimesCode, timesInfo, planInfo, reportTimesOf, reportsPlan, reportPlanOf}
+use Rattle.checks.proofs.Stands.{times-fit, some-long, some-times}
 
 -- two runs of octets, one after the other, from the front
 module _ (front rest : List ℕ) {p n : ℕ} {l m : List ℕ} (h : length front + length rest ≤ infoMost) (a : Put front 0 (replicate infoMost 0) p l) (b : Put rest p l n m) where
@@ -37,40 +36,38 @@ module _ (front rest : List ℕ) {p n : ℕ} {l m : List ℕ} (h : length front 
       s .holds ∙ sets-eq (front ++ rest) (replicate infoMost 0) 0 (omega (arith, length-append front rest)) in
       rw e (take-at (front ++ rest) (drop (0 + length (front ++ rest)) (replicate infoMost 0)) n k)
 
-module _ (rec : List ℕ) (p : ℕ) where
-  module _ {end : ℕ} (ee : end ≡ timesEnd rec) where
-    pub times-short : length rec < end → {m : Message} → m ≡ noMessage → m ≡ reportTimesOf rec p
-    unfolding reportTimesOf
-    times-short h e = rw (← ee, lt-leb end (length rec) h) e
+module _ (rec : List ℕ) (p : ℕ) {s : ℕ} (es : s ≡ standingOf rec) where
+  pub times-none : s ≡ empty → {m : Message} → m ≡ noMessage → m ≡ reportTimesOf rec p
+  unfolding reportTimesOf
+  times-none h e = rw (← es, eq-eqb s empty h) e
 
-    pub times-over : end ≤ length rec → recordLen < end → {m : Message} → m ≡ noMessage → m ≡ reportTimesOf rec p
-    unfolding reportTimesOf
-    times-over l h e = rw (← ee, le-leb end (length rec) l, lt-leb end recordLen h) e
+  module _ (hs : s ≡ empty → ⊥) where
+    -- what is reported lies within the octets
+    held : (length rec ≡ recordLen) × (kOf rec ≤ 8)
+    held = let n : standingOf rec ≡ empty → ⊥ = λ z. hs (es ∙ z) in (some-long rec n, times-fit rec (some-times rec n) .count .most)
 
-    pub times-told : end ≤ length rec → end ≤ recordLen → {h l : ℕ} → h ≡ highOf reportTimesCode → l ≡ lowOf reportTimesCode
+    pub times-in : {end : ℕ} → end ≡ timesEnd rec → (end ≤ length rec) × (end ≤ recordLen)
+    times-in e = (omega (arith, held), omega (arith, held))
+
+    pub times-told : {end : ℕ} → end ≡ timesEnd rec → {h l : ℕ} → h ≡ highOf reportTimesCode → l ≡ lowOf reportTimesCode
         → {m : Message} → m ≡ readOf (h ∷ l ∷ p ∷ between 1 end rec) .message → m ≡ reportTimesOf rec p
     unfolding reportTimesOf timesInfo
-    times-told a b eh el e =
-        let le : timesEnd rec ≤ length rec = omega arith in
-        let le′ : timesEnd rec ≤ recordLen = omega arith in
-        rw (le-leb (timesEnd rec) (length rec) le, le-leb (timesEnd rec) recordLen le′) (e ∙ rw (eh, el, ee))
+    times-told ee eh el e = rw (← es, ne-eqb s empty hs) (e ∙ rw (eh, el, ee))
 
-  module _ (code : ℕ) {end : ℕ} (ee : end ≡ readyEnd rec) where
-    pub plan-short : length rec < end → {m : Message} → m ≡ noMessage → m ≡ reportPlanOf rec p code
+  pub plan-in : s ≡ ready → {end : ℕ} → end ≡ readyEnd rec → (end ≤ length rec) × (end ≤ recordLen)
+  plan-in hs e = let h = held (λ z. absurd (omega arith)) in (omega (arith, h), omega (arith, h))
+
+  module _ (code : ℕ) where
+    pub plan-none : (s ≡ ready → ⊥) → {m : Message} → m ≡ noMessage → m ≡ reportPlanOf rec p code
     unfolding reportPlanOf
-    plan-short h e = let l : length rec < readyEnd rec = omega arith in rw (lt-leb (readyEnd rec) (length rec) l) e
+    plan-none h e = rw (← es, ne-eqb s ready h) e
 
-    pub plan-over : end ≤ length rec → recordLen < end → {m : Message} → m ≡ noMessage → m ≡ reportPlanOf rec p code
-    unfolding reportPlanOf
-    plan-over l h e =
-        let a : readyEnd rec ≤ length rec = omega arith in
-        let b : recordLen < readyEnd rec = omega arith in
-        rw (le-leb (readyEnd rec) (length rec) a, lt-leb (readyEnd rec) recordLen b) e
+    module _ (hs : s ≡ ready) {t : Bool} (et : t ≡ reportsPlan code) where
+      pub plan-other : t ≡ false → {m : Message} → m ≡ noMessage → m ≡ reportPlanOf rec p code
+      unfolding reportPlanOf
+      plan-other h e = rw (← es, eq-eqb s ready hs, ← et, h) e
 
-    pub plan-told : end ≤ length rec → end ≤ recordLen → {h l d o k g : ℕ} → h ≡ highOf code → l ≡ lowOf code → d ≡ directOf rec → o ≡ orderOf rec → k ≡ kOf rec → g ≡ greensAt rec
-        → {m : Message} → m ≡ readOf (h ∷ l ∷ p ∷ d ∷ o ∷ k ∷ between g end rec) .message → m ≡ reportPlanOf rec p code
-    unfolding reportPlanOf planInfo
-    plan-told a b eh el ed eo ek eg e =
-        let le : readyEnd rec ≤ length rec = omega arith in
-        let le′ : readyEnd rec ≤ recordLen = omega arith in
-        rw (le-leb (readyEnd rec) (length rec) le, le-leb (readyEnd rec) recordLen le′) (e ∙ rw (eh, el, ed, eo, ek, eg, ee))
+      pub plan-told : t ≡ true → {h l d o k g end : ℕ} → h ≡ highOf code → l ≡ lowOf code → d ≡ directOf rec → o ≡ orderOf rec → k ≡ kOf rec → g ≡ greensAt rec → end ≡ readyEnd rec
+          → {m : Message} → m ≡ readOf (h ∷ l ∷ p ∷ d ∷ o ∷ k ∷ between g end rec) .message → m ≡ reportPlanOf rec p code
+      unfolding reportPlanOf planInfo
+      plan-told h eh el ed eo ek eg ee e = rw (← es, eq-eqb s ready hs, ← et, h) (e ∙ rw (eh, el, ed, eo, ek, eg, ee))

@@ -4,17 +4,17 @@ use mathlib.Core.Path.{_≡_, refl, sym, ap, subst, _∙_}
 use mathlib.Core.Bool.{Bool, true, false}
 use mathlib.Core.List.{List, [], _∷_, _++_}
 use native.Mathlib.Nat.{zero-add}
-use native.Mathlib.Decide.{decLt}
+use native.Mathlib.Decide.{decLt, ℕ-discrete}
 use native.Mathlib.Omega.{arith}
-use borrow.Author.Tests.{eq-eqb, ne-eqb, eqb-true, eqb-false}
-use lib.Dec.{eqb}
+use borrow.Author.Tests.{eq-eqb, ne-eqb, le-leb, lt-leb}
+use lib.Dec.{leb}
 use lib.ListN.{length, getD, take, drop, set, replicate, length-append, length-take, length-drop, length-replicate, List·getD-append, List·getD-eq-default}
 use lib.Seq.{sets, sets-eq, getD-drop, getD-take, getD-append-add, drop-at, length-take-le}
-use Rattle.octets.specs.Choice.{pick}
 use Rattle.octets.specs.First.{First, firstOf}
+use Rattle.octets.specs.Part.{codeLen}
 use Rattle.octets.specs.Put.{Put, Stored}
 use Rattle.octets.specs.Refusal as refusal
-use Rattle.octets.proofs.Laws.{put-stored, stored-then, part-to-end, getD-past}
+use Rattle.octets.proofs.Laws.{clash, put-stored, stored-then, part-to-end, getD-past}
 use Rattle.message.specs.declared.Read.{Read}
 use Rattle.message.specs.Fields as field
 use Rattle.message.specs.Layouts.{layouts, layoutAt, numberOf, rowsAt, rowsOf, repeated, times, greens, cycleOffset}
@@ -25,12 +25,13 @@ use Rattle.message.proofs.Accepted.{Accepted, accepted-in}
 use Rattle.message.proofs.Values.{size-append, size-repeated}
 use Rattle.plan.specs.declared.setting.Answered.{Answered}
 use Rattle.plan.specs.declared.setting.Made.{Made}
-use Rattle.record.specs.Record.{recordLen, bookLen, empty, timesSet, ready, octetAt, wordAt, kOf, timesEnd, Within, ZeroFrom}
+use Rattle.record.specs.Record.{recordLen, bookLen, empty, timesSet, ready, octetAt, kOf, timesEnd, ZeroFrom}
 use Rattle.checks.specs.Standing.{between, timesDisagree, planDisagree, standingOf}
 use Rattle.plan.specs.BuiltIn.{padded}
 use Rattle.plan.specs.Reading.{startOf, recordAt}
-use Rattle.plan.specs.Setting.{planIn, countIn, Times14, Plan15, timesRecord, readyRecord, made, notMade, timesField, planField, timesMade, readyMade, Setting, Did, answered, keptAs, setTimesCode, setPlanCode, frontOf, setOf}
+use Rattle.plan.specs.Setting.{planIn, countIn, Times14, Plan15, timesRecord, readyRecord, made, notMade, timesField, planField, timesMade, readyMade, Setting, Did, answered, keptAs, setTimesCode, setPlanCode, otherCode, frontOf, setOf}
 use Rattle.checks.proofs.Fields.{Read1, pass-all}
+use Rattle.checks.proofs.Laws.{both-none}
 
 -- What any set refuses
 
@@ -39,33 +40,39 @@ module _ (n code : ℕ) (info : List ℕ) where
   unfolding frontOf
   front-book h = rw (ne-eqb n bookLen h)
 
-  module _ (hb : n ≡ bookLen) {r : Read} (er : r ≡ readOf info) where
-    pub front-read : (r .refusal ≡ refusal.none → ⊥) → answered (r .refusal) (r .field) ≡ frontOf n code info
+  module _ (hb : n ≡ bookLen) {t : Bool} (et : t ≡ otherCode code info) where
+    pub front-code : t ≡ true → answered refusal.codeUnknown 0 ≡ frontOf n code info
     unfolding frontOf
-    front-read h = rw (eq-eqb n bookLen hb, ← er, ne-eqb (r .refusal) refusal.none h)
+    front-code h = rw (eq-eqb n bookLen hb, ← et, h)
 
-    module _ (hr : r .refusal ≡ refusal.none) {w : ℕ} (ew : w ≡ wordAt info 0) where
-      pub front-code : (w ≡ code → ⊥) → answered refusal.codeUnknown 0 ≡ frontOf n code info
-      unfolding frontOf
-      front-code h = rw (eq-eqb n bookLen hb, ← er, eq-eqb (r .refusal) refusal.none hr, ← ew, ne-eqb w code h)
+    pub front-read : t ≡ false → {r : Read} → r ≡ readOf info → answered (r .refusal) (r .field) ≡ frontOf n code info
+    unfolding frontOf
+    front-read h e = rw (eq-eqb n bookLen hb, ← et, h, e)
 
-      pub front-passes : w ≡ code → answered refusal.none 0 ≡ frontOf n code info
-      unfolding frontOf
-      front-passes h = rw (eq-eqb n bookLen hb, ← er, eq-eqb (r .refusal) refusal.none hr, ← ew, eq-eqb w code h)
+  pub other-code : codeLen ≤ length info → (codeIn info ≡ code → ⊥) → true ≡ otherCode code info
+  other-code l h = rw (le-leb codeLen (length info) l, ne-eqb (codeIn info) code h)
+
+  pub same-code : codeIn info ≡ code → false ≡ otherCode code info
+  same-code h = rw (eq-eqb (codeIn info) code h) (sym (both-none (leb codeLen (length info))))
+
+  pub no-code : length info < codeLen → false ≡ otherCode code info
+  no-code l = rw (lt-leb codeLen (length info) l)
 
   -- what no refusal tells
   pub front-sound : frontOf n code info .refusal ≡ refusal.none → (n ≡ bookLen) × (readOf info .refusal ≡ refusal.none) × (codeIn info ≡ code)
-  unfolding frontOf
-  front-sound e = by (eqb n bookLen) refl (eqb (readOf info .refusal) refusal.none) refl (eqb (codeIn info) code) refl e
+  front-sound e = by (ℕ-discrete n bookLen) (otherCode code info) refl
     where
-      by : (a : Bool) → eqb n bookLen ≡ a → (b : Bool) → eqb (readOf info .refusal) refusal.none ≡ b → (c : Bool) → eqb (codeIn info) code ≡ c
-          → pick a (pick b (pick c (answered refusal.none 0) (answered refusal.codeUnknown 0)) (answered (readOf info .refusal) (readOf info .field)))
-          (answered refusal.bookWrong 0) .refusal ≡ refusal.none
-          → (n ≡ bookLen) × (readOf info .refusal ≡ refusal.none) × (codeIn info ≡ code)
-      by true ea true eb true ec h = (eqb-true n bookLen ea, eqb-true (readOf info .refusal) refusal.none eb, eqb-true (codeIn info) code ec)
-      by true ea true eb false ec h = absurd (omega arith)
-      by true ea false eb c ec h = absurd (eqb-false (readOf info .refusal) refusal.none eb h)
-      by false ea b eb c ec h = absurd (omega arith)
+      none : {a : Answered} → a ≡ frontOf n code info → a .refusal ≡ refusal.none
+      none q = ap (λ (a : Answered). a .refusal) q ∙ e
+
+      same : false ≡ otherCode code info → codeLen ≤ length info → Dec (codeIn info ≡ code) → codeIn info ≡ code
+      same f l (yes c) = c
+      same f l (no h) = absurd (clash (sym f) (sym (other-code l h)))
+
+      by : Dec (n ≡ bookLen) → (t : Bool) → t ≡ otherCode code info → (n ≡ bookLen) × (readOf info .refusal ≡ refusal.none) × (codeIn info ≡ code)
+      by (no h) t f = absurd (omega (arith, none (front-book h)))
+      by (yes hb) true f = absurd (omega (arith, none (front-code hb f refl)))
+      by (yes hb) false f = let r = none (front-read hb f refl refl) in (hb, r, same f (accepted-in info r .long) (ℕ-discrete (codeIn info) code))
 
 -- A message that is read
 

@@ -30,7 +30,7 @@ use Rattle.plan.specs.Setting.{planIn, Setting, answered, made, notMade,
 use Rattle.plan.specs.Promises.{Fit14, PhaseAgrees, Disagrees14, maximum, redMan, Stored, SameTimes, Holds14, TimesJudged, TimesStoredExactlyWhen}
 use Rattle.checks.proofs.Fields.{at-one, inside, Pass, Read1, all-pass, pass-repeated, repeated-pass, phase-in, phase-out}
 use Rattle.checks.proofs.Stands.{phases-at, times-first, check-maximum, check-redman, times-ordered, times-walk, agree-times}
-use Rattle.plan.proofs.Sets.{front-passes, front-read, read-times, times-body, padded-at, padded-long, padded-rest, times-at, field-maximum, field-redman}
+use Rattle.plan.proofs.Sets.{front-read, same-code, read-times, times-body, padded-at, padded-long, padded-rest, times-at, field-maximum, field-redman}
 
 -- A record in the book
 
@@ -81,14 +81,14 @@ module _ (book : List ℕ) (p : ℕ) (rec : List ℕ) (hb : length book ≡ book
 
 -- What a set comes to, where the book and the code are right
 
-module _ (code : ℕ) (m : Made) (book info : List ℕ) (hb : length book ≡ bookLen) where
-  pub set-read : readOf info .refusal ≡ refusal.none → codeIn info ≡ code → setOf code m book info ≡ keptAs (planIn (bodyIn info)) m book
+module _ (code : ℕ) (m : Made) (book info : List ℕ) (hb : length book ≡ bookLen) (hc : codeIn info ≡ code) where
+  pub set-read : readOf info .refusal ≡ refusal.none → setOf code m book info ≡ keptAs (planIn (bodyIn info)) m book
   unfolding setOf
-  set-read e c = rw (← front-passes (length book) code info hb refl e refl c)
+  set-read e = rw (← front-read (length book) code info hb (same-code (length book) code info hc) refl refl, eq-eqb (readOf info .refusal) refusal.none e)
 
   pub set-unread : (readOf info .refusal ≡ refusal.none → ⊥) → setOf code m book info ≡ record { answer = answered (readOf info .refusal) (readOf info .field); book = book }
   unfolding setOf
-  set-unread n = rw (← front-read (length book) code info hb refl n, ne-eqb (readOf info .refusal) refusal.none n)
+  set-unread n = rw (← front-read (length book) code info hb (same-code (length book) code info hc) refl refl, ne-eqb (readOf info .refusal) refusal.none n)
 
 module _ (p : ℕ) (book : List ℕ) where
   pub kept-made : (rec : List ℕ) → keptAs p (made rec) book ≡ record { answer = answered refusal.none 0; book = sets book (startOf p) rec }
@@ -227,9 +227,9 @@ module _ (body : List ℕ) (f : Fit14 body) where
   unfolding timesRecord
   record-long = padded-long (timesSet ∷ drop 1 body) (omega (arith, length-drop 1 body, f .long, f .times .count .most))
 
-  holds : Holds14 body rec
+  pub times-holds : Holds14 body rec
   unfolding timesRecord
-  holds =
+  times-holds =
       record {
         stands =
             record {
@@ -268,13 +268,13 @@ module _ (book info : List ℕ) (hb : length book ≡ bookLen) (hc : codeIn info
   read-stored : readOf info .refusal ≡ refusal.none → timesDisagree os ≡ 0
       → setTimesOf book info ≡ record { answer = answered refusal.none 0; book = sets book (startOf (planIn os)) (timesRecord os) }
   unfolding timesMade
-  read-stored e z = set-read setTimesCode (timesMade os) book info hb e hc ∙ rw (eq-eqb (timesDisagree os) 0 z) (kept-made (planIn os) book (timesRecord os))
+  read-stored e z = set-read setTimesCode (timesMade os) book info hb hc e ∙ rw (eq-eqb (timesDisagree os) 0 z) (kept-made (planIn os) book (timesRecord os))
 
   read-refused : readOf info .refusal ≡ refusal.none → (timesDisagree os ≡ 0 → ⊥)
       → setTimesOf book info ≡ record { answer = answered refusal.disagree (timesField (timesDisagree os)); book = book }
   unfolding timesMade
   read-refused e n =
-      set-read setTimesCode (timesMade os) book info hb e hc
+      set-read setTimesCode (timesMade os) book info hb hc e
       ∙ rw (ne-eqb (timesDisagree os) 0 n) (kept-not-made (planIn os) book refusal.disagree (timesField (timesDisagree os)) (λ z. absurd (omega arith)))
 
   pub fit-stored : Fit14 os → setTimesOf book info ≡ record { answer = answered refusal.none 0; book = sets book (startOf (planIn os)) (timesRecord os) }
@@ -290,7 +290,7 @@ module _ (book info : List ℕ) (hb : length book ≡ bookLen) (hc : codeIn info
   way = by (ℕ-discrete (readOf info .refusal) refusal.none) (ℕ-discrete (timesDisagree os) 0)
     where
       by : Dec (readOf info .refusal ≡ refusal.none) → Dec (timesDisagree os ≡ 0) → Way (setTimesOf book info)
-      by (no n) d = subst Way (sym (set-unread setTimesCode (timesMade os) book info hb n)) (unread n)
+      by (no n) d = subst Way (sym (set-unread setTimesCode (timesMade os) book info hb hc n)) (unread n)
       by (yes e) (no n) = subst Way (sym (read-refused e n)) (refused e n)
       by (yes e) (yes z) = subst Way (sym (read-stored e z)) (fits (fit-from os (read-times info e hc) z))
 
@@ -317,12 +317,12 @@ module _ (book info : List ℕ) (hb : length book ≡ bookLen) (hc : codeIn info
         stored = λ f.
             subst (λ (w : Setting). Stored book (planIn os) (timesRecord os) (w .book)) (sym (fit-stored f))
             (stored-here book (planIn os) (timesRecord os) hb (f .plan .least) (f .plan .most) (record-long os f));
-        holds = λ f. holds os f;
+        holds = λ f. times-holds os f;
         accepted = λ f. ap (λ (w : Setting). w .answer .refusal) (fit-stored f);
         only = only way;
         kept = kept way;
         unread = λ n.
-            let e = set-unread setTimesCode (timesMade os) book info hb n in
+            let e = set-unread setTimesCode (timesMade os) book info hb hc n in
             (ap (λ (w : Setting). w .answer .refusal) e, ap (λ (w : Setting). w .answer .field) e);
         named = named way;
       }

@@ -1,10 +1,11 @@
 -- What was set is what is reported: the INFO of the report is that of the set, but for its code.
 use Prim.Native.Nat.{ℕ, _+_, _*_, _-_, _≤_, _<_}
 use mathlib.Core.Path.{_≡_, refl, sym, ap, subst, _∙_}
+use mathlib.Core.Bool.{true}
 use mathlib.Core.Logic.{_⊎_, inl, inr}
 use mathlib.Core.List.{List, [], _∷_, _++_, append-assoc}
 use native.Mathlib.Omega.{arith}
-use borrow.Author.Tests.{le-leb}
+use borrow.Author.Tests.{eq-eqb, ne-eqb}
 use lib.ListN.{length, getD, take, drop, replicate, length-append, length-drop}
 use lib.Seq.{take-at, drop-at, getD-drop, length-take-le}
 use Rattle.octets.specs.First.{firstOf}
@@ -16,16 +17,18 @@ use Rattle.message.specs.declared.Message.{Message}
 use Rattle.message.specs.declared.Read.{Read}
 use Rattle.message.specs.Layouts.{layouts, layoutAt, numberOf, rowsAt, rowsOf}
 use Rattle.message.specs.Reader.{readAs, partOf, kIn, codeIn, bodyIn, readOf}
-use Rattle.record.specs.Record.{recordLen, bookLen, timesSet, ready, kOf, timesEnd, greensAt, readyEnd, directOf, orderOf}
-use Rattle.checks.specs.Standing.{between}
+use Rattle.record.specs.Record.{recordLen, bookLen, empty, timesSet, ready, stateOf, kOf, timesEnd, greensAt, readyEnd, directOf, orderOf}
+use Rattle.checks.specs.Standing.{between, readyStands, standingOf}
 use Rattle.plan.specs.BuiltIn.{padded}
 use Rattle.plan.specs.Reading.{startOf, recordAt}
 use Rattle.plan.specs.Setting.{planIn, countIn, Setting, timesRecord, readyRecord, setTimesCode, setPlanCode, setTimesOf, setPlanOf}
-use Rattle.plan.specs.Reporting.{reportTimesCode, reportPlanCode, reportRunningCode, timesInfo, planInfo, reportTimesOf, reportPlanOf}
+use Rattle.plan.specs.Reporting.{reportTimesCode, reportPlanCode, reportRunningCode, timesInfo, planInfo, reportTimesOf, reportsPlan, reportPlanOf}
 use Rattle.plan.specs.Promises.{Fit14, directIn, orderIn, Fit15, Holds15, Reports, TimesReported, PlanReported}
 use Rattle.checks.proofs.Fields.{Read1}
+use Rattle.checks.proofs.Stands.{fit-times, fits-plan, zero-rest}
+use Rattle.plan.proofs.Reports.{times-told, plan-told}
 use Rattle.plan.proofs.Sets.{times-at}
-use Rattle.plan.proofs.Storing.{stored-here, read-as, long-enough, fit-read, fit-stored, record-long, times-number, times-count}
+use Rattle.plan.proofs.Storing.{times-holds, stored-here, read-as, long-enough, fit-read, fit-stored, record-long, times-number, times-count}
 use Rattle.plan.proofs.Readying.{ranges-to, has-long, has-fit, m-holds, m-long, fit-done, plan-number, plan-count}
 
 module _ (body : List ℕ) (f : Fit14 body) where
@@ -60,13 +63,22 @@ module _ (body : List ℕ) (f : Fit14 body) where
   report-read =
       read-as (0x5F ∷ 0xC4 ∷ body) 4 (kOf body) refl (getD-drop 1 body 0 0) (omega arith) (record { first = omega arith; last = omega arith }) read-report
 
+  some : standingOf (timesRecord body) ≡ empty → ⊥
+  unfolding standingOf
+  some =
+      let h = times-holds body f .stands in
+      let e : standingOf (timesRecord body) ≡ timesSet =
+      rw (
+        eq-eqb (length (timesRecord body)) recordLen (h .long),
+        fit-times (timesRecord body) (h .long) (h .times),
+        eq-eqb (stateOf (timesRecord body)) timesSet (h .state),
+        zero-rest (timesRecord body) (timesEnd (timesRecord body)) (h .rest),
+      ) in
+      λ z. absurd (omega (arith, e))
+
   reported : reportTimesOf (timesRecord body) (planIn body) ≡ partOf 4 (kOf body) body
-  unfolding reportTimesOf
-  reported =
-      let a : timesEnd (timesRecord body) ≤ length (timesRecord body) = omega (arith, record-long body f, same-end, f .times .count .most) in
-      let b : timesEnd (timesRecord body) ≤ recordLen = omega (arith, same-end, f .times .count .most) in
-      rw (le-leb (timesEnd (timesRecord body)) (length (timesRecord body)) a, le-leb (timesEnd (timesRecord body)) recordLen b)
-      (ap (λ (l : List ℕ). readOf l .message) info-again ∙ ap (λ (r : Read). r .message) report-read)
+  unfolding timesInfo
+  reported = sym (times-told (timesRecord body) (planIn body) refl some refl refl refl refl) ∙ (ap (λ (l : List ℕ). readOf l .message) info-again ∙ ap (λ (r : Read). r .message) report-read)
 
 same-values : (k : ℕ) (body : List ℕ) → Reports (partOf 4 k body) reportTimesCode (partOf 3 k body)
 unfolding partOf rowsAt rowsOf layoutAt layouts
@@ -129,13 +141,24 @@ module _ (old body : List ℕ) (f : Fit15 old body) where
       ∙ ap (λ (l : List ℕ). directIn body ∷ l)
       (drop-next body 2 (omega (arith, f .ranges .long)) ∙ ap (λ (l : List ℕ). orderIn body ∷ l) (drop-next body 3 (omega (arith, f .ranges .long)))))))
 
-  told : (code : ℕ) → reportPlanOf m (planIn body) code ≡ readOf (highOf code ∷ lowOf code ∷ body) .message
-  unfolding reportPlanOf planInfo
-  told code =
-      let l = m-long old body (f .set) (f .ranges) (f .count .stored) (f .count .diagram) (f .green) (f .cycle) (f .offset) in
-      let a : readyEnd m ≤ length m = omega (arith, l, same-k, f .ranges .count .most) in
-      let b : readyEnd m ≤ recordLen = omega (arith, same-k, f .ranges .count .most) in
-      rw (le-leb (readyEnd m) (length m) a, le-leb (readyEnd m) recordLen b) (ap (λ (l : List ℕ). readOf (highOf code ∷ lowOf code ∷ l) .message) whole-again)
+  is-ready : standingOf m ≡ ready
+  unfolding standingOf readyStands
+  is-ready =
+      let h = holds .stands in
+      let n : stateOf m ≡ timesSet → ⊥ = λ z. absurd (omega (arith, h .state)) in
+      rw (
+        eq-eqb (length m) recordLen (h .long),
+        fit-times m (h .long) (h .times),
+        ne-eqb (stateOf m) timesSet n,
+        eq-eqb (stateOf m) ready (h .state),
+        fits-plan m (h .long) (omega (arith, holds .order, f .ranges .order .0)) (h .times) (h .greens),
+        zero-rest m (readyEnd m) (h .rest),
+      )
+
+  told : (code : ℕ) → reportsPlan code ≡ true → reportPlanOf m (planIn body) code ≡ readOf (highOf code ∷ lowOf code ∷ body) .message
+  unfolding planInfo
+  told code t =
+      sym (plan-told m (planIn body) refl code is-ready refl t refl refl refl refl refl refl refl refl) ∙ ap (λ (l : List ℕ). readOf (highOf code ∷ lowOf code ∷ l) .message) whole-again
 
   -- as a report it passes where it passed as a set
   read-plan-report : Read1 6 (countIn body) body
@@ -154,14 +177,14 @@ module _ (old body : List ℕ) (f : Fit15 old body) where
   plan-is : reportPlanOf m (planIn body) reportPlanCode ≡ partOf 6 (countIn body) body
   unfolding numberOf firstOf layoutAt layouts
   plan-is =
-      told reportPlanCode
+      told reportPlanCode refl
       ∙ ap (λ (r : Read). r .message)
       (read-as (0x5F ∷ 0xC5 ∷ body) 6 (countIn body) refl (simp getD-drop) (omega arith) (record { first = omega arith; last = omega arith }) read-plan-report)
 
   running-is : reportPlanOf m (planIn body) reportRunningCode ≡ partOf 7 (countIn body) body
   unfolding numberOf firstOf layoutAt layouts
   running-is =
-      told reportRunningCode
+      told reportRunningCode refl
       ∙ ap (λ (r : Read). r .message)
       (read-as (0x5F ∷ 0xC8 ∷ body) 7 (countIn body) refl (simp getD-drop) (omega arith) (record { first = omega arith; last = omega arith }) read-running)
 

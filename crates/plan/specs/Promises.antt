@@ -5,17 +5,18 @@ use mathlib.Core.Logic.{_⊎_}
 use mathlib.Core.List.{List}
 use lib.ListN.{length}
 use Rattle.octets.specs.Octet.{Octets}
+use Rattle.octets.specs.Part.{codeLen}
 use Rattle.octets.specs.Refusal as refusal
 use Rattle.diagram.specs.Table.{phasesOf}
 use Rattle.message.specs.declared.Message.{Message}
 use Rattle.message.specs.Names.{planAt, maximumAt, redManAt, planCountAt, greenAt, cycleAt, offsetAt}
-use Rattle.message.specs.Reader.{codeIn, bodyIn, readOf}
+use Rattle.message.specs.Reader.{noMessage, codeIn, bodyIn, readOf}
 use Rattle.record.specs.Record.{recordLen, bookLen, plansMost, empty, ready, octetAt, wordAt, kOf, minimumOf, maximumOf, yellowOf, allRedOf, walkFlashOf, redManOf, directOf, orderOf, greenOf, cycleOf, offsetOf, Within, AllTimesFit, Empty, TimesSet, Ready}
 use Rattle.checks.specs.Standing.{standingOf}
 use Rattle.plan.specs.BuiltIn.{builtIn}
 use Rattle.plan.specs.Reading.{recordAt, readRefusal}
 use Rattle.plan.specs.Reporting.{reportTimesCode, reportPlanCode, reportRunningCode, timesInfo, planInfo, reportTimesOf, reportPlanOf}
-use Rattle.plan.specs.Setting.{planIn, countIn, setTimesCode, setPlanCode, setTimesOf, setPlanOf}
+use Rattle.plan.specs.Setting.{planIn, countIn, Setting, answered, setTimesCode, setPlanCode, setTimesOf, setPlanOf}
 
 -- The checks of a message
 
@@ -137,6 +138,17 @@ pub record Holds15 (old body rec : List ℕ) : Type 0 where
   pub cycle : cycleOf rec ≡ cycleIn body
   pub offset : offsetOf rec ≡ offsetIn body
 
+-- What every set refuses
+
+-- "plan book is not 3,840 octets"; then "code not handled", of a message of another code, and 11 "for under two octets": the book stays
+pub record SetRefused (code : ℕ) (book info : List ℕ) (w : Setting) : Type 0 where
+  pub wrongBook : (length book ≡ bookLen → ⊥) → w ≡ record { answer = answered refusal.bookWrong 0; book = book }
+  pub otherCode : length book ≡ bookLen → codeLen ≤ length info → (codeIn info ≡ code → ⊥) → w ≡ record { answer = answered refusal.codeUnknown 0; book = book }
+  pub noCode : length book ≡ bookLen → length info < codeLen → w ≡ record { answer = answered refusal.lengthWrong 0; book = book }
+
+abbrev pub SetsRefuse : Type 0
+SetsRefuse = (book info : List ℕ) → SetRefused setTimesCode book info (setTimesOf book info) × SetRefused setPlanCode book info (setPlanOf book info)
+
 -- Stored exactly when
 
 -- of a book of the right length and a message 5F 14
@@ -184,7 +196,7 @@ PlanStoredExactlyWhen =
 
 -- "No other record changes": a set of one plan leaves every other plan's reading as it was, plan 0's too
 pub record OthersRead (book book′ : List ℕ) (p : ℕ) : Type 0 where
-  pub refusal : (own : List ℕ) (q : ℕ) → (q ≡ p → ⊥) → readRefusal book′ own q ≡ readRefusal book own q
+  pub refusal : (copy : List ℕ) (q : ℕ) → (q ≡ p → ⊥) → readRefusal book′ copy q ≡ readRefusal book copy q
   pub octets : (q : ℕ) → 1 ≤ q → q ≤ plansMost → (q ≡ p → ⊥) → recordAt book′ q ≡ recordAt book q
 
 abbrev pub SetsLeaveOthers : Type 0
@@ -230,23 +242,28 @@ pub record ReportRead (rec : List ℕ) (p : ℕ) : Type 0 where
   pub times : (standingOf rec ≡ empty → ⊥) → (readOf (timesInfo rec p) .refusal ≡ refusal.none) × (reportTimesOf rec p ≡ readOf (timesInfo rec p) .message)
   pub plan : (code : ℕ) → standingOf rec ≡ ready → (code ≡ reportPlanCode) ⊎ (code ≡ reportRunningCode)
       → (readOf (planInfo rec p code) .refusal ≡ refusal.none) × (reportPlanOf rec p code ≡ readOf (planInfo rec p code) .message)
+  -- "Octets that are not such a record, checks included, read as empty."
+  pub noTimes : standingOf rec ≡ empty → reportTimesOf rec p ≡ noMessage
+  pub noPlan : (code : ℕ) → (standingOf rec ≡ ready → ⊥) → reportPlanOf rec p code ≡ noMessage
+  pub otherCode : (code : ℕ) → (code ≡ reportPlanCode → ⊥) → (code ≡ reportRunningCode → ⊥) → reportPlanOf rec p code ≡ noMessage
 
--- Every plan that is not empty has a 5F C4, every ready one a 5F C5 and a 5F C8: the report's octets are read as a message, nothing refused.
+-- Every plan that is not empty has a 5F C4, every ready one a 5F C5 and a 5F C8, and no other octets have: the report's octets are read as
+-- a message, nothing refused.
 abbrev pub ReportsRead : Type 0
 ReportsRead = (rec : List ℕ) (p : ℕ) → p ≤ plansMost → ReportRead rec p
 
 -- Reading a plan: what comes of it, and why. "8 if either length is wrong, then 12 for a plan over 48, then 13 for an empty plan,
 -- or for plan 0 where the copy differs from the built-in record."
-pub data ReadingJudged (book own : List ℕ) (p : ℕ) : ℕ → Type 0 where
-  wrongLength : (length book ≡ bookLen → length own ≡ recordLen → ⊥) → ReadingJudged book own p refusal.bookWrong
-  overRange : length book ≡ bookLen → length own ≡ recordLen → plansMost < p → ReadingJudged book own p refusal.outOfRange
-  unlike : length book ≡ bookLen → length own ≡ recordLen → p ≡ 0 → (own ≡ builtIn → ⊥) → ReadingJudged book own p refusal.notReady
-  emptyPlan : length book ≡ bookLen → length own ≡ recordLen → 1 ≤ p → p ≤ plansMost → (HasTimes (recordAt book p) → ⊥) → ReadingJudged book own p refusal.notReady
-  builtInRead : length book ≡ bookLen → p ≡ 0 → own ≡ builtIn → ReadingJudged book own p refusal.none
-  bookRead : length book ≡ bookLen → length own ≡ recordLen → 1 ≤ p → p ≤ plansMost → HasTimes (recordAt book p) → ReadingJudged book own p refusal.none
+pub data ReadingJudged (book copy : List ℕ) (p : ℕ) : ℕ → Type 0 where
+  wrongLength : (length book ≡ bookLen → length copy ≡ recordLen → ⊥) → ReadingJudged book copy p refusal.bookWrong
+  overRange : length book ≡ bookLen → length copy ≡ recordLen → plansMost < p → ReadingJudged book copy p refusal.outOfRange
+  unlike : length book ≡ bookLen → length copy ≡ recordLen → p ≡ 0 → (copy ≡ builtIn → ⊥) → ReadingJudged book copy p refusal.notReady
+  emptyPlan : length book ≡ bookLen → length copy ≡ recordLen → 1 ≤ p → p ≤ plansMost → (HasTimes (recordAt book p) → ⊥) → ReadingJudged book copy p refusal.notReady
+  builtInRead : length book ≡ bookLen → p ≡ 0 → copy ≡ builtIn → ReadingJudged book copy p refusal.none
+  bookRead : length book ≡ bookLen → length copy ≡ recordLen → 1 ≤ p → p ≤ plansMost → HasTimes (recordAt book p) → ReadingJudged book copy p refusal.none
 
 -- "When, and only then": refusals 8, 12 and 13 of reading a plan.
 abbrev pub PlansReadSo : Type 0
 PlansReadSo =
-    (book own : List ℕ) (p n : ℕ) → Octets book
-    → (ReadingJudged book own p n → n ≡ readRefusal book own p) × (n ≡ readRefusal book own p → ReadingJudged book own p n)
+    (book copy : List ℕ) (p n : ℕ) → Octets book
+    → (ReadingJudged book copy p n → n ≡ readRefusal book copy p) × (n ≡ readRefusal book copy p → ReadingJudged book copy p n)

@@ -32,22 +32,22 @@ same (x ∷ xs) [] = false
 same (x ∷ xs) (y ∷ ys) = both (eqb x y) (same xs ys)
 
 unfoldable pub readRefusal : List ℕ → List ℕ → ℕ → ℕ
-readRefusal book own p =
-    pick (both (eqb (length book) bookLen) (eqb (length own) recordLen))
+readRefusal book copy p =
+    pick (both (eqb (length book) bookLen) (eqb (length copy) recordLen))
     (pick (leb p plansMost)
     (pick (eqb p 0)
-    (pick (same own builtIn) refusal.none refusal.notReady)
+    (pick (same copy builtIn) refusal.none refusal.notReady)
     (pick (eqb (standingOf (recordAt book p)) empty) refusal.notReady refusal.none))
     refusal.outOfRange)
     refusal.bookWrong
 
 -- r is the part read: all of the copy for plan 0, the plan's record in the book for any other, an empty part where it is refused
 abbrev pub PartRead : RefT (List ℕ) → RefT (List ℕ) → ℕ → RefT (List ℕ) → Type 0
-PartRead book own p r =
-    pick (eqb (readRefusal (now book) (now own) p) refusal.none)
-    (pick (eqb p 0) (PartOf own 0 recordLen r) (PartOf book (startOf p) recordLen r))
-    (PartOf own 0 0 r)
+PartRead book copy p r =
+    pick (eqb (readRefusal (now book) (now copy) p) refusal.none)
+    (pick (eqb p 0) (PartOf copy 0 recordLen r) (PartOf book (startOf p) recordLen r))
+    (PartOf copy 0 0 r)
 
-pub record PlanRead (book own : RefT (List ℕ)) (p : ℕ) (r : RefT (List ℕ)) (why : ℕ) : Type 0 where
-  pub part : PartRead book own p r
-  pub refusal : why ≡ readRefusal (now book) (now own) p
+pub record PlanRead (book copy : RefT (List ℕ)) (p : ℕ) (r : RefT (List ℕ)) (why : ℕ) : Type 0 where
+  pub part : PartRead book copy p r
+  pub refusal : why ≡ readRefusal (now book) (now copy) p

@@ -1,14 +1,14 @@
 -- 01, "Messages": what the reports 5F C4, 5F C5 and 5F C8 hold, worked out from a record.
 use Prim.Native.Nat.{ℕ, _+_}
+use mathlib.Core.Bool.{Bool, _||_}
 use mathlib.Core.List.{List, _∷_}
-use lib.Dec.{leb}
-use lib.ListN.{length}
+use lib.Dec.{eqb}
 use Rattle.octets.specs.Choice.{pick, both}
 use Rattle.octets.specs.Word.{highOf, lowOf}
 use Rattle.message.specs.declared.Message.{Message}
 use Rattle.message.specs.Reader.{noMessage, readOf}
-use Rattle.record.specs.Record.{recordLen, kOf, timesEnd, greensAt, readyEnd, directOf, orderOf}
-use Rattle.checks.specs.Standing.{between}
+use Rattle.record.specs.Record.{recordLen, empty, ready, kOf, timesEnd, greensAt, readyEnd, directOf, orderOf}
+use Rattle.checks.specs.Standing.{between, standingOf}
 
 -- the octets of a report are no more
 abbrev pub infoMost : ℕ
@@ -31,9 +31,14 @@ timesInfo rec p = highOf reportTimesCode ∷ lowOf reportTimesCode ∷ p ∷ bet
 unfoldable pub planInfo : List ℕ → ℕ → ℕ → List ℕ
 planInfo rec p code = highOf code ∷ lowOf code ∷ p ∷ directOf rec ∷ orderOf rec ∷ kOf rec ∷ between (greensAt rec) (readyEnd rec) rec
 
--- the message that stands there; none where the record ends before
+-- "Octets that are not such a record, checks included, read as empty.": an empty plan has no times to report
 unfoldable pub reportTimesOf : List ℕ → ℕ → Message
-reportTimesOf rec p = pick (both (leb (timesEnd rec) (length rec)) (leb (timesEnd rec) recordLen)) (readOf (timesInfo rec p) .message) noMessage
+reportTimesOf rec p = pick (eqb (standingOf rec) empty) noMessage (readOf (timesInfo rec p) .message)
 
+-- "5F C5 and 5F C8 report"
+abbrev pub reportsPlan : ℕ → Bool
+reportsPlan code = eqb code reportPlanCode || eqb code reportRunningCode
+
+-- of a ready plan alone
 unfoldable pub reportPlanOf : List ℕ → ℕ → ℕ → Message
-reportPlanOf rec p code = pick (both (leb (readyEnd rec) (length rec)) (leb (readyEnd rec) recordLen)) (readOf (planInfo rec p code) .message) noMessage
+reportPlanOf rec p code = pick (both (eqb (standingOf rec) ready) (reportsPlan code)) (readOf (planInfo rec p code) .message) noMessage

@@ -3,11 +3,13 @@
 -- "An accepted 5F 14 writes state 01 and drops the greens; an accepted 5F 15 makes the plan ready. No other record changes."
 use Prim.Native.Nat.{ℕ, _+_, _*_, _-_, _/_, _%_}
 use mathlib.Core.Path.{_≡_}
+use mathlib.Core.Bool.{Bool, not}
 use mathlib.Core.List.{List, _∷_, _++_}
-use lib.Dec.{eqb}
+use lib.Dec.{eqb, leb}
 use lib.ListN.{length, drop, replicate}
 use lib.Seq.{sets}
-use Rattle.octets.specs.Choice.{pick}
+use Rattle.octets.specs.Choice.{pick, both}
+use Rattle.octets.specs.Part.{codeLen}
 use Rattle.octets.specs.Refusal as refusal
 use Rattle.message.specs.Names.{planAt, maximumAt, redManAt, planCountAt}
 use Rattle.message.specs.Reader.{codeIn, bodyIn, readOf}
@@ -104,15 +106,16 @@ setTimesCode = 0x5F14
 abbrev pub setPlanCode : ℕ
 setPlanCode = 0x5F15
 
--- "plan book is not 3,840 octets"; then what the message reader refuses; then a message of another code
+-- the code is there and is another: under two octets there is none
+abbrev pub otherCode : ℕ → List ℕ → Bool
+otherCode code info = both (leb codeLen (length info)) (not (eqb (codeIn info) code))
+
+-- "plan book is not 3,840 octets"; then "code not handled", of any other; then what the message reader refuses: "10 to 14 in a message"
 unfoldable pub frontOf : ℕ → ℕ → List ℕ → Answered
 frontOf n code info =
-    pick (eqb n bookLen)
-    (pick (eqb (readOf info .refusal) refusal.none)
-    (pick (eqb (codeIn info) code) (answered refusal.none 0)
-    (answered refusal.codeUnknown 0))
+    pick (not (eqb n bookLen)) (answered refusal.bookWrong 0)
+    (pick (otherCode code info) (answered refusal.codeUnknown 0)
     (answered (readOf info .refusal) (readOf info .field)))
-    (answered refusal.bookWrong 0)
 
 -- then the agreement
 unfoldable pub setOf : ℕ → Made → List ℕ → List ℕ → Setting

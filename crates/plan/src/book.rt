@@ -25,9 +25,9 @@ pub fn built_in() -> [u8; RECORD_LEN]
     let mut rec = [0u8; RECORD_LEN];
     rec[0] = record::READY;
     rec[1] = BUILT_IN_K;
-    octets::put(&BUILT_IN_TIMES, &mut rec, 2);
-    octets::put(&BUILT_IN_TIMES, &mut rec, 9);
-    octets::put(&BUILT_IN_PLAN, &mut rec, 16);
+    let p = octets::put(&BUILT_IN_TIMES, &mut rec, record::HEAD_LEN);
+    let q = octets::put(&BUILT_IN_TIMES, &mut rec, p);
+    octets::put(&BUILT_IN_PLAN, &mut rec, q);
     rec
 }
 
@@ -41,43 +41,43 @@ pub(crate) fn start(plan: u8) -> usize
 
 // The record of a plan: all of the copy of the built-in record for plan 0, the plan's part of the book for any other. Where
 // that is refused, `why` says it and the part is empty.
-pub fn read_plan<'a>(book: &'a [u8], own: &'a [u8], plan: u8, why: &mut u8) -> &'a [u8]
-    ensures { λ r. ⌜ PlanRead (book .entry) (own .entry) plan r (now (why .exit)) ⌝ }
+pub fn read_plan<'a>(book: &'a [u8], copy: &'a [u8], plan: u8, why: &mut u8) -> &'a [u8]
+    ensures { λ r. ⌜ PlanRead (book .entry) (copy .entry) plan r (now (why .exit)) ⌝ }
 {
-    let n = read_refusal(book, own, plan);
+    let n = read_refusal(book, copy, plan);
     *why = n;
-    part_read(book, own, plan, n)
+    part_read(book, copy, plan, n)
 }
 
-fn part_read<'a>(book: &'a [u8], own: &'a [u8], plan: u8, n: u8) -> &'a [u8]
-    requires { ⌜ n ≡ readRefusal (now book) (now own) plan ⌝ }
-    ensures { λ r. ⌜ PartRead (book .entry) (own .entry) plan r ⌝ }
+fn part_read<'a>(book: &'a [u8], copy: &'a [u8], plan: u8, n: u8) -> &'a [u8]
+    requires { ⌜ n ≡ readRefusal (now book) (now copy) plan ⌝ }
+    ensures { λ r. ⌜ PartRead (book .entry) (copy .entry) plan r ⌝ }
 {
     if n != refusal::NONE {
-        return &own[0..0];
+        return &copy[0..0];
     }
     if plan == 0 {
-        return own;
+        return copy;
     }
     let at = start(plan);
     let end = at + RECORD_LEN;
     &book[at..end]
 }
 
-fn read_refusal(book: &[u8], own: &[u8], plan: u8) -> u8
-    ensures { λ r. ⌜ r ≡ readRefusal (now (book .entry)) (now (own .entry)) plan ⌝ }
+fn read_refusal(book: &[u8], copy: &[u8], plan: u8) -> u8
+    ensures { λ r. ⌜ r ≡ readRefusal (now (book .entry)) (now (copy .entry)) plan ⌝ }
 {
     if book.len() != BOOK_LEN {
         return refusal::BOOK_WRONG;
     }
-    if own.len() != RECORD_LEN {
+    if copy.len() != RECORD_LEN {
         return refusal::BOOK_WRONG;
     }
     if PLANS_MOST < plan {
         return refusal::OUT_OF_RANGE;
     }
     if plan == 0 {
-        if is_built_in(own) {
+        if is_built_in(copy) {
             return refusal::NONE;
         }
         return refusal::NOT_READY;
@@ -109,14 +109,14 @@ pub fn is_built_in(rec: &[u8]) -> bool
 }
 
 // Every octet is compared, also past the first that differs: so the compiler compares many at once.
-fn matches(own: &[u8]) -> bool
-    requires { ⌜ length (now own) ≡ recordLen ⌝ }
-    ensures { λ r. ⌜ r ≡ same (now (own .entry)) builtIn ⌝ }
+fn matches(copy: &[u8]) -> bool
+    requires { ⌜ length (now copy) ≡ recordLen ⌝ }
+    ensures { λ r. ⌜ r ≡ same (now (copy .entry)) builtIn ⌝ }
 {
     let rec = built_in();
     let mut alike = true;
     for i in 0..RECORD_LEN {
-        if own[i] != rec[i] {
+        if copy[i] != rec[i] {
             alike = false;
         }
     }

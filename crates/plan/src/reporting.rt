@@ -5,22 +5,18 @@ ghost use Prim.Native.Nat.{_+_, _≤_};
 ghost use mathlib.Core.List.{_++_};
 ghost use lib.ListN.{length};
 ghost use Rattle.message.specs.Reader.{noMessage, readOf};
-ghost use Rattle.plan.specs.Reporting.{infoMost, reportTimesOf, reportPlanOf};
+ghost use Rattle.plan.specs.Reporting.{infoMost, reportTimesOf, reportsPlan, reportPlanOf};
 use message::Message;
 use record::RECORD_LEN;
 
 // The most octets of a report, and room to spare: a code, a plan, and a record.
 const INFO_MOST: usize = RECORD_LEN + 6;
 
-// The report 5F C4 of a record's times; no message where the record has none.
+// The report 5F C4 of a record's times; no message of octets that read as empty.
 pub fn report_times(rec: &[u8], plan: u8) -> Message
     ensures { λ r. ⌜ r ≡ reportTimesOf (now (rec .entry)) plan ⌝ }
 {
-    let end = record::times_end(rec);
-    if rec.len() < end {
-        return no_message();
-    }
-    if RECORD_LEN < end {
+    if checks::standing(rec) == record::EMPTY {
         return no_message();
     }
     let front = [
@@ -28,18 +24,19 @@ pub fn report_times(rec: &[u8], plan: u8) -> Message
         octets::low(message::REPORT_TIMES),
         plan,
     ];
+    let end = record::times_end(rec);
     reported(&front, &rec[1..end])
 }
 
-// The report 5F C5 of a plan, or 5F C8 of the running one, by its code; no message where the record is not ready.
+// The report 5F C5 of a plan, or 5F C8 of the running one, by its code; no message of octets that are no ready record, nor
+// for another code.
 pub fn report_plan(rec: &[u8], plan: u8, code: u16) -> Message
     ensures { λ r. ⌜ r ≡ reportPlanOf (now (rec .entry)) plan code ⌝ }
 {
-    let end = record::ready_end(rec);
-    if rec.len() < end {
+    if checks::standing(rec) != record::READY {
         return no_message();
     }
-    if RECORD_LEN < end {
+    if !reports_plan(code) {
         return no_message();
     }
     let front = [
@@ -51,7 +48,15 @@ pub fn report_plan(rec: &[u8], plan: u8, code: u16) -> Message
         record::count(rec),
     ];
     let greens = record::greens_at(rec);
+    let end = record::ready_end(rec);
     reported(&front, &rec[greens..end])
+}
+
+// "5F C5 and 5F C8 report"
+fn reports_plan(code: u16) -> bool
+    ensures { λ r. ⌜ r ≡ reportsPlan code ⌝ }
+{
+    code == message::REPORT_PLAN || code == message::REPORT_RUNNING
 }
 
 // The message that the octets are, one run after the other.

@@ -5,7 +5,7 @@ ghost use lib.ListN.{length};
 ghost use lib.Seq.{sets};
 ghost use Rattle.plan.specs.Reading.{startOf};
 ghost use Rattle.record.specs.Record.{recordLen, bookLen, plansMost, kOf, timesEnd};
-ghost use Rattle.plan.specs.Setting.{Times14, Plan15, timesRecord, readyRecord, notMade, timesField, timesMade, readyMade, answered, Did, keptAs, frontOf, setTimesOf, setPlanOf};
+ghost use Rattle.plan.specs.Setting.{Times14, Plan15, timesRecord, readyRecord, notMade, timesField, timesMade, readyMade, answered, Did, keptAs, otherCode, frontOf, setTimesOf, setPlanOf};
 use crate::book;
 use octets::refusal;
 use record::BOOK_LEN;
@@ -70,21 +70,25 @@ fn answer(n: u8, field: u8) -> Answered
     Answered { refusal: n, field }
 }
 
-// What is refused of any set: a book of another length, what the message reader refuses, a message of another code.
+// Is the code there, and another?
+fn other_code(info: &[u8], code: u16) -> bool
+    ensures { λ r. ⌜ r ≡ otherCode code (now (info .entry)) ⌝ }
+{
+    octets::CODE_LEN <= info.len() && record::word_at(info, 0) != code
+}
+
+// What is refused of any set: a book of another length, a message of another code, what the message reader refuses.
 fn front(len: usize, info: &[u8], code: u16) -> Answered
     ensures { λ r. ⌜ r ≡ frontOf len code (now (info .entry)) ⌝ }
 {
     if len != BOOK_LEN {
         return answer(refusal::BOOK_WRONG, 0);
     }
-    let r = message::reader::read(info);
-    if r.refusal != refusal::NONE {
-        return answer(r.refusal, r.field);
-    }
-    if record::word_at(info, 0) != code {
+    if other_code(info, code) {
         return answer(refusal::CODE_UNKNOWN, 0);
     }
-    answer(refusal::NONE, 0)
+    let r = message::reader::read(info);
+    answer(r.refusal, r.field)
 }
 
 fn not_made(n: u8, field: u8) -> Made

@@ -1,12 +1,8 @@
 -- `plan::book::built_in` meets its contract: the three runs of octets, stored behind state and k, are the definition's list.
-use mathlib.Core.Path.{ap, _∙_}
-use mathlib.Core.List.{List, [], _∷_}
-use Prim.Native.Nat.{ℕ}
 use native.Mathlib.Omega.{arith}
 use borrow.Author.Needs.{needs}
-use lib.Seq.{sets}
-use Rattle.octets.proofs.Laws.{put-stored}
-use Rattle.plan.specs.BuiltIn.{padded, builtInTimes, builtInPlan, builtIn}
+use Rattle.octets.proofs.Laws.{put-stored, stored-then}
+use Rattle.plan.specs.BuiltIn.{padded, builtIn}
 use Rattle.plan.proofs.book.built_in.Statement.{statement}
 use Rattle.plan.proofs.book.built_in.Tie as tie
 
@@ -17,9 +13,9 @@ returns c =
     let p2 = p3 .before .before .before .before in
     let p1 = p2 .before .before .before .before in
     let s1 = put-stored (p1 .put .ensures) (omega arith) in
-    let s2 = put-stored (p2 .put2 .ensures) (omega (arith, s1 .long)) in
-    let s3 = put-stored (p3 .put3 .ensures) (omega (arith, s2 .long, s1 .long)) in
-    s3 .holds ∙ ap (λ (l : List ℕ). sets l 16 builtInPlan) (s2 .holds ∙ ap (λ (l : List ℕ). sets l 9 builtInTimes) (s1 .holds))
+    let s2 = put-stored (p2 .put2 .ensures) (omega (arith, s1 .place, s1 .long)) in
+    let s3 = put-stored (p3 .put3 .ensures) (omega (arith, s2 .place, s2 .long, s1 .place, s1 .long)) in
+    stored-then s1 (stored-then s2 s3) .holds
 
 pub built-in-spec : {M : Type 1} → statement M
 built-in-spec =

@@ -13,10 +13,10 @@ use Rattle.plan.proofs.book.matches.Statement.{statement}
 use Rattle.plan.proofs.book.matches.Tie as tie
 
 abbrev Inv-loop : tie.InvT-loop
-Inv-loop own rec alike₀ i₀ alike i = (i ≤ recordLen) × (length rec ≡ recordLen) × (both alike (same (drop i own) (drop i rec)) ≡ same own rec)
+Inv-loop copy rec alike₀ i₀ alike i = (i ≤ recordLen) × (length rec ≡ recordLen) × (both alike (same (drop i copy) (drop i rec)) ≡ same copy rec)
 
 abbrev μ-loop : tie.MeasureT-loop
-μ-loop own rec alike₀ i₀ alike i = recordLen - i
+μ-loop copy rec alike₀ i₀ alike i = recordLen - i
 
 loop-holds : tie.Need-loop-holds Inv-loop μ-loop
 loop-holds c = (search needs, ap length (c .built-in .ensures) ∙ length-built-in, refl)
@@ -25,25 +25,25 @@ loop-again : tie.Need-loop-again Inv-loop μ-loop
 loop-again c =
     let d = c .before .before .before in
     let v = d .loop in
-    let own = d .before .before .before .args .own .now in
+    let copy = d .before .before .before .args .copy .now in
     let rec = d .before .built-in .result in
     ⊎-elim
     (λ w. (
       search needs,
       v .inv .1,
       rw (w .1)
-          (sym (both-none (v .alike)) ∙ (ap (both (v .alike)) (same-stops own rec (v .i) (search needs) (search needs) (w .0 .taken)) ∙ v .inv .2)),
+          (sym (both-none (v .alike)) ∙ (ap (both (v .alike)) (same-stops copy rec (v .i) (search needs) (search needs) (w .0 .taken)) ∙ v .inv .2)),
     ))
-    (λ w. (search needs, v .inv .1, rw (w .1, same-goes own rec (v .i) (search needs) (search needs) (w .0 .left)) (v .inv .2)))
+    (λ w. (search needs, v .inv .1, rw (w .1, same-goes copy rec (v .i) (search needs) (search needs) (w .0 .left)) (v .inv .2)))
     (c .if1 .came)
 
 returns : tie.Need-returns Inv-loop μ-loop
 returns c =
     let d = c .before in
     let v = d .loop in
-    let own = d .before .before .before .args .own .now in
+    let copy = d .before .before .before .args .copy .now in
     sym (both-all (v .alike))
-    ∙ (ap (both (v .alike)) (same-ends own (d .before .built-in .result) (v .i) (search needs) (search needs)) ∙ (v .inv .2 ∙ ap (same own) (d .before .built-in .ensures)))
+    ∙ (ap (both (v .alike)) (same-ends copy (d .before .built-in .result) (v .i) (search needs) (search needs)) ∙ (v .inv .2 ∙ ap (same copy) (d .before .built-in .ensures)))
 
 pub matches-spec : {M : Type 1} → statement M
 matches-spec =

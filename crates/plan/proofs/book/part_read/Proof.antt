@@ -22,15 +22,15 @@ returns-2 c =
     let d = c .before .before .before .before in
     let a = d .args in
     let e = sym (d .pre) ∙ c .before .if1 .left in
-    let h : length (a .own .now) ≤ 80 = omega (arith, read-sound (a .book .now) (a .own .now) (a .plan) e) in
-    rw (eq-eqb _ _ e, eq-eqb _ _ (c .if2 .taken)) (record { place = rw zero-add refl; octets = sym (take-all 80 (a .own .now) h) })
+    let h : length (a .copy .now) ≤ 80 = omega (arith, read-sound (a .book .now) (a .copy .now) (a .plan) e) in
+    rw (eq-eqb _ _ e, eq-eqb _ _ (c .if2 .taken)) (record { place = rw zero-add refl; octets = sym (take-all 80 (a .copy .now) h) })
 
 start-requires : tie.Need-start-requires
 start-requires c κs =
     let d = c .before .before .before .before in
     let a = d .args in
     let e = sym (d .pre) ∙ c .before .if1 .left in
-    let s = read-sound (a .book .now) (a .own .now) (a .plan) e in
+    let s = read-sound (a .book .now) (a .copy .now) (a .plan) e in
     (omega arith, s .2)
 
 part-result-end-2 : tie.Need-part-result-end-2
@@ -38,7 +38,7 @@ part-result-end-2 c =
     let d = c .before .before .before .before .before in
     let a = d .args in
     let e = sym (d .pre) ∙ c .before .before .if1 .left in
-    omega (arith, read-sound (a .book .now) (a .own .now) (a .plan) e)
+    omega (arith, read-sound (a .book .now) (a .copy .now) (a .plan) e)
 
 returns-3 : tie.Need-returns-3
 returns-3 c =

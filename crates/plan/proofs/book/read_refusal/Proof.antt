@@ -1,30 +1,30 @@
 -- `plan::book::read_refusal` meets its contract: one law for each way.
 use borrow.Author.Needs.{needs}
-use Rattle.plan.proofs.Laws.{refused-book, refused-own, refused-range, read-zero, refused-zero, refused-empty, read-set}
+use Rattle.plan.proofs.Laws.{refused-book, refused-copy, refused-range, read-zero, refused-zero, refused-empty, read-set}
 use Rattle.plan.proofs.book.read_refusal.Statement.{statement}
 use Rattle.plan.proofs.book.read_refusal.Tie as tie
 
 returns : tie.Need-returns
-returns c = let a = c .before .before .before .args in refused-book (a .book .now) (a .own .now) (a .plan) (c .if1 .taken)
+returns c = let a = c .before .before .before .args in refused-book (a .book .now) (a .copy .now) (a .plan) (c .if1 .taken)
 
 returns-2 : tie.Need-returns-2
 returns-2 c =
     let d = c .before in
     let a = d .before .before .before .args in
-    refused-own (a .book .now) (a .own .now) (a .plan) (d .if1 .left) (c .if2 .taken)
+    refused-copy (a .book .now) (a .copy .now) (a .plan) (d .if1 .left) (c .if2 .taken)
 
 returns-3 : tie.Need-returns-3
 returns-3 c =
     let d = c .before .before in
     let a = d .before .before .before .args in
-    refused-range (a .book .now) (a .own .now) (a .plan) (d .if1 .left) (c .before .if2 .left) (c .if3 .taken)
+    refused-range (a .book .now) (a .copy .now) (a .plan) (d .if1 .left) (c .before .if2 .left) (c .if3 .taken)
 
 returns-4 : tie.Need-returns-4
 returns-4 c =
     let e = c .before .before .before in
     let d = e .before .before in
     let a = d .before .before .before .args in
-    read-zero (a .book .now) (a .own .now) (a .plan) (d .if1 .left) (e .before .if2 .left) (e .if3 .left) (c .before .before .if4 .taken)
+    read-zero (a .book .now) (a .copy .now) (a .plan) (d .if1 .left) (e .before .if2 .left) (e .if3 .left) (c .before .before .if4 .taken)
     (c .before .is-built-in .ensures)
     (c .if5 .taken)
 
@@ -33,7 +33,7 @@ returns-5 c =
     let e = c .before .before .before in
     let d = e .before .before in
     let a = d .before .before .before .args in
-    refused-zero (a .book .now) (a .own .now) (a .plan) (d .if1 .left) (e .before .if2 .left) (e .if3 .left) (c .before .before .if4 .taken)
+    refused-zero (a .book .now) (a .copy .now) (a .plan) (d .if1 .left) (e .before .if2 .left) (e .if3 .left) (c .before .before .if4 .taken)
     (c .before .is-built-in .ensures)
     (c .if5 .left)
 
@@ -42,7 +42,7 @@ returns-6 c =
     let e = c .before .before .before in
     let d = e .before .before in
     let a = d .before .before .before .args in
-    refused-empty (a .book .now) (a .own .now) (a .plan) (d .if1 .left) (e .before .if2 .left) (e .if3 .left) (c .before .before .if4 .left)
+    refused-empty (a .book .now) (a .copy .now) (a .plan) (d .if1 .left) (e .before .if2 .left) (e .if3 .left) (c .before .before .if4 .left)
     (c .before .standing-of .ensures)
     (c .if6 .taken)
 
@@ -51,7 +51,7 @@ returns-7 c =
     let e = c .before .before .before in
     let d = e .before .before in
     let a = d .before .before .before .args in
-    read-set (a .book .now) (a .own .now) (a .plan) (d .if1 .left) (e .before .if2 .left) (e .if3 .left) (c .before .before .if4 .left)
+    read-set (a .book .now) (a .copy .now) (a .plan) (d .if1 .left) (e .before .if2 .left) (e .if3 .left) (c .before .before .if4 .left)
     (c .before .standing-of .ensures)
     (c .if6 .left)
 

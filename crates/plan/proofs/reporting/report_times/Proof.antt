@@ -1,7 +1,9 @@
--- `plan::reporting::report_times` meets its contract: one law for each way.
+-- `plan::reporting::report_times` meets its contract: octets that do not read as empty hold the times, and one law for each way.
+use Prim.Native.Nat.{_-_}
 use native.Mathlib.Omega.{arith}
 use borrow.Author.Needs.{needs}
-use Rattle.plan.proofs.Reports.{times-short, times-over, times-told}
+use lib.ListN.{drop, length-take}
+use Rattle.plan.proofs.Reports.{times-none, times-in, times-told}
 use Rattle.plan.proofs.reporting.report_times.Statement.{statement}
 use Rattle.plan.proofs.reporting.report_times.Tie as tie
 
@@ -9,21 +11,29 @@ returns : tie.Need-returns
 returns c =
     let d = c .before .before in
     let a = d .before .before .args in
-    times-short (a .rec .now) (a .plan) (d .times-end .ensures) (c .before .if1 .taken) (c .no-message .ensures)
+    times-none (a .rec .now) (a .plan) (d .standing .ensures) (c .before .if1 .taken) (c .no-message .ensures)
+
+part-end : tie.Need-part-reported-end
+part-end c =
+    let t = c .before in
+    let i = t .before .before .before in
+    let a = i .before .before .before .args in
+    omega (arith, times-in (a .rec .now) (a .plan) (i .before .standing .ensures) (i .if1 .left) (t .times-end .ensures))
+
+reported-requires : tie.Need-reported-requires
+reported-requires c κs =
+    let t = c .before .before in
+    let i = t .before .before .before in
+    let a = i .before .before .before .args in
+    omega (arith, length-take (t .times-end .result - 1) (drop 1 (a .rec .now)), times-in (a .rec .now) (a .plan) (i .before .standing .ensures) (i .if1 .left) (t .times-end .ensures))
 
 returns-2 : tie.Need-returns-2
 returns-2 c =
-    let d = c .before .before .before in
-    let a = d .before .before .args in
-    times-over (a .rec .now) (a .plan) (d .times-end .ensures) (c .before .before .if1 .left) (c .before .if2 .taken) (c .no-message2 .ensures)
-
-returns-3 : tie.Need-returns-3
-returns-3 c =
-    let l = c .before .before .before in
-    let h = l .before in
-    let d = h .before .before .before in
-    let a = d .before .before .args in
-    times-told (a .rec .now) (a .plan) (d .times-end .ensures) (h .before .before .if1 .left) (h .before .if2 .left) (h .high .ensures) (l .low .ensures)
+    let t = c .before .before .before in
+    let l = t .before in
+    let i = l .before .before in
+    let a = i .before .before .before .args in
+    times-told (a .rec .now) (a .plan) (i .before .standing .ensures) (i .if1 .left) (t .times-end .ensures) (l .before .high .ensures) (l .low .ensures)
     (c .reported .ensures)
 
 pub report-times-spec : {M : Type 1} → statement M
@@ -34,12 +44,11 @@ report-times-spec =
     (λ c κs. search needs)
     returns
     (λ c κs. search needs)
-    returns-2
     (λ c κs. search needs)
     (λ c κs. search needs)
     (λ c. search needs)
     (λ c. search needs)
     (λ c. search needs)
-    (λ c. search needs)
-    (λ c κs. search needs)
-    returns-3)
+    part-end
+    reported-requires
+    returns-2)

@@ -1,7 +1,7 @@
 -- `plan::setting::front` meets its contract: one law for each way.
 use mathlib.Core.Path.{_∙_}
 use borrow.Author.Needs.{needs}
-use Rattle.plan.proofs.Sets.{front-book, front-read, front-code, front-passes}
+use Rattle.plan.proofs.Sets.{front-book, front-code, front-read}
 use Rattle.plan.proofs.setting.front.Statement.{statement}
 use Rattle.plan.proofs.setting.front.Tie as tie
 
@@ -10,25 +10,16 @@ returns c = let a = c .before .before .before .args in c .answer .ensures ∙ fr
 
 returns-2 : tie.Need-returns-2
 returns-2 c =
-    let d = c .before .before .before in
+    let d = c .before .before in
     let a = d .before .before .before .args in
-    c .answer2 .ensures ∙ front-read (a .len) (a .code) (a .info .now) (d .before .if1 .left) (d .read .ensures) (c .before .if2 .taken)
+    c .answer2 .ensures ∙ front-code (a .len) (a .code) (a .info .now) (d .before .if1 .left) (d .other-code .ensures) (c .before .if2 .taken)
 
 returns-3 : tie.Need-returns-3
 returns-3 c =
-    let w = c .before .before in
-    let d = w .before .before .before in
+    let r = c .before in
+    let d = r .before .before in
     let a = d .before .before .before .args in
-    c .answer3 .ensures
-    ∙ front-code (a .len) (a .code) (a .info .now) (d .before .if1 .left) (d .read .ensures) (w .before .if2 .left) (w .word-at .ensures) (c .before .if3 .taken)
-
-returns-4 : tie.Need-returns-4
-returns-4 c =
-    let w = c .before .before in
-    let d = w .before .before .before in
-    let a = d .before .before .before .args in
-    c .answer4 .ensures
-    ∙ front-passes (a .len) (a .code) (a .info .now) (d .before .if1 .left) (d .read .ensures) (w .before .if2 .left) (w .word-at .ensures) (c .before .if3 .left)
+    c .answer3 .ensures ∙ front-read (a .len) (a .code) (a .info .now) (d .before .if1 .left) (d .other-code .ensures) (r .before .if2 .left) (r .read .ensures)
 
 pub front-spec : {M : Type 1} → statement M
 front-spec =
@@ -41,6 +32,4 @@ front-spec =
     returns-2
     (λ c κs. search needs)
     (λ c κs. search needs)
-    returns-3
-    (λ c κs. search needs)
-    returns-4)
+    returns-3)
