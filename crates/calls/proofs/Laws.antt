@@ -203,7 +203,7 @@ module _ (u : Running) (requested : ℕ) (book info : List ℕ) {code : ℕ} (ec
   handles-query-running e eh = rw e (record { handled = eh ∙ rw (ec ∙ e); book = refl })
 
   pub handles-other : (codeIn info ≡ setTimesCode → ⊥) → (codeIn info ≡ setPlanCode → ⊥) → (codeIn info ≡ runCode → ⊥) → (codeIn info ≡ queryTimesCode → ⊥)
-      → (codeIn info ≡ queryPlanCode → ⊥) → (codeIn info ≡ queryRunningCode → ⊥) → h ≡ refusedAs code requested refusal.codeUnknown 0
+      → (codeIn info ≡ queryPlanCode → ⊥) → (codeIn info ≡ queryRunningCode → ⊥) → h ≡ refusedAs code requested refusal.codeNotHandled 0
       → Handles (handlingOf u requested book info) h book
   unfolding handlingOf
   handles-other n1 n2 n3 n4 n5 n6 eh =

@@ -45,7 +45,7 @@ pub(crate) fn carry_out(u: Running, requested: u8, book: &mut [u8], info: &[u8])
 {
     let code = octets::word(info[0], info[1]);
     if info[0] != CODE_HIGH {
-        return refused(code, requested, refusal::CODE_UNKNOWN, 0);
+        return refused(code, requested, refusal::CODE_NOT_HANDLED, 0);
     }
     let second = info[1];
     match second {
@@ -55,7 +55,7 @@ pub(crate) fn carry_out(u: Running, requested: u8, book: &mut [u8], info: &[u8])
         QUERY_TIMES => query_times(code, requested, book, info),
         QUERY_PLAN => query_plan(code, requested, book, info),
         QUERY_RUNNING => query_running(code, requested, u, info),
-        _ => refused(code, requested, refusal::CODE_UNKNOWN, 0),
+        _ => refused(code, requested, refusal::CODE_NOT_HANDLED, 0),
     }
 }
 

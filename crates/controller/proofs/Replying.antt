@@ -107,7 +107,7 @@ pub handling-by : (P : Handling → Type 0) (u : Running) (requested : ℕ) (boo
     → P (sets (codeIn info) requested (setTimesOf book info)) → P (sets (codeIn info) requested (setPlanOf book info))
     → P (reads (runAs (codeIn info) requested book info) book) → P (reads (queryTimesAs (codeIn info) requested book info) book)
     → P (reads (queryPlanAs (codeIn info) requested book info) book) → P (reads (queryRunningAs (codeIn info) requested u info) book)
-    → P (reads (refusedAs (codeIn info) requested refusal.codeUnknown 0) book) → P (handlingOf u requested book info)
+    → P (reads (refusedAs (codeIn info) requested refusal.codeNotHandled 0) book) → P (handlingOf u requested book info)
 unfolding handlingOf
 handling-by P u requested book info =
     let code = codeIn info in
@@ -166,7 +166,7 @@ module _ (u : Running) (requested : ℕ) (book info : List ℕ) (r : standingOf 
       (by-query-times P code requested book info hb c f w)
       (by-query-plan P code requested book info hb c f w)
       (by-query-running P code requested book info hb c f w u r hp)
-      (f refusal.codeUnknown 0)
+      (f refusal.codeNotHandled 0)
 
   -- its INFO fits a frame, whatever it names
   pub reply-fits : length (infoOf (handlingOf u requested book info .handled .reply)) ≤ infoMost

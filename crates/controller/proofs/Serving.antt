@@ -344,7 +344,7 @@ module _ (u : Running) (requested : ℕ) (book info : List ℕ) where
   at-unread (inr (inr (inr e))) n = rw (e, ne-eqb (readOf info .refusal) refusal.none n)
 
   at-unknown : (c ≡ setTimesCode → ⊥) → (c ≡ setPlanCode → ⊥) → (c ≡ runCode → ⊥) → (c ≡ queryTimesCode → ⊥) → (c ≡ queryPlanCode → ⊥) → (c ≡ queryRunningCode → ⊥)
-      → H ≡ declined refusal.codeUnknown 0 book
+      → H ≡ declined refusal.codeNotHandled 0 book
   unfolding handlingOf
   at-unknown a b d e f g =
       rw (ne-eqb c setTimesCode a, ne-eqb c setPlanCode b, ne-eqb c runCode d, ne-eqb c queryTimesCode e, ne-eqb c queryPlanCode f, ne-eqb c queryRunningCode g)

@@ -54,7 +54,7 @@ pub data OctetRefused (s : State) (book out : List ℕ) : ℕ → Type 0 where
 
 -- a number that a done call may name: none, a refused frame's, a refused message's
 abbrev pub InDone : ℕ → Type 0
-InDone n = (n ≤ refusal.lenWrong) ⊎ ((refusal.codeUnknown ≤ n) × (n ≤ refusal.disagree))
+InDone n = (n ≤ refusal.lenWrong) ⊎ ((refusal.codeNotHandled ≤ n) × (n ≤ refusal.disagree))
 
 pub record OctetAnswered (s : State) (book out : List ℕ) (b : ℕ) : Type 0 where
   -- "same state, nothing written"; "Other numbers in a refused call's result are 0"

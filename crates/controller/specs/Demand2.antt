@@ -172,7 +172,7 @@ pub record HandledSo (s : State) (seq addr : ℕ) (book info : List ℕ) (w : Ca
       → Reported s seq addr book (planInfo (s .running .copy) (s .running .plan) reportRunningCode) w
   -- "code not handled": 10, parameter 0; "a report sent to it is refusal 10"
   pub unknown : (codeIn info ≡ setTimesCode → ⊥) → (codeIn info ≡ setPlanCode → ⊥) → (codeIn info ≡ runCode → ⊥) → (codeIn info ≡ queryTimesCode → ⊥)
-      → (codeIn info ≡ queryPlanCode → ⊥) → (codeIn info ≡ queryRunningCode → ⊥) → Refused s seq addr refusal.codeUnknown 0 book info w
+      → (codeIn info ≡ queryPlanCode → ⊥) → (codeIn info ≡ queryRunningCode → ⊥) → Refused s seq addr refusal.codeNotHandled 0 book info w
 
 abbrev pub Handles : Type 0
 Handles =

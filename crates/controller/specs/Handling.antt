@@ -116,4 +116,4 @@ handlingOf u requested book info =
     (pick (eqb code queryTimesCode) (reads (queryTimesAs code requested book info) book)
     (pick (eqb code queryPlanCode) (reads (queryPlanAs code requested book info) book)
     (pick (eqb code queryRunningCode) (reads (queryRunningAs code requested u info) book)
-    (reads (refusedAs code requested refusal.codeUnknown 0) book))))))
+    (reads (refusedAs code requested refusal.codeNotHandled 0) book))))))

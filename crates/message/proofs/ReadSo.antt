@@ -58,12 +58,12 @@ module _ (l k : ℕ) (os : List ℕ) where
   parts-when : {r : Read} → PartJudged l k os r → r ≡ readPartOf l k os
   parts-when (unknown n) = by (known l) refl
     where
-      by : (b : Bool) → known l ≡ b → refusedAs refusal.codeUnknown 0 ≡ readPartOf l k os
+      by : (b : Bool) → known l ≡ b → refusedAs refusal.codeNotHandled 0 ≡ readPartOf l k os
       by true e = absurd (n (known-in l e))
       by false e = part-10 l k os e
   parts-when (wrongLength kn n) = by (kFits (layoutAt l) k) refl (ℕ-discrete (length os) (sizeOf fs))
     where
-      by : (b : Bool) → kFits (layoutAt l) k ≡ b → Dec (length os ≡ sizeOf fs) → refusedAs refusal.lengthWrong 0 ≡ readPartOf l k os
+      by : (b : Bool) → kFits (layoutAt l) k ≡ b → Dec (length os ≡ sizeOf fs) → refusedAs refusal.infoLengthWrong 0 ≡ readPartOf l k os
       by false e d = part-k l k os (in-known l kn) e
       by true e (no g) = part-length l k os (in-known l kn) e g
       by true e (yes p) = absurd (n (right e p))

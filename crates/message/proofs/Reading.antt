@@ -50,17 +50,17 @@ module _ (l k : ℕ) (os vs : List ℕ) (field : ℕ) (ev : vs ≡ placed (value
   ranged-done h ec en = rw (← ev, ← ef, eq-eqb field 0 h, ec, en)
 
 module _ (l k : ℕ) (os : List ℕ) where
-  pub part-10 : known l ≡ false → refusedAs refusal.codeUnknown 0 ≡ readPartOf l k os
+  pub part-10 : known l ≡ false → refusedAs refusal.codeNotHandled 0 ≡ readPartOf l k os
   unfolding readPartOf
   part-10 h = rw h
 
   module _ (h : known l ≡ true) where
-    pub part-k : kFits (layoutAt l) k ≡ false → refusedAs refusal.lengthWrong 0 ≡ readPartOf l k os
+    pub part-k : kFits (layoutAt l) k ≡ false → refusedAs refusal.infoLengthWrong 0 ≡ readPartOf l k os
     unfolding readPartOf
     part-k f = rw (h, f)
 
     module _ (f : kFits (layoutAt l) k ≡ true) where
-      pub part-length : (length os ≡ sizeOf (rowsAt l k) → ⊥) → refusedAs refusal.lengthWrong 0 ≡ readPartOf l k os
+      pub part-length : (length os ≡ sizeOf (rowsAt l k) → ⊥) → refusedAs refusal.infoLengthWrong 0 ≡ readPartOf l k os
       unfolding readPartOf
       part-length n = rw (h, f, ne-eqb (length os) (sizeOf (rowsAt l k)) n)
 
@@ -69,7 +69,7 @@ module _ (l k : ℕ) (os : List ℕ) where
       part-done e = rw (h, f, eq-eqb (length os) (sizeOf (rowsAt l k)) e)
 
 module _ (info : List ℕ) where
-  pub read-11 : length info < codeLen → refusedAs refusal.lengthWrong 0 ≡ readOf info
+  pub read-11 : length info < codeLen → refusedAs refusal.infoLengthWrong 0 ≡ readOf info
   unfolding readOf
   read-11 h = rw (lt-ltb (length info) codeLen h)
 

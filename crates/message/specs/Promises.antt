@@ -159,9 +159,9 @@ pub record RightLength (l k : ℕ) (os : List ℕ) : Type 0 where
 -- What reading the octets by a layout comes to, and why
 pub data PartJudged (l k : ℕ) (os : List ℕ) : Read → Type 0 where
   -- "code not handled"
-  unknown : (Known l → ⊥) → PartJudged l k os (refusedAs refusal.codeUnknown 0)
+  unknown : (Known l → ⊥) → PartJudged l k os (refusedAs refusal.codeNotHandled 0)
   -- "INFO length wrong for its code"; "k is 1 to 8 and fixes the length, so k = 0 or 9 is refusal 11"
-  wrongLength : Known l → (RightLength l k os → ⊥) → PartJudged l k os (refusedAs refusal.lengthWrong 0)
+  wrongLength : Known l → (RightLength l k os → ⊥) → PartJudged l k os (refusedAs refusal.infoLengthWrong 0)
   -- "field out of range", "first such field"
   outOfRange : (n : ℕ) → Known l → RightLength l k os → FirstWrong (rowsAt l k) (valuesOf (rowsAt l k) os) n
       → PartJudged l k os (refusedAs refusal.outOfRange n)
@@ -170,7 +170,7 @@ pub data PartJudged (l k : ℕ) (os : List ℕ) : Read → Type 0 where
 
 -- What reading INFO comes to: "10, 11 (so for under two octets) or 12"
 pub data Judged (info : List ℕ) : Read → Type 0 where
-  short : length info < codeLen → Judged info (refusedAs refusal.lengthWrong 0)
+  short : length info < codeLen → Judged info (refusedAs refusal.infoLengthWrong 0)
   body : {r : Read} → codeLen ≤ length info
       → PartJudged (numberOf (codeIn info)) (kIn (layoutAt (numberOf (codeIn info))) (bodyIn info)) (bodyIn info) r
       → Judged info r

@@ -43,8 +43,8 @@ unfoldable pub readPartOf : ℕ → ℕ → List ℕ → Read
 readPartOf l k os =
     pick (known l)
     (pick (both (kFits (layoutAt l) k) (eqb (length os) (sizeOf (rowsAt l k)))) (rangedOf l k os)
-    (refusedAs refusal.lengthWrong 0))
-    (refusedAs refusal.codeUnknown 0)
+    (refusedAs refusal.infoLengthWrong 0))
+    (refusedAs refusal.codeNotHandled 0)
 
 -- the code, high octet first, and "the octets after the two of the code"
 abbrev pub codeIn : List ℕ → ℕ
@@ -56,5 +56,5 @@ bodyIn info = drop codeLen info
 unfoldable pub readOf : List ℕ → Read
 readOf info =
     let l = numberOf (codeIn info) in
-    pick (ltb (length info) codeLen) (refusedAs refusal.lengthWrong 0)
+    pick (ltb (length info) codeLen) (refusedAs refusal.infoLengthWrong 0)
     (readPartOf l (kIn (layoutAt l) (bodyIn info)) (bodyIn info))

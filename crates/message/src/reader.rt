@@ -16,7 +16,7 @@ pub fn read(info: &[u8]) -> Read
     ensures { λ r. ⌜ r ≡ readOf (now (info .entry)) ⌝ }
 {
     if info.len() < octets::CODE_LEN {
-        return refused(refusal::LENGTH_WRONG, 0);
+        return refused(refusal::INFO_LENGTH_WRONG, 0);
     }
     let l = layout::find(info::value_at(info, 0, true));
     let body = octets::body(info);
@@ -29,13 +29,13 @@ fn read_part(l: usize, k: usize, part: &[u8]) -> Read
     ensures { λ r. ⌜ r ≡ readPartOf l k (now (part .entry)) ⌝ }
 {
     if !layout::known(l) {
-        return refused(refusal::CODE_UNKNOWN, 0);
+        return refused(refusal::CODE_NOT_HANDLED, 0);
     }
     if !layout::k_fits(l, k) {
-        return refused(refusal::LENGTH_WRONG, 0);
+        return refused(refusal::INFO_LENGTH_WRONG, 0);
     }
     if part.len() != layout::size(l, k) {
-        return refused(refusal::LENGTH_WRONG, 0);
+        return refused(refusal::INFO_LENGTH_WRONG, 0);
     }
     ranged(l, k, part)
 }

@@ -1,25 +1,25 @@
 -- What follows from the definitions of specs/, for every crate above.
-use Prim.Native.Nat.{ℕ, zero, suc, _+_, _*_, _-_, _/_, _%_, min, _≤_, _<_}
+use Prim.Native.Nat.{ℕ, zero, suc, _+_, _*_, _-_, _/_, _%_, _≤_, _<_}
 use mathlib.Core.Path.{_≡_, refl, sym, ap, subst, _∙_}
 use mathlib.Core.Bool.{Bool, true, false, not}
-use mathlib.Core.List.{List, [], _∷_, _++_, append-assoc}
+use mathlib.Core.List.{List, [], _∷_, _++_}
 use native.Mathlib.Decide.{decLe, decLt}
 use native.Mathlib.Nat.{add-zero, add-suc, suc-add}
 use native.Mathlib.Numerals.{add-one}
 use native.Mathlib.Omega.{arith}
-use borrow.Author.Tests.{leb-true, le-leb, lt-leb}
+use borrow.Author.Tests.{le-leb, lt-leb}
 use lib.Bits.{xor-self, xor-lt}
 use lib.Dec.{T, leb}
 use lib.ListN.{length, set, take, drop, getD, length-append, length-drop, drop-of-length-le}
-use lib.Seq.{sets, sets-eq, drop-cons, drop-length, getD-append-add, length-sets, take-all}
+use lib.Seq.{sets, drop-cons, drop-length, getD-append-add, length-sets, take-all}
 use Rattle.octets.specs.Choice.{pick, both}
 use Rattle.octets.specs.Octet.{Octets}
 use Rattle.octets.specs.Word.{highOf, lowOf, wordOf}
 use Rattle.octets.specs.ExclusiveOr.{xor, exclusiveOr}
 use Rattle.octets.specs.Put.{Stored, Put}
 use Rattle.octets.specs.Refusal.{outputShort}
-use Rattle.octets.specs.Writing.{Wrote, Leaves, refusedAs, writtenAs}
-use Rattle.octets.specs.First.{First, firstOf}
+use Rattle.octets.specs.Writing.{Wrote, refusedAs, writtenAs}
+use Rattle.octets.specs.First.{First}
 
 -- Choice
 
@@ -151,13 +151,6 @@ module _ (vs out : List ℕ) (at : ℕ) where
   unfolding writtenAs
   written-done e p =
       rw (le-leb (at + length vs) (length out) (omega (arith, p .place, p .fits))) (record { answer = ap (λ (k : ℕ). record { refusal = 0; count = k }) e; out = p .holds })
-
-pub written-leaves : (vs out : List ℕ) (at : ℕ) → Leaves vs at out (writtenAs vs at out)
-unfolding writtenAs
-written-leaves vs out at =
-    pick-by (Leaves vs at out) (leb (at + length vs) (length out))
-    (λ t. record { refused = λ p. absurd (p refl); stored = λ _. (sets-eq vs out at (leb-true (at + length vs) (length out) t) ∙ append-assoc (take at out) vs (drop (at + length vs) out), refl) })
-    (λ _. record { refused = λ _. (refl, refl); stored = λ p. absurd (omega arith) })
 
 -- First
 

@@ -41,12 +41,12 @@ abbrev pub outputShort : ℕ
 outputShort = 9
 
 -- "code not handled"
-abbrev pub codeUnknown : ℕ
-codeUnknown = 10
+abbrev pub codeNotHandled : ℕ
+codeNotHandled = 10
 
 -- "INFO length wrong for its code"
-abbrev pub lengthWrong : ℕ
-lengthWrong = 11
+abbrev pub infoLengthWrong : ℕ
+infoLengthWrong = 11
 
 -- "field out of range"
 abbrev pub outOfRange : ℕ

@@ -22,9 +22,9 @@ pub const BOOK_WRONG: u8 = 8;
 pub const OUTPUT_SHORT: u8 = 9;
 
 // Of a message, inside a call that is itself done.
-pub const CODE_UNKNOWN: u8 = 10;
+pub const CODE_NOT_HANDLED: u8 = 10;
 
-pub const LENGTH_WRONG: u8 = 11;
+pub const INFO_LENGTH_WRONG: u8 = 11;
 
 pub const OUT_OF_RANGE: u8 = 12;
 

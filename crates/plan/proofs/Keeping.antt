@@ -28,7 +28,7 @@ module _ (code : ℕ) (m : Made) (book info : List ℕ) where
   unfolding setOf
   set-is {a} e n = rw (← e, ne-eqb (a .refusal) refusal.none n)
 
-  short : length info < codeLen → answered refusal.lengthWrong 0 ≡ answered (readOf info .refusal) (readOf info .field)
+  short : length info < codeLen → answered refusal.infoLengthWrong 0 ≡ answered (readOf info .refusal) (readOf info .field)
   unfolding refusedAs
   short l = ap (λ (r : Read). answered (r .refusal) (r .field)) (read-11 info l)
 

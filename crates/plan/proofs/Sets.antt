@@ -41,7 +41,7 @@ module _ (n code : ℕ) (info : List ℕ) where
   front-book h = rw (ne-eqb n bookLen h)
 
   module _ (hb : n ≡ bookLen) {t : Bool} (et : t ≡ otherCode code info) where
-    pub front-code : t ≡ true → answered refusal.codeUnknown 0 ≡ frontOf n code info
+    pub front-code : t ≡ true → answered refusal.codeNotHandled 0 ≡ frontOf n code info
     unfolding frontOf
     front-code h = rw (eq-eqb n bookLen hb, ← et, h)
 

@@ -143,8 +143,8 @@ pub record Holds15 (old body rec : List ℕ) : Type 0 where
 -- "plan book is not 3,840 octets"; then "code not handled", of a message of another code, and 11 "for under two octets": the book stays
 pub record SetRefused (code : ℕ) (book info : List ℕ) (w : Setting) : Type 0 where
   pub wrongBook : (length book ≡ bookLen → ⊥) → w ≡ record { answer = answered refusal.bookWrong 0; book = book }
-  pub otherCode : length book ≡ bookLen → codeLen ≤ length info → (codeIn info ≡ code → ⊥) → w ≡ record { answer = answered refusal.codeUnknown 0; book = book }
-  pub noCode : length book ≡ bookLen → length info < codeLen → w ≡ record { answer = answered refusal.lengthWrong 0; book = book }
+  pub otherCode : length book ≡ bookLen → codeLen ≤ length info → (codeIn info ≡ code → ⊥) → w ≡ record { answer = answered refusal.codeNotHandled 0; book = book }
+  pub noCode : length book ≡ bookLen → length info < codeLen → w ≡ record { answer = answered refusal.infoLengthWrong 0; book = book }
 
 abbrev pub SetsRefuse : Type 0
 SetsRefuse = (book info : List ℕ) → SetRefused setTimesCode book info (setTimesOf book info) × SetRefused setPlanCode book info (setPlanOf book info)

@@ -114,7 +114,7 @@ otherCode code info = both (leb codeLen (length info)) (not (eqb (codeIn info) c
 unfoldable pub frontOf : ℕ → ℕ → List ℕ → Answered
 frontOf n code info =
     pick (not (eqb n bookLen)) (answered refusal.bookWrong 0)
-    (pick (otherCode code info) (answered refusal.codeUnknown 0)
+    (pick (otherCode code info) (answered refusal.codeNotHandled 0)
     (answered (readOf info .refusal) (readOf info .field)))
 
 -- then the agreement

@@ -85,7 +85,7 @@ fn front(len: usize, info: &[u8], code: u16) -> Answered
         return answer(refusal::BOOK_WRONG, 0);
     }
     if other_code(info, code) {
-        return answer(refusal::CODE_UNKNOWN, 0);
+        return answer(refusal::CODE_NOT_HANDLED, 0);
     }
     let r = message::reader::read(info);
     answer(r.refusal, r.field)
