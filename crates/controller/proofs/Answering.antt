@@ -33,7 +33,7 @@ use Rattle.plan.specs.declared.setting.Answered.{Answered}
 use Rattle.record.specs.Record.{bookLen, empty, kOf}
 use Rattle.checks.specs.Standing.{timesDisagree, planDisagree, standingOf, Stands}
 use Rattle.plan.specs.Reading.{recordAt}
-use Rattle.plan.specs.Setting.{Setting, setTimesCode, setPlanCode, planIn, countIn, notMade, readyRecord, timesMade, readyMade, keptAs, frontOf, setOf, setTimesOf, setPlanOf}
+use Rattle.plan.specs.Setting.{Setting, setTimesCode, setPlanCode, planIn, countIn, notMade, readyRecord, timesMade, readyMade, keptAs, otherCode, frontOf, setOf, setTimesOf, setPlanOf}
 use Rattle.checks.proofs.Stands.{stands-as-it-is}
 use Rattle.controller.specs.declared.Running.{Running}
 use Rattle.controller.specs.declared.State.{State}
@@ -135,9 +135,7 @@ module _ (code : ℕ) (m : _) (book info : List ℕ) {w : Setting} (e : w ≡ se
       (pick-by (λ (w : Setting). InDone (w .answer .refusal)) (eqb (frontOf (length book) code info .refusal) refusal.none)
       (λ _. pick-by (λ (w : Setting). InDone (w .answer .refusal)) (eqb (m .refusal) refusal.none) (λ _. inl (omega arith)) (λ _. h))
       (λ _. rw (eq-eqb (length book) bookLen hb)
-      (pick-by (λ (a : Answered). InDone (a .refusal)) (eqb (readOf info .refusal) refusal.none)
-      (λ _. pick-by (λ (a : Answered). InDone (a .refusal)) (eqb (codeIn info) code) (λ _. inl (omega arith)) (λ _. inr (omega arith, omega arith)))
-      (λ _. read-in-done info))))
+      (pick-by (λ (a : Answered). InDone (a .refusal)) (otherCode code info) (λ _. inr (omega arith, omega arith)) (λ _. read-in-done info))))
 
   set-refused-leaves : (w .answer .refusal ≡ refusal.none → ⊥) → w .book ≡ book
   unfolding setOf keptAs
