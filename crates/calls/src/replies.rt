@@ -16,6 +16,8 @@ ghost use Rattle.controller.specs.Replies.{Did, sent, errOf, naks, acks, forUs,
 ghost use Rattle.calls.specs.Handling.{Sendable};
 ghost use Rattle.calls.specs.Replies.{Tells, Brings, unchangedAs};
 use crate::handling;
+use codec::decoder;
+use codec::writer;
 use controller::ALL;
 use controller::Answer;
 use controller::Event;
@@ -24,9 +26,7 @@ use controller::Running;
 use controller::State;
 use frame::INFO_MOST;
 use frame::Kind;
-use frame::decoder;
 use frame::decoder::Found;
-use frame::writer;
 use message::Message;
 use octets::refusal;
 

@@ -2,10 +2,10 @@
 // running plan over 48, failing the checks, or numbered 0 and unlike the built-in, impossible decoder place)".
 ghost use mathlib.Core.Path.{_≡_};
 ghost use Rattle.controller.specs.State.{runningSound, soundOf};
+use codec::decoder;
 use controller::ALL;
 use controller::Running;
 use controller::State;
-use frame::decoder;
 use plan::book;
 use record::PLANS_MOST;
 

@@ -2,10 +2,10 @@
 ghost use Prim.Native.Nat.{_≤_};
 use crate::say;
 use crate::script;
+use codec::writer;
 use controller::Event;
 use controller::OUTPUT_LEN;
 use controller::State;
-use frame::writer;
 use lamps::Row;
 use octets::refusal;
 use record::BOOK_LEN;

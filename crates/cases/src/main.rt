@@ -28,9 +28,9 @@ mod say;
 mod script;
 mod writing;
 
+use codec::decoder;
 use control::Post;
 use frame::Kind;
-use frame::decoder;
 use frame::decoder::Decoder;
 use libc::STDIN_FILENO;
 use record::BOOK_LEN;

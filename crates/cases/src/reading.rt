@@ -1,8 +1,8 @@
 // Octets read aloud: what each brings, where it brings something, and where the decoder then is.
 use crate::say;
 use crate::script;
+use codec::decoder;
 use frame::Kind;
-use frame::decoder;
 use frame::decoder::Decoder;
 use frame::decoder::Found;
 use frame::decoder::Head;

@@ -1,64 +1,13 @@
-// 01, "Frames": the three kinds of frame, read octet by octet and written whole.
+// 01, "Frames": the three kinds of frame, and the decoder. There is nothing to run: what an octet does to the decoder and what a
+// writer stores is defined in specs/, and what 01 asks of them is proved in proofs/. The functions that are proved to do so
+// are the crate `codec`.
 pub mod decoder;
-pub mod writer;
 
-ghost use mathlib.Core.Path.{_≡_};
-ghost use Rattle.frame.specs.Frame.{opener, front};
-
-// The octets that 01 names by their value: AA marks, and the one after it says what it marks.
-pub const AA: u8 = 0xaa;
-
-pub const BB: u8 = 0xbb;
-
-pub const CC: u8 = 0xcc;
-
-pub const DD: u8 = 0xdd;
-
-pub const EE: u8 = 0xee;
-
-// INFO of a message frame, least and most.
-pub const INFO_LEAST: usize = 2;
-
+// INFO of a message frame, at most.
 pub const INFO_MOST: usize = 256;
-
-// LEN: of a message frame without its INFO, of an ACK and of a NAK.
-pub const MESSAGE_LEN: u16 = 10;
-
-pub const ACK_LEN: u16 = 8;
-
-pub const NAK_LEN: u16 = 9;
-
-// The octets from the first AA to LEN.
-pub const FRONT_LEN: usize = 7;
 
 pub enum Kind {
     Message,
     Ack,
     Nak,
-}
-
-// The octet after the first AA.
-pub(crate) fn opener(k: Kind) -> u8
-    ensures { λ r. ⌜ r ≡ opener k ⌝ }
-{
-    match k {
-        Kind::Message => BB,
-        Kind::Ack => DD,
-        Kind::Nak => EE,
-    }
-}
-
-// The octets from the first AA to LEN, which no kind doubles.
-pub(crate) fn front(k: Kind, seq: u8, addr: u16, len: u16) -> [u8; FRONT_LEN]
-    ensures { λ r. ⌜ r ≡ front k seq addr len ⌝ }
-{
-    [
-        AA,
-        opener(k),
-        seq,
-        octets::high(addr),
-        octets::low(addr),
-        octets::high(len),
-        octets::low(len),
-    ]
 }

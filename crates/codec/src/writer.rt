@@ -1,0 +1,127 @@
+// 01, "Frames": the frames that we write, straight into the output from `at` on.
+ghost use mathlib.Core.Path.{_≡_};
+ghost use mathlib.Core.List.{_++_};
+ghost use Prim.Native.Nat.{_+_, _≤_};
+ghost use lib.Dec.{leb};
+ghost use lib.ListN.{length};
+ghost use Rattle.octets.specs.Choice.{both};
+ghost use Rattle.octets.specs.Put.{Stored};
+ghost use Rattle.frame.specs.Frame.{message, ack, nak, twice, doubled, infoLeast, infoMost};
+ghost use Rattle.octets.specs.Writing.{Wrote, writtenAs};
+ghost use Rattle.frame.specs.Writer.{writeOf};
+use crate::AA;
+use crate::ACK_LEN;
+use crate::CC;
+use crate::INFO_LEAST;
+use crate::MESSAGE_LEN;
+use crate::NAK_LEN;
+use frame::INFO_MOST;
+use frame::Kind;
+use octets::Written;
+use octets::refusal;
+
+// A message frame. INFO that is not 2 to 256 long is refused before the output is looked at.
+pub fn write_message(seq: u8, addr: u16, info: &[u8], out: &mut [u8], at: usize) -> Written
+    ensures { λ r. ⌜ Wrote (writeOf (message seq addr (now (info .entry))) at (now (out .entry))) r (now (out .exit)) ⌝ }
+{
+    if !info_fits(info.len()) {
+        return Written {
+            refusal: refusal::INFO_WRONG,
+            count: 0,
+        };
+    }
+    let f = crate::front(Kind::Message, seq, addr, MESSAGE_LEN + info.len() as u16);
+    let x = octets::exclusive_or(octets::exclusive_or(0, &f), info);
+    let e = [AA, CC, octets::exclusive_or(x, &[AA, CC])];
+    write_parts(&f, info, &e, out, at)
+}
+
+pub fn write_ack(seq: u8, addr: u16, out: &mut [u8], at: usize) -> Written
+    ensures { λ r. ⌜ Wrote (writeOf (ack seq addr) at (now (out .entry))) r (now (out .exit)) ⌝ }
+{
+    let f = crate::front(Kind::Ack, seq, addr, ACK_LEN);
+    let e = [octets::exclusive_or(0, &f)];
+    write_parts(&f, &[0u8; 0], &e, out, at)
+}
+
+pub fn write_nak(seq: u8, addr: u16, err: u8, out: &mut [u8], at: usize) -> Written
+    ensures { λ r. ⌜ Wrote (writeOf (nak seq addr err) at (now (out .entry))) r (now (out .exit)) ⌝ }
+{
+    let f = crate::front(Kind::Nak, seq, addr, NAK_LEN);
+    let e = [
+        err,
+        octets::exclusive_or(octets::exclusive_or(0, &f), &[err]),
+    ];
+    write_parts(&f, &[0u8; 0], &e, out, at)
+}
+
+// "n from 2 to 256"
+fn info_fits(n: usize) -> bool
+    ensures { λ r. ⌜ r ≡ both (leb infoLeast n) (leb n infoMost) ⌝ }
+{
+    INFO_LEAST <= n && n <= INFO_MOST
+}
+
+// The front of a frame, its INFO with each AA twice, and its end, where there is room for all of it.
+fn write_parts(front: &[u8], info: &[u8], end: &[u8], out: &mut [u8], at: usize) -> Written
+    requires { ⌜ (length (now front) ≤ infoMost) × (length (now info) ≤ infoMost) × (length (now end) ≤ infoMost) ⌝ }
+    ensures { λ r. ⌜ Wrote (writtenAs (now (front .entry) ++ (doubled (now (info .entry)) ++ now (end .entry))) at (now (out .entry))) r (now (out .exit)) ⌝ }
+{
+    let n = front.len() + doubled_len(info) + end.len();
+    if !octets::room(out.len(), at, n) {
+        return Written {
+            refusal: refusal::OUTPUT_SHORT,
+            count: 0,
+        };
+    }
+    let p = octets::put(front, &mut *out, at);
+    let q = put_doubled(info, &mut *out, p);
+    octets::put(end, &mut *out, q);
+    Written {
+        refusal: refusal::NONE,
+        count: n,
+    }
+}
+
+// How many octets INFO is as sent.
+fn doubled_len(info: &[u8]) -> usize
+    requires { ⌜ length (now info) ≤ infoMost ⌝ }
+    ensures { λ r. ⌜ (r ≡ length (doubled (now (info .entry)))) × (r ≤ infoMost + infoMost) ⌝ }
+{
+    let mut n: usize = 0;
+    for i in 0..info.len() {
+        n += twice_len(info[i]);
+    }
+    n
+}
+
+fn twice_len(b: u8) -> usize
+    ensures { λ r. ⌜ (r ≡ length (twice b)) × (r ≤ 2) ⌝ }
+{
+    if b == AA { 2 } else { 1 }
+}
+
+// INFO as sent.
+fn put_doubled(info: &[u8], out: &mut [u8], at: usize) -> usize
+    requires { ⌜ at + length (doubled (now info)) ≤ length (now out) ⌝ }
+    ensures { λ r. ⌜ Stored (doubled (now (info .entry))) at (now (out .entry)) r (now (out .exit)) ⌝ }
+{
+    let mut p = at;
+    for i in 0..info.len() {
+        let b = info[i];
+        p = put_twice(b, &mut *out, p);
+    }
+    p
+}
+
+// "Only an AA within INFO is sent twice"
+fn put_twice(b: u8, out: &mut [u8], at: usize) -> usize
+    requires { ⌜ at + length (twice b) ≤ length (now out) ⌝ }
+    ensures { λ r. ⌜ Stored (twice b) at (now (out .entry)) r (now (out .exit)) ⌝ }
+{
+    if b == AA {
+        octets::put(&[AA, AA], out, at)
+    } else {
+        octets::put(&[b], out, at)
+    }
+}
