@@ -56,32 +56,32 @@ module _ (s : State) (book out : List ℕ) (b : ℕ) where
 
 -- The record of a plan
 
-module _ (book own r : RefT (List ℕ)) (p : ℕ) (f : PartRead book own p r) where
+module _ (book copy r : RefT (List ℕ)) (p : ℕ) (f : PartRead book copy p r) where
   abbrev refusalIs : ℕ
-  refusalIs = readRefusal (now book) (now own) p
+  refusalIs = readRefusal (now book) (now copy) p
 
   abbrev partIf : Bool → Type 0
-  partIf t = pick t (pick (eqb p 0) (PartOf own 0 recordLen r) (PartOf book (startOf p) recordLen r)) (PartOf own 0 0 r)
+  partIf t = pick t (pick (eqb p 0) (PartOf copy 0 recordLen r) (PartOf book (startOf p) recordLen r)) (PartOf copy 0 0 r)
 
   read-none : (refusalIs ≡ refusal.none → ⊥) → now r ≡ []
   read-none n = let q : partIf false = subst partIf (ne-eqb refusalIs refusal.none n) f in q .octets
 
-  read-built-in : refusalIs ≡ refusal.none → p ≡ 0 → now r ≡ take recordLen (now own)
+  read-built-in : refusalIs ≡ refusal.none → p ≡ 0 → now r ≡ take recordLen (now copy)
   read-built-in e z =
       let q : partIf true = subst partIf (eq-eqb refusalIs refusal.none e) f in
-      let q′ : PartOf own 0 recordLen r = subst (λ (t : Bool). pick t (PartOf own 0 recordLen r) (PartOf book (startOf p) recordLen r)) (eq-eqb p 0 z) q in
+      let q′ : PartOf copy 0 recordLen r = subst (λ (t : Bool). pick t (PartOf copy 0 recordLen r) (PartOf book (startOf p) recordLen r)) (eq-eqb p 0 z) q in
       q′ .octets
 
   read-book : refusalIs ≡ refusal.none → (p ≡ 0 → ⊥) → now r ≡ recordAt (now book) p
   read-book e n =
       let q : partIf true = subst partIf (eq-eqb refusalIs refusal.none e) f in
-      let q′ : PartOf book (startOf p) recordLen r = subst (λ (t : Bool). pick t (PartOf own 0 recordLen r) (PartOf book (startOf p) recordLen r)) (ne-eqb p 0 n) q in
+      let q′ : PartOf book (startOf p) recordLen r = subst (λ (t : Bool). pick t (PartOf copy 0 recordLen r) (PartOf book (startOf p) recordLen r)) (ne-eqb p 0 n) q in
       q′ .octets
 
-  pub record-of : length (now book) ≡ bookLen → now own ≡ builtIn → RecordOf (now book) p (now r)
+  pub record-of : length (now book) ≡ bookLen → now copy ≡ builtIn → RecordOf (now book) p (now r)
   record-of hb ho = by (decLe p plansMost) (ℕ-discrete p 0) (ℕ-discrete (standingOf (recordAt (now book) p)) empty)
     where
-      lo : length (now own) ≡ recordLen
+      lo : length (now copy) ≡ recordLen
       lo = ap length ho ∙ length-built-in
 
       -- an empty part stands as an empty plan
@@ -97,18 +97,18 @@ module _ (book own r : RefT (List ℕ)) (p : ℕ) (f : PartRead book own p r) wh
       by (no g) d e =
           let z : p ≡ 0 → ⊥ = λ (q : p ≡ 0). absurd (omega arith) in
           let l : plansMost < p = omega arith in
-          let n : refusalIs ≡ refusal.none → ⊥ = λ (q : refusalIs ≡ refusal.none). absurd (omega (arith, q, refused-range (now book) (now own) p hb lo l)) in
+          let n : refusalIs ≡ refusal.none → ⊥ = λ (q : refusalIs ≡ refusal.none). absurd (omega (arith, q, refused-range (now book) (now copy) p hb lo l)) in
           nothing-there (read-none n) (rw (ne-eqb p 0 z) (standing-past (now book) p hb l))
       by (yes l) (yes z) e =
-          let s : true ≡ same (now own) builtIn = sym (rw ho (is-same builtIn)) in
-          let q = sym (read-zero (now book) (now own) p hb lo l z s refl) in
+          let s : true ≡ same (now copy) builtIn = sym (rw ho (is-same builtIn)) in
+          let q = sym (read-zero (now book) (now copy) p hb lo l z s refl) in
           let n : standingOf builtIn ≡ empty → ⊥ = λ (e : standingOf builtIn ≡ empty). absurd (omega (arith, built-in-stands, e)) in
           there (rw (eq-eqb p 0 z) n) (read-built-in q z ∙ (rw (ho, eq-eqb p 0 z) (take-all recordLen builtIn (omega (arith, length-built-in)))))
       by (yes l) (no z) (yes e) =
-          let n : refusalIs ≡ refusal.none → ⊥ = λ (q : refusalIs ≡ refusal.none). absurd (omega (arith, q, refused-empty (now book) (now own) p hb lo l z refl e)) in
+          let n : refusalIs ≡ refusal.none → ⊥ = λ (q : refusalIs ≡ refusal.none). absurd (omega (arith, q, refused-empty (now book) (now copy) p hb lo l z refl e)) in
           nothing-there (read-none n) (rw (ne-eqb p 0 z) e)
       by (yes l) (no z) (no e) =
-          let q = sym (read-set (now book) (now own) p hb lo l z refl e) in
+          let q = sym (read-set (now book) (now copy) p hb lo l z refl e) in
           there (rw (ne-eqb p 0 z) e) (read-book q z ∙ rw (ne-eqb p 0 z))
 
 -- Messages

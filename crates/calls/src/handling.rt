@@ -136,8 +136,8 @@ fn run(code: u16, requested: u8, book: &[u8], info: &[u8]) -> Handled
         return refused(code, requested, m.refusal, m.field);
     }
     let plan = plan_named(info);
-    let own = book::built_in();
-    let rec = stepper::record_of(book, &own, plan);
+    let lent = book::built_in();
+    let rec = stepper::record_of(book, &lent, plan);
     if checks::standing(rec) != record::READY {
         return refused(code, requested, refusal::NOT_READY, PLAN);
     }
@@ -153,8 +153,8 @@ fn query_times(code: u16, requested: u8, book: &[u8], info: &[u8]) -> Handled
         return refused(code, requested, m.refusal, m.field);
     }
     let plan = plan_named(info);
-    let own = book::built_in();
-    let rec = stepper::record_of(book, &own, plan);
+    let lent = book::built_in();
+    let rec = stepper::record_of(book, &lent, plan);
     if checks::standing(rec) == record::EMPTY {
         return refused(code, requested, refusal::NOT_READY, PLAN);
     }
@@ -170,8 +170,8 @@ fn query_plan(code: u16, requested: u8, book: &[u8], info: &[u8]) -> Handled
         return refused(code, requested, m.refusal, m.field);
     }
     let plan = plan_named(info);
-    let own = book::built_in();
-    let rec = stepper::record_of(book, &own, plan);
+    let lent = book::built_in();
+    let rec = stepper::record_of(book, &lent, plan);
     if checks::standing(rec) != record::READY {
         return refused(code, requested, refusal::NOT_READY, PLAN);
     }

@@ -43,8 +43,8 @@ fn picked(u: Running, requested: u8, book: &[u8]) -> Running
     requires { ⌜ length (now book) ≡ bookLen ⌝ }
     ensures { λ r. ⌜ r ≡ pickedOf u requested (now (book .entry)) ⌝ }
 {
-    let own = book::built_in();
-    let rec = record_of(book, &own, requested);
+    let lent = book::built_in();
+    let rec = record_of(book, &lent, requested);
     // Reading judged it, so it stands as its state says.
     if record::octet_at(rec, 0) == record::READY {
         return started(requested, copied(rec));
@@ -54,12 +54,12 @@ fn picked(u: Running, requested: u8, book: &[u8]) -> Running
 }
 
 // The record of a plan: the copy of the built-in one for plan 0, the plan's part of the book for any other.
-pub(crate) fn record_of<'a>(book: &'a [u8], own: &'a [u8], plan: u8) -> &'a [u8]
-    requires { ⌜ (length (now book) ≡ bookLen) × (now own ≡ builtIn) ⌝ }
+pub(crate) fn record_of<'a>(book: &'a [u8], copy: &'a [u8], plan: u8) -> &'a [u8]
+    requires { ⌜ (length (now book) ≡ bookLen) × (now copy ≡ builtIn) ⌝ }
     ensures { λ r. ⌜ RecordOf (now (book .entry)) plan (now r) ⌝ }
 {
     let mut why = refusal::NONE;
-    book::read_plan(book, own, plan, &mut why)
+    book::read_plan(book, copy, plan, &mut why)
 }
 
 fn copied(rec: &[u8]) -> [u8; RECORD_LEN]

@@ -7,7 +7,7 @@ use Rattle.calls.proofs.stepper.record_of.Tie as tie
 returns : tie.Need-returns
 returns c =
     let a = c .before .before .before .before .args in
-    record-of (a .book) (a .own) (c .read-plan .result) (a .plan) (c .read-plan .ensures .part) (search needs) (search needs)
+    record-of (a .book) (a .copy) (c .read-plan .result) (a .plan) (c .read-plan .ensures .part) (search needs) (search needs)
 
 pub record-of-spec : {M : Type 1} → statement M
 record-of-spec = tie.close (tie.spec (λ c κs. search needs) returns)
