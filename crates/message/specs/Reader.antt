@@ -2,6 +2,7 @@
 -- "The message reader alone reads every code of the table; it refuses with 10, 11 (so for under two octets) or 12 and then
 -- gives no message."
 use Prim.Native.Nat.{ℕ}
+use mathlib.Core.Bool.{not}
 use mathlib.Core.List.{List}
 use lib.Dec.{eqb, ltb}
 use lib.ListN.{length, getD, drop}
@@ -39,12 +40,12 @@ rangedOf l k os =
     let field = firstOut (rowsAt l k) (m .values) in
     pick (eqb field 0) (readAs m) (refusedAs refusal.outOfRange field)
 
+-- "k is 1 to 8 and fixes the length, so k = 0 or 9 is refusal 11"
 unfoldable pub readPartOf : ℕ → ℕ → List ℕ → Read
 readPartOf l k os =
-    pick (known l)
-    (pick (both (kFits (layoutAt l) k) (eqb (length os) (sizeOf (rowsAt l k)))) (rangedOf l k os)
-    (refusedAs refusal.infoLengthWrong 0))
-    (refusedAs refusal.codeNotHandled 0)
+    pick (not (known l)) (refusedAs refusal.codeNotHandled 0)
+    (pick (not (both (kFits (layoutAt l) k) (eqb (length os) (sizeOf (rowsAt l k))))) (refusedAs refusal.infoLengthWrong 0)
+    (rangedOf l k os))
 
 -- the code, high octet first, and "the octets after the two of the code"
 abbrev pub codeIn : List ℕ → ℕ
@@ -53,6 +54,7 @@ codeIn info = wordOf (getD info 0 0) (getD info 1 0)
 abbrev pub bodyIn : List ℕ → List ℕ
 bodyIn info = drop codeLen info
 
+-- "Code and body are separate"
 unfoldable pub readOf : List ℕ → Read
 readOf info =
     let l = numberOf (codeIn info) in

@@ -1,7 +1,7 @@
 -- What follows from the definitions of specs/: one law for each way through.
 use Prim.Native.Nat.{ℕ, zero, suc, _+_, _-_, _≤_, _<_}
 use mathlib.Core.Path.{_≡_, refl, sym, ap, _∙_}
-use mathlib.Core.Bool.{Bool, true, false}
+use mathlib.Core.Bool.{Bool, true, false, not}
 use mathlib.Core.List.{List, [], _∷_}
 use native.Mathlib.Omega.{arith}
 use borrow.Author.Tests.{eq-eqb, ne-eqb, le-leb, lt-leb, eqb-true, leb-true}
@@ -81,7 +81,7 @@ module _ (book copy : List ℕ) (p : ℕ) where
 
       module _ (hp : p ≤ plansMost) where
         abbrev tests : ℕ → ℕ
-        tests n = pick (both (eqb (length book) bookLen) (eqb (length copy) recordLen)) (pick (leb p plansMost) n refusal.outOfRange) refusal.bookWrong
+        tests n = pick (not (both (eqb (length book) bookLen) (eqb (length copy) recordLen))) refusal.bookWrong (pick (not (leb p plansMost)) refusal.outOfRange n)
 
         passed : (n : ℕ) → tests n ≡ n
         passed n = rw (eq-eqb (length book) bookLen hb, eq-eqb (length copy) recordLen ho, le-leb p plansMost hp)
@@ -110,7 +110,7 @@ module _ (book copy : List ℕ) (p : ℕ) where
   read-sound e = by (eqb (length book) bookLen) refl (eqb (length copy) recordLen) refl (leb p plansMost) refl _ e
     where
       by : (a : Bool) → eqb (length book) bookLen ≡ a → (b : Bool) → eqb (length copy) recordLen ≡ b → (c : Bool) → leb p plansMost ≡ c
-          → (n : ℕ) → pick (both a b) (pick c n refusal.outOfRange) refusal.bookWrong ≡ refusal.none → (length book ≡ bookLen) × (length copy ≡ recordLen) × (p ≤ plansMost)
+          → (n : ℕ) → pick (not (both a b)) refusal.bookWrong (pick (not c) refusal.outOfRange n) ≡ refusal.none → (length book ≡ bookLen) × (length copy ≡ recordLen) × (p ≤ plansMost)
       by true ea true eb true ec n h = (eqb-true (length book) bookLen ea, eqb-true (length copy) recordLen eb, leb-true p plansMost ec)
       by true ea true eb false ec n h = absurd (omega arith)
       by true ea false eb c ec n h = absurd (omega arith)

@@ -5,7 +5,7 @@
 -- plan, or for plan 0 where the copy differs from the built-in record."
 use Prim.Native.Nat.{ℕ, _+_, _*_, _-_, _≤_}
 use mathlib.Core.Path.{_≡_}
-use mathlib.Core.Bool.{Bool, true, false}
+use mathlib.Core.Bool.{Bool, true, false, not}
 use mathlib.Core.List.{List, [], _∷_}
 use lib.Dec.{eqb, leb}
 use lib.ListN.{length, take, drop}
@@ -31,15 +31,14 @@ same [] (y ∷ ys) = false
 same (x ∷ xs) [] = false
 same (x ∷ xs) (y ∷ ys) = both (eqb x y) (same xs ys)
 
+-- "It refuses with an empty part: 8 if either length is wrong, then 12 for a plan over 48, then 13 for an empty plan, or for plan 0
+-- where the copy differs from the built-in record."
 unfoldable pub readRefusal : List ℕ → List ℕ → ℕ → ℕ
 readRefusal book copy p =
-    pick (both (eqb (length book) bookLen) (eqb (length copy) recordLen))
-    (pick (leb p plansMost)
-    (pick (eqb p 0)
-    (pick (same copy builtIn) refusal.none refusal.notReady)
-    (pick (eqb (standingOf (recordAt book p)) empty) refusal.notReady refusal.none))
-    refusal.outOfRange)
-    refusal.bookWrong
+    pick (not (both (eqb (length book) bookLen) (eqb (length copy) recordLen))) refusal.bookWrong
+    (pick (not (leb p plansMost)) refusal.outOfRange
+    (pick (eqb p 0) (pick (not (same copy builtIn)) refusal.notReady refusal.none)
+    (pick (eqb (standingOf (recordAt book p)) empty) refusal.notReady refusal.none)))
 
 -- r is the part read: all of the copy for plan 0, the plan's record in the book for any other, an empty part where it is refused
 abbrev pub PartRead : RefT (List ℕ) → RefT (List ℕ) → ℕ → RefT (List ℕ) → Type 0
