@@ -2,6 +2,7 @@
 use mathlib.Core.Path.{refl}
 use Rattle.octets.specs.ExclusiveOr.{xor, exclusiveOr}
 use Rattle.octets.specs.First.{firstOf}
+use Rattle.diagram.specs.Rows as table
 use Rattle.diagram.specs.Table as diagram
 use Rattle.frame.specs.Frame.{frontOf, bodyOf, sentOf, cksOf, twice, doubled, written}
 use Rattle.frame.specs.Decoder.{freshDecoder, possibleOf, frontIn, cksIn, stepOf, takenOf}
@@ -20,5 +21,5 @@ use Rattle.controller.specs.Replies.{repliedOf, messageOf, doneOf, octet
 use Rattle.controller.specs.Table.{cameOut, stateAfter, rows, due, OneTable}
 
 pub one-table : OneTable
-unfolding xor exclusiveOr firstOf diagram.find diagram.directory diagram.diagramOf diagram.rows diagram.rowNumber diagram.rowOf frontOf bodyOf sentOf cksOf twice doubled written freshDecoder possibleOf frontIn cksIn stepOf takenOf layouts layoutAt known numberOf rowsAt rowsOf zeros placed firstOut noMessage refusedAs partOf rangedOf readPartOf readOf infoAs timesDisagree planDisagree ranged timesStand planStands readyStands allZero standingOf padded builtIn same planInfo reportPlanOf phaseTable secondsOf freshOf runningSound soundOf carriedOutReply refusedReply runAs queryRunningAs handlingOf repliedOf messageOf doneOf octetOf cameOut stateAfter rows due
+unfolding xor exclusiveOr firstOf diagram.find table.directory diagram.diagramOf table.rows diagram.rowNumber diagram.rowOf frontOf bodyOf sentOf cksOf twice doubled written freshDecoder possibleOf frontIn cksIn stepOf takenOf layouts layoutAt known numberOf rowsAt rowsOf zeros placed firstOut noMessage refusedAs partOf rangedOf readPartOf readOf infoAs timesDisagree planDisagree ranged timesStand planStands readyStands allZero standingOf padded builtIn same planInfo reportPlanOf phaseTable secondsOf freshOf runningSound soundOf carriedOutReply refusedReply runAs queryRunningAs handlingOf repliedOf messageOf doneOf octetOf cameOut stateAfter rows due
 one-table = refl

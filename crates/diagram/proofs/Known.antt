@@ -3,16 +3,18 @@ use Prim.Native.Nat.{ℕ, zero, suc, _+_, _-_, _≤_, _<_}
 use mathlib.Core.Path.{_≡_, refl, sym, ap, _∙_}
 use mathlib.Core.Bool.{Bool, true}
 use mathlib.Core.List.{List, [], _∷_}
-use native.Mathlib.Decide.{ℕ-discrete, decLt}
+use native.Mathlib.Decide.{ℕ-discrete, decLe, decLt}
 use native.Mathlib.Omega.{arith}
-use borrow.Author.Tests.{eq-eqb, ne-eqb, eqb-true, leb-true}
+use borrow.Author.Tests.{eq-eqb, ne-eqb, eqb-true, le-leb, lt-leb, leb-true, ltb-true}
 use lib.Dec.{eqb, leb, ltb}
 use lib.ListN.{length, getD}
 use Rattle.octets.specs.Choice.{pick, both}
 use Rattle.octets.proofs.Every.{every, every-at, below, below-at, all, all-at}
 use Rattle.diagram.specs.declared.Diagram.{Diagram}
-use Rattle.diagram.specs.Table.{Row, rows, diagram, directory, unknown, find, diagramOf, phasesOf, stepsIn, stepsOf, rowNumber}
-use Rattle.diagram.specs.Known.{noLine, lineAt, Known, OneOrder, EachFound, KnownPhases, EachUsed, AllDark, OutsideDark, Absent, UnknownDark}
+use Rattle.diagram.specs.Row.{Row, diagram}
+use Rattle.diagram.specs.Rows.{rows, directory}
+use Rattle.diagram.specs.Table.{unknown, find, diagramOf, phasesOf, stepsIn, stepsOf, rowNumber}
+use Rattle.diagram.specs.Known.{noLine, lineAt, Known, phasesDue, SupportedCodes, EachFound, KnownPhases, EachUsed, AllDark, OutsideDark, Absent, UnknownDark}
 use Rattle.diagram.proofs.Laws.{number-none, number-past, row-past}
 
 -- What is not there
@@ -155,10 +157,37 @@ each-used n h =
 
 -- Which orders have phases
 
-pub one-order : OneOrder
-unfolding directory diagramOf find
-one-order = (refl, λ order h. let k = phases-known order h in by order (k .line) (k .within) (k .there))
+-- past every code that is supported
+abbrev codesEnd : ℕ
+codesEnd = 0x6e
+
+codes-below : (order : ℕ) → Known order → order < codesEnd
+unfolding every directory
+codes-below order k =
+    let t = every-at (λ d. ltb (d .order) codesEnd) directory (k .line) noLine refl (λ _. refl) in
+    omega (arith, ltb-true (lineAt (k .line) .order) codesEnd t, k .there)
+
+codes-pass : below (λ o. eqb (phasesOf o) (phasesDue o)) codesEnd ≡ true
+unfolding below directory diagramOf find phasesDue
+codes-pass = refl
+
+none-due : (order : ℕ) → codesEnd ≤ order → phasesDue order ≡ 0
+unfolding phasesDue
+none-due order h =
+    rw (
+      ne-eqb order 0x00 (λ e. omega arith),
+      ne-eqb order 0x20 (λ e. omega arith),
+      ne-eqb order 0x38 (λ e. omega arith),
+      le-leb 0x50 order (omega arith),
+      lt-leb order 0x57 (omega arith),
+      le-leb 0x60 order (omega arith),
+      lt-leb order 0x6d (omega arith),
+    )
+
+pub supported-codes : SupportedCodes
+supported-codes order = by (decLt order codesEnd) (decLe 1 (phasesOf order))
   where
-    by : (order i : ℕ) → i < length directory → lineAt i .order ≡ order → order ≡ 0x00
-    by order zero l e = sym e
-    by order (suc i) l e = absurd (omega arith)
+    by : Dec (order < codesEnd) → Dec (1 ≤ phasesOf order) → phasesOf order ≡ phasesDue order
+    by (yes l) _ = eqb-true (phasesOf order) (phasesDue order) (below-at (λ o. eqb (phasesOf o) (phasesDue o)) codesEnd order codes-pass l)
+    by (no g) (yes p) = absurd (g (codes-below order (phases-known order p)))
+    by (no g) (no z) = omega (arith, none-due order (omega arith))

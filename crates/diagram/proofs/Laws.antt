@@ -8,7 +8,9 @@ use borrow.Author.Tests.{eq-eqb, ne-eqb, le-leb, lt-leb}
 use lib.ListN.{length, getD, drop, drop-of-length-le, List·getD-map, List·getD-eq-default}
 use lib.Seq.{drop-cons}
 use Rattle.diagram.specs.declared.Diagram.{Diagram}
-use Rattle.diagram.specs.Table.{Row, rows, darkRow, diagram, unknown, find, diagramOf, stepsOf, rowNumber, rowOf}
+use Rattle.diagram.specs.Row.{Row, diagram}
+use Rattle.diagram.specs.Rows.{rows}
+use Rattle.diagram.specs.Table.{darkRow, unknown, find, diagramOf, stepsOf, rowNumber, rowOf}
 use Rattle.diagram.specs.Known.{noLine}
 
 -- The search, over any directory, which the code holds by columns

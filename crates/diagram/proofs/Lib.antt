@@ -2,4 +2,5 @@ pub mod Laws
 pub mod Known
 pub mod Rule
 pub mod Words
+pub mod Named
 pub mod Only

@@ -11,7 +11,9 @@ use Rattle.octets.specs.Choice.{both}
 use Rattle.octets.proofs.Laws.{both-left, both-right, clash}
 use Rattle.octets.proofs.Every.{every, every-at, below, below-at}
 use Rattle.diagram.specs.declared.Diagram.{Diagram}
-use Rattle.diagram.specs.Table.{Row, rows, darkRow, directory, diagramOf, stepsIn}
+use Rattle.diagram.specs.Row.{Row}
+use Rattle.diagram.specs.Rows.{rows, directory}
+use Rattle.diagram.specs.Table.{darkRow, diagramOf, stepsIn}
 use Rattle.diagram.specs.Lamps.{bit, lit, redLit, yellowLit, greenLit, redManLit, greenManLit, approachesInWord, Shows, Dark, LampRule}
 use Rattle.diagram.proofs.Laws.{row-there}
 use Rattle.diagram.proofs.Known.{found-passes}
@@ -39,7 +41,7 @@ module _ (r : Row) (a : ℕ) where
 abbrev rowFits : Diagram → Row → Bool
 rowFits d r = below (λ a. fits r a (bit (d .approaches) a)) approachesInWord
 
-abbrev rowIn : Diagram → ℕ → Row
+abbrev pub rowIn : Diagram → ℕ → Row
 rowIn d i = getD rows (d .first + i) darkRow
 
 diagramFits : Diagram → Bool

@@ -12,7 +12,9 @@ use lib.ListN.{getD}
 use Rattle.octets.specs.Choice.{both}
 use Rattle.octets.proofs.Laws.{clash}
 use Rattle.octets.proofs.Every.{every, every-at, all, all-at, below, below-at}
-use Rattle.diagram.specs.Table.{Row, rows, darkRow, rowNumber, rowOf, steadyOf, flashingOf}
+use Rattle.diagram.specs.Row.{Row}
+use Rattle.diagram.specs.Rows.{rows}
+use Rattle.diagram.specs.Table.{darkRow, rowNumber, rowOf, steadyOf, flashingOf}
 use Rattle.diagram.specs.Lamps.{bit, lampIn, lastLamp, SteadyOrFlashing, WordsFit}
 
 abbrev notBoth : Row → ℕ → Bool
@@ -41,7 +43,7 @@ pub words-fit : WordsFit
 words-fit order step = (steady-fits order step, flashing-fits order step)
 
 -- a word has no lamp past its length
-bit-past : (w n i : ℕ) → w < 2 ^ n → n ≤ i → bit w i ≡ false
+pub bit-past : (w n i : ℕ) → w < 2 ^ n → n ≤ i → bit w i ≡ false
 bit-past w n i h l = rw (div-eq-of-lt (lt-of-lt-of-le h (pow-le-pow-right (omega arith) l)))
 
 apart : (x y : Bool) → not (both x y) ≡ true → x ≡ true → y ≡ false

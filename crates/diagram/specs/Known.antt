@@ -1,9 +1,14 @@
 -- What the directory promises: which phase orders are known, that each row is a step of one, and that all else is dark.
 use Prim.Native.Nat.{ℕ, _≤_, _<_}
 use mathlib.Core.Path.{_≡_}
+use mathlib.Core.Bool.{_||_}
+use lib.Dec.{eqb, leb}
 use lib.ListN.{length, getD}
+use Rattle.octets.specs.Choice.{pick, both}
 use Rattle.diagram.specs.declared.Diagram.{Diagram}
-use Rattle.diagram.specs.Table.{rows, diagram, directory, diagramOf, phasesOf, approachesOf, stepsOf, rowNumber, steadyOf, flashingOf}
+use Rattle.diagram.specs.Row.{diagram}
+use Rattle.diagram.specs.Rows.{rows, directory}
+use Rattle.diagram.specs.Table.{diagramOf, phasesOf, approachesOf, stepsOf, rowNumber, steadyOf, flashingOf}
 
 abbrev pub noLine : Diagram
 noLine = diagram 0 0 0 0
@@ -22,9 +27,17 @@ pub record Known (order : ℕ) : Type 0 where
 abbrev pub EachFound : Type 0
 EachFound = (i : ℕ) → i < length directory → diagramOf (lineAt i .order) ≡ lineAt i
 
--- "phase order 00", and "the diagram's, which is 2": order 00 has two phases, and no other order has any.
-abbrev pub OneOrder : Type 0
-OneOrder = (phasesOf 0x00 ≡ 2) × ((order : ℕ) → 1 ≤ phasesOf order → order ≡ 0x00)
+-- 02, E2: "The phase order is the type code of Appendix 1, as 60 and 61 for number 22 (A) and (B)."
+-- The phases of each supported code: of number 00, of 07 and 14, of 19 to 21 and 22 to 28; an order that is none of them has none.
+unfoldable pub phasesDue : ℕ → ℕ
+phasesDue order =
+    pick (eqb order 0x00) 2
+    (pick (eqb order 0x20 || eqb order 0x38) 3
+    (pick (both (leb 0x50 order) (leb order 0x57) || both (leb 0x60 order) (leb order 0x6d)) 4 0))
+
+-- 02, E2: "01's range for phase order becomes the supported codes"
+abbrev pub SupportedCodes : Type 0
+SupportedCodes = (order : ℕ) → phasesOf order ≡ phasesDue order
 
 -- "k is 1 to 8", and equal to the diagram's: a known order has 1 to 8 phases.
 abbrev pub KnownPhases : Type 0

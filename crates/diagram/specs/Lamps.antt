@@ -4,7 +4,8 @@ use mathlib.Core.Path.{_≡_}
 use mathlib.Core.Bool.{Bool, true, false, _||_}
 use mathlib.Core.Logic.{_⊎_}
 use lib.Dec.{eqb}
-use Rattle.diagram.specs.Table.{Row, approachesOf, rowOf, steadyOf, flashingOf}
+use Rattle.diagram.specs.Row.{Row}
+use Rattle.diagram.specs.Table.{approachesOf, rowOf, steadyOf, flashingOf}
 use Rattle.diagram.specs.Known.{Step}
 
 -- Lamps
@@ -24,6 +25,9 @@ lit r m = lampIn (r .steady) m || lampIn (r .flashing) m
 -- Approach A is a = 0, on to H with a = 7: a word of 64 bits has eight approaches.
 abbrev pub approachesInWord : ℕ
 approachesInWord = 8
+
+abbrev pub lampsAnApproach : ℕ
+lampsAnApproach = 8
 
 abbrev pub redLit : Row → ℕ → Bool
 redLit r a = lit r (8 * a + 1)
@@ -109,10 +113,9 @@ LampRule = (order step a : ℕ) → Step order step → a < approachesInWord →
 abbrev pub SteadyOrFlashing : Type 0
 SteadyOrFlashing = (order step m : ℕ) → lampIn (steadyOf order step) m ≡ true → lampIn (flashingOf order step) m ≡ false
 
--- "on to 32"
 abbrev pub lastLamp : ℕ
-lastLamp = 32
+lastLamp = lampsAnApproach * approachesInWord
 
--- No lamp has a higher number.
+-- No lamp has a higher number: "a 64-bit steady word and a flashing word".
 abbrev pub WordsFit : Type 0
 WordsFit = (order step : ℕ) → (steadyOf order step < 2 ^ lastLamp) × (flashingOf order step < 2 ^ lastLamp)

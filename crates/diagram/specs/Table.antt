@@ -5,42 +5,8 @@ use lib.Dec.{eqb, leb}
 use lib.ListN.{length, getD}
 use Rattle.octets.specs.Choice.{pick, both}
 use Rattle.diagram.specs.declared.Diagram.{Diagram}
-
--- The table
-
--- a row: "a 64-bit steady word and a flashing word"
-pub record Row : Type 0 where
-  pub steady : ℕ
-  pub flashing : ℕ
-
-abbrev pub row : ℕ → ℕ → Row
-row s f = record { steady = s; flashing = f }
-
--- "| Step | Steady, flashing |", the diagrams one after another
--- "For the lamps of code 00 Appendix 2 decides": its number 00 shows the same lamps.
-unfoldable pub rows : List Row
-rows =
-    row 0x41418888 0  -- phase order 00, step 1
-    ∷ row 0x41410808 0x8080  -- 2
-    ∷ row 0x41414848 0  -- 3
-    ∷ row 0x41414242 0  -- 4
-    ∷ row 0x41414141 0  -- 5
-    ∷ row 0x88884141 0  -- 6
-    ∷ row 0x08084141 0x80800000  -- 7
-    ∷ row 0x48484141 0  -- 8
-    ∷ row 0x42424141 0  -- 9
-    ∷ row 0x41414141 0  -- 10
-    ∷ []
-
--- The directory
-
--- a line: a phase order, its first row (from 0), its phases, and the approaches it uses (bit 0 for A, on to bit 7 for H)
-abbrev pub diagram : ℕ → ℕ → ℕ → ℕ → Diagram
-diagram o f p a = record { order = o; first = f; phases = p; approaches = a }
-
--- "phase order 00"; "the diagram's, which is 2"; "Per approach A to D"
-unfoldable pub directory : List Diagram
-directory = diagram 0x00 0 2 0x0f ∷ []
+use Rattle.diagram.specs.Row.{Row, row, diagram}
+use Rattle.diagram.specs.Rows.{rows, directory}
 
 -- an order that is not there has no phases and no approaches
 abbrev pub unknown : ℕ → Diagram

@@ -4,38 +4,19 @@ ghost use mathlib.Core.Path.{_≡_};
 ghost use Rattle.diagram.specs.Table.{diagramOf, stepsIn, phasesOf, approachesOf, stepsOf};
 ghost use Rattle.diagram.specs.Table.{rowNumber, steadyOf, flashingOf};
 
+mod rows;
+
+use crate::rows::APPROACHES;
+use crate::rows::FIRST_ROWS;
+use crate::rows::FLASHING;
+use crate::rows::LINES;
+use crate::rows::ORDERS;
+use crate::rows::PHASES;
+use crate::rows::ROWS;
+use crate::rows::STEADY;
+
 // The steps of a phase: green, walk flash, red man, yellow, all-red.
 pub const STEPS_A_PHASE: u16 = 5;
-
-// The table: the steady and the flashing lamps of each step.
-const ROWS: usize = 10;
-
-const STEADY: [u64; ROWS] = [
-    0x41418888,
-    0x41410808,
-    0x41414848,
-    0x41414242,
-    0x41414141,
-    0x88884141,
-    0x08084141,
-    0x48484141,
-    0x42424141,
-    0x41414141,
-];
-
-const FLASHING: [u64; ROWS] = [0, 0x8080, 0, 0, 0, 0, 0x80800000, 0, 0, 0];
-
-// The directory: each phase order, its first row (from 0), its phases, and the approaches it uses (bit 0 for A, on to bit
-// 7 for H).
-const LINES: usize = 1;
-
-const ORDERS: [u8; LINES] = [0x00];
-
-const FIRST_ROWS: [u16; LINES] = [0];
-
-const PHASES: [u8; LINES] = [2];
-
-const APPROACHES: [u8; LINES] = [0x0f];
 
 // A line of the directory.
 struct Diagram {

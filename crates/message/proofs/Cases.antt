@@ -2,7 +2,8 @@
 use mathlib.Core.Path.{refl}
 use Rattle.octets.specs.First.{firstOf}
 use Rattle.octets.specs.Writing.{writtenAs}
-use Rattle.diagram.specs.Table.{directory, find, diagramOf}
+use Rattle.diagram.specs.Rows.{directory}
+use Rattle.diagram.specs.Table.{find, diagramOf}
 use Rattle.message.specs.Layouts.{layouts, layoutAt, known, numberOf, rowsOf, rowsAt}
 use Rattle.message.specs.Values.{zeros, placed, firstOut}
 use Rattle.message.specs.Reader.{noMessage, refusedAs, partOf, rangedOf, readPartOf, readOf}

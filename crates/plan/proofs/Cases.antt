@@ -10,7 +10,8 @@ use Rattle.octets.specs.Choice.{both}
 use Rattle.octets.specs.First.{firstOf}
 use Rattle.octets.specs.Octet.{Octets}
 use Rattle.octets.proofs.Laws.{both-left, both-right}
-use Rattle.diagram.specs.Table.{find, directory, diagramOf}
+use Rattle.diagram.specs.Rows.{directory}
+use Rattle.diagram.specs.Table.{find, diagramOf}
 use Rattle.message.specs.Layouts.{layouts, layoutAt, known, numberOf, rowsAt, rowsOf}
 use Rattle.message.specs.Values.{zeros, placed, firstOut}
 use Rattle.message.specs.Reader.{noMessage, refusedAs, partOf, rangedOf, readPartOf, readOf}

@@ -10,6 +10,7 @@ use lib.ListN.{length}
 use Rattle.octets.specs.ExclusiveOr.{xor, exclusiveOr}
 use Rattle.octets.specs.First.{firstOf}
 use Rattle.octets.proofs.Laws.{pick-by}
+use Rattle.diagram.specs.Rows as table
 use Rattle.diagram.specs.Table as diagram
 use Rattle.diagram.proofs.Words.{words-fit}
 use Rattle.frame.specs.Frame.{frontOf, bodyOf, sentOf, cksOf, twice, doubled, written}
@@ -71,9 +72,9 @@ words-whole s book = let f = second-fits s book in (whole (secondOf s book .row 
 -- 01's listing
 
 pub two-seconds : TwoSeconds
-unfolding firstOf diagram.find diagram.directory diagram.diagramOf diagram.rows diagram.rowNumber diagram.rowOf freshDecoder possibleOf layouts layoutAt known numberOf rowsAt message.rowsOf zeros placed firstOut noMessage refusedAs partOf rangedOf readPartOf readOf timesDisagree planDisagree ranged timesStand planStands readyStands allZero standingOf padded builtIn same phaseTable secondsOf lamps.counted lamps.rowsFrom lamps.rowsOf rowAt freshOf runningSound soundOf movedOn secondOf digits line.octetOf line.endOf founds after foundIn header placesWithin places decimal field wordText numbers secondLine secondSaid madeOf listingFrom listingOf
+unfolding firstOf diagram.find table.directory diagram.diagramOf table.rows diagram.rowNumber diagram.rowOf freshDecoder possibleOf layouts layoutAt known numberOf rowsAt message.rowsOf zeros placed firstOut noMessage refusedAs partOf rangedOf readPartOf readOf timesDisagree planDisagree ranged timesStand planStands readyStands allZero standingOf padded builtIn same phaseTable secondsOf lamps.counted lamps.rowsFrom lamps.rowsOf rowAt freshOf runningSound soundOf movedOn secondOf digits line.octetOf line.endOf founds after foundIn header placesWithin places decimal field wordText numbers secondLine secondSaid madeOf listingFrom listingOf
 two-seconds = refl
 
 pub reply-and-bad : ReplyAndBad
-unfolding xor exclusiveOr firstOf diagram.find diagram.directory diagram.diagramOf diagram.rows diagram.rowNumber diagram.rowOf frontOf bodyOf sentOf cksOf twice doubled written freshDecoder possibleOf frontIn cksIn stepOf takenOf layouts layoutAt known numberOf rowsAt message.rowsOf zeros placed firstOut noMessage refusedAs partOf rangedOf readPartOf readOf infoAs timesDisagree planDisagree ranged timesStand planStands readyStands allZero standingOf padded builtIn same planInfo reportPlanOf phaseTable secondsOf freshOf runningSound soundOf queryRunningAs handlingOf repliedOf messageOf doneOf octetOf digits line.hexOf line.octetOf line.endOf founds after foundIn header placesWithin places decimal blankHex2 spaced octetsHex replyLine badLine octetMade badSaid madeOf listingFrom listingOf
+unfolding xor exclusiveOr firstOf diagram.find table.directory diagram.diagramOf table.rows diagram.rowNumber diagram.rowOf frontOf bodyOf sentOf cksOf twice doubled written freshDecoder possibleOf frontIn cksIn stepOf takenOf layouts layoutAt known numberOf rowsAt message.rowsOf zeros placed firstOut noMessage refusedAs partOf rangedOf readPartOf readOf infoAs timesDisagree planDisagree ranged timesStand planStands readyStands allZero standingOf padded builtIn same planInfo reportPlanOf phaseTable secondsOf freshOf runningSound soundOf queryRunningAs handlingOf repliedOf messageOf doneOf octetOf digits line.hexOf line.octetOf line.endOf founds after foundIn header placesWithin places decimal blankHex2 spaced octetsHex replyLine badLine octetMade badSaid madeOf listingFrom listingOf
 reply-and-bad = refl

@@ -3,7 +3,8 @@ use mathlib.Core.Path.{_≡_, refl, sym, _∙_}
 use Prim.Native.Nat.{_-_, _≤_}
 use borrow.Author.Needs.{needs}
 use lib.ListN.{drop, length}
-use Rattle.diagram.specs.Table.{find, directory, diagramOf}
+use Rattle.diagram.specs.Rows.{directory}
+use Rattle.diagram.specs.Table.{find, diagramOf}
 use Rattle.diagram.proofs.Laws.{find-stops, find-goes, find-ends}
 use Rattle.diagram.proofs.find.Statement.{statement}
 use Rattle.diagram.proofs.find.Tie as tie

@@ -4,7 +4,8 @@ use mathlib.Core.Path.{ap, sym, _∙_}
 use native.Mathlib.Omega.{arith}
 use borrow.Author.Needs.{needs}
 use Rattle.diagram.specs.declared.Diagram.{Diagram}
-use Rattle.diagram.specs.Table.{rows, stepsIn}
+use Rattle.diagram.specs.Rows.{rows}
+use Rattle.diagram.specs.Table.{stepsIn}
 use Rattle.diagram.proofs.Laws.{number-there, number-none, number-past}
 use Rattle.diagram.proofs.row_number.Statement.{statement}
 use Rattle.diagram.proofs.row_number.Tie as tie

@@ -1,6 +1,6 @@
 -- `diagram::steady` meets its contract: the code's words are those of the table, and past its end there is none.
 use borrow.Author.Needs.{needs}
-use Rattle.diagram.specs.Table.{rows}
+use Rattle.diagram.specs.Rows.{rows}
 use Rattle.diagram.proofs.Laws.{word-there, word-past}
 use Rattle.diagram.proofs.steady.Statement.{statement}
 use Rattle.diagram.proofs.steady.Tie as tie

@@ -1,0 +1,224 @@
+-- What specs/Named.antt promises, by computed tests over each diagram's rows; the witnesses are searched for.
+use Prim.Native.Nat.{ℕ, zero, suc, _+_, _*_, _-_, _%_, _≤_, _<_}
+use mathlib.Core.Path.{_≡_, refl, sym, ap, subst, _∙_}
+use mathlib.Core.Bool.{Bool, true, false, not, _||_}
+use mathlib.Core.List.{List, [], _∷_}
+use native.Mathlib.Decide.{decLt}
+use native.Mathlib.Omega.{arith}
+use borrow.Author.Tests.{eq-eqb, eqb-true, le-leb, lt-ltb, ltb-true, not-true}
+use lib.Dec.{eqb, leb, ltb}
+use lib.ListN.{getD}
+use Rattle.octets.specs.Choice.{pick, both}
+use Rattle.octets.proofs.Laws.{both-left, both-right, clash}
+use Rattle.octets.proofs.Every.{every, all, all-at, below, below-at}
+use Rattle.diagram.specs.declared.Diagram.{Diagram}
+use Rattle.diagram.specs.Row.{Row}
+use Rattle.diagram.specs.Rows.{rows, directory}
+use Rattle.diagram.specs.Table.{diagramOf, stepsAPhase, stepsIn, rowOf, flashingOf}
+use Rattle.diagram.specs.Known.{Step}
+use Rattle.diagram.specs.Lamps.{bit, lit, lampIn, lampsAnApproach, lastLamp, approachesInWord, redLit, yellowLit, greenLit, roundLit, straightLit, greenManLit, uses}
+use Rattle.diagram.specs.Named.{placeOf, walkFlash, redMan, yellow, SomeYellow, AsNamed, StepsAsNamed, Follows, GreenYellowRed, EndsRed, StraightOn, EachServed}
+use Rattle.diagram.proofs.Laws.{row-there}
+use Rattle.diagram.proofs.Known.{found-passes}
+use Rattle.diagram.proofs.Rule.{rowIn}
+use Rattle.diagram.proofs.Words.{flashing-fits, bit-past}
+
+-- where the first holds, the second does
+abbrev implies : Bool → Bool → Bool
+implies true y = y
+implies false y = true
+
+implied : (x y : Bool) → implies x y ≡ true → x ≡ true → y ≡ true
+implied true y t e = t
+implied false y t e = absurd (clash refl e)
+
+-- the greatest number below n that passes, or 0
+search-below : (ℕ → Bool) → ℕ → ℕ
+search-below test zero = 0
+search-below test (suc n) = pick (test n) n (search-below test n)
+
+-- The tests of a row, its diagram's number i from 0
+
+abbrev place : ℕ → ℕ
+place i = i % stepsAPhase + 1
+
+flashFits : Row → ℕ → ℕ → Bool
+flashFits r i j = implies (bit (r .flashing) j) (both (eqb ((j + 1) % lampsAnApproach) 0) (eqb (place i) walkFlash))
+
+manFits : Row → ℕ → ℕ → Bool
+manFits r i a = implies (leb redMan (place i)) (not (greenManLit r a))
+
+yellowFits : Row → ℕ → ℕ → Bool
+yellowFits r i a = implies (yellowLit r a) (eqb (place i) yellow)
+
+someYellow : Row → ℕ
+someYellow r = search-below (yellowLit r) approachesInWord
+
+abbrev someFits : Row → ℕ → Bool
+someFits r i = implies (eqb (place i) yellow) (both (ltb (someYellow r) approachesInWord) (yellowLit r (someYellow r)))
+
+follows : Row → Row → ℕ → Bool
+follows r s a = both (implies (greenLit r a) (greenLit s a || yellowLit s a)) (implies (yellowLit r a) (redLit s a))
+
+rowTests : Diagram → ℕ → List Bool
+rowTests d i =
+    let r = rowIn d i in
+    below (flashFits r i) lastLamp ∷ below (manFits r i) approachesInWord ∷ below (yellowFits r i) approachesInWord ∷ someFits r i
+    ∷ implies (ltb (i + 1) (stepsIn d)) (below (follows r (rowIn d (i + 1))) approachesInWord)
+    ∷ []
+
+straight : Row → ℕ → Bool
+straight r a = roundLit r a || straightLit r a
+
+-- the row that lets the approach go straight on
+goes : Diagram → ℕ → ℕ
+goes d a = search-below (λ i. straight (rowIn d i) a) (stepsIn d)
+
+abbrev lastIn : Diagram → ℕ
+lastIn d = stepsIn d - 1
+
+endsRed : Diagram → ℕ → Bool
+endsRed d a = implies (bit (d .approaches) a) (both (ltb 0 (stepsIn d)) (redLit (rowIn d (lastIn d)) a))
+
+served : Diagram → ℕ → Bool
+served d a = implies (bit (d .approaches) a) (both (ltb (goes d a) (stepsIn d)) (straight (rowIn d (goes d a)) a))
+
+diagramTests : Diagram → List Bool
+diagramTests d = below (λ i. all (rowTests d i)) (stepsIn d) ∷ below (endsRed d) approachesInWord ∷ below (served d) approachesInWord ∷ []
+
+table-fits : every (λ d. all (diagramTests d)) directory ≡ true
+unfolding every below all search-below diagramTests rowTests flashFits manFits yellowFits someYellow follows endsRed straight goes served lit greenLit directory rows
+table-fits = refl
+
+diagram-passes : (order k : ℕ) → getD (diagramTests (diagramOf order)) k true ≡ true
+unfolding every all diagramTests below endsRed served
+diagram-passes order k = all-at (diagramTests (diagramOf order)) k (found-passes (λ d. all (diagramTests d)) table-fits (λ _. refl) order)
+
+-- the row of the step after i steps
+row-after : (order i : ℕ) → i < stepsIn (diagramOf order) → rowOf order (i + 1) ≡ rowIn (diagramOf order) i
+row-after order i h =
+    let e : i + 1 - 1 ≡ i = omega arith in
+    row-there order (i + 1) (omega arith) (omega arith) ∙ ap (rowIn (diagramOf order)) e
+
+-- The promises
+
+module _ (order step : ℕ) (s : Step order step) where
+  abbrev d : Diagram
+  d = diagramOf order
+
+  abbrev i : ℕ
+  i = step - 1
+
+  abbrev r : Row
+  r = rowIn d i
+
+  there : rowOf order step ≡ r
+  there = row-there order step (s .first) (s .last)
+
+  passes : (k : ℕ) → getD (rowTests d i) k true ≡ true
+  unfolding diagramTests
+  passes k = all-at (rowTests d i) k (below-at (λ n. all (rowTests d n)) (stepsIn d) i (diagram-passes order 0) (omega (arith, s .first, s .last)))
+
+  flashing-at : (m : ℕ) → lampIn (r .flashing) m ≡ true → m - 1 < lastLamp → (m % lampsAnApproach ≡ 0) × (placeOf step ≡ walkFlash)
+  unfolding rowTests flashFits
+  flashing-at m t l =
+      let man = eqb ((m - 1 + 1) % lampsAnApproach) 0 in
+      let at = eqb (placeOf step) walkFlash in
+      let b = implied (bit (r .flashing) (m - 1)) (both man at) (below-at (flashFits r i) lastLamp (m - 1) (passes 0) l) t in
+      let z = eqb-true ((m - 1 + 1) % lampsAnApproach) 0 (both-left man at b) in
+      (omega (arith, z), eqb-true (placeOf step) walkFlash (both-right man at b))
+
+  flashes : (m : ℕ) → lampIn (r .flashing) m ≡ true → (m % lampsAnApproach ≡ 0) × (placeOf step ≡ walkFlash)
+  flashes m t = by (decLt (m - 1) lastLamp)
+    where
+      past : (lastLamp ≤ m - 1) → lampIn (flashingOf order step) m ≡ false
+      past h = bit-past (flashingOf order step) lastLamp (m - 1) (flashing-fits order step) h
+
+      by : Dec (m - 1 < lastLamp) → (m % lampsAnApproach ≡ 0) × (placeOf step ≡ walkFlash)
+      by (yes l) = flashing-at m t l
+      by (no g) = absurd (clash (subst (λ (w : Row). lampIn (w .flashing) m ≡ false) there (past (omega arith))) t)
+
+  men : (a : ℕ) → a < approachesInWord → redMan ≤ placeOf step → greenManLit r a ≡ false
+  unfolding rowTests manFits
+  men a h l =
+      let t = below-at (manFits r i) approachesInWord a (passes 1) h in
+      not-true (greenManLit r a) (implied (leb redMan (placeOf step)) (not (greenManLit r a)) t (le-leb redMan (placeOf step) l))
+
+  yellows : (a : ℕ) → a < approachesInWord → yellowLit r a ≡ true → placeOf step ≡ yellow
+  unfolding rowTests yellowFits
+  yellows a h y =
+      let t = below-at (yellowFits r i) approachesInWord a (passes 2) h in
+      eqb-true (placeOf step) yellow (implied (yellowLit r a) (eqb (placeOf step) yellow) t y)
+
+  some : placeOf step ≡ yellow → SomeYellow order step
+  unfolding rowTests
+  some e =
+      let a = someYellow r in
+      let b = implied (eqb (placeOf step) yellow) (both (ltb a approachesInWord) (yellowLit r a)) (passes 3) (eq-eqb (placeOf step) yellow e) in
+      record {
+        approach = a;
+        within = ltb-true a approachesInWord (both-left (ltb a approachesInWord) (yellowLit r a) b);
+        shown = rw there (both-right (ltb a approachesInWord) (yellowLit r a) b);
+      }
+
+  pub as-named : AsNamed order step
+  as-named = record {
+    flashes = rw (there, flashingOf) flashes;
+    men = rw there men;
+    yellows = rw there yellows;
+    some = some;
+  }
+
+  module _ (a : ℕ) (n : Step order (step + 1)) (h : a < approachesInWord) where
+    abbrev next : Row
+    next = rowIn d step
+
+    next-there : rowOf order (step + 1) ≡ next
+    next-there = row-after order step (omega (arith, n .last))
+
+    follow : follows r next a ≡ true
+    unfolding rowTests
+    follow =
+        let e : step - 1 + 1 ≡ step = omega (arith, s .first) in
+        let t = implied (ltb (i + 1) (stepsIn d)) (below (follows r (rowIn d (i + 1))) approachesInWord) (passes 4) (lt-ltb (i + 1) (stepsIn d) (omega (arith, s .first, n .last))) in
+        subst (λ (k : ℕ). follows r (rowIn d k) a ≡ true) e (below-at (follows r (rowIn d (i + 1))) approachesInWord a t h)
+
+    pub followed : Follows order step a
+    unfolding follows
+    followed =
+        let g = implies (greenLit r a) (greenLit next a || yellowLit next a) in
+        let y = implies (yellowLit r a) (redLit next a) in
+        record {
+          green = rw (there, next-there) (implied (greenLit r a) (greenLit next a || yellowLit next a) (both-left g y follow));
+          yellow = rw (there, next-there) (implied (yellowLit r a) (redLit next a) (both-right g y follow));
+        }
+
+pub steps-as-named : StepsAsNamed
+steps-as-named order step s = as-named order step s
+
+pub green-yellow-red : GreenYellowRed
+green-yellow-red order step a s n h = followed order step s a n h
+
+pub ends-red : EndsRed
+unfolding diagramTests endsRed
+ends-red order a h u =
+    let d = diagramOf order in
+    let some = ltb 0 (stepsIn d) in
+    let red = redLit (rowIn d (lastIn d)) a in
+    let b = implied (bit (d .approaches) a) (both some red) (below-at (endsRed d) approachesInWord a (diagram-passes order 1) h) u in
+    rw (row-there order (stepsIn d) (ltb-true 0 (stepsIn d) (both-left some red b)) (omega arith)) (both-right some red b)
+
+pub each-served : EachServed
+unfolding diagramTests served straight
+each-served order a h u =
+    let d = diagramOf order in
+    let i = goes d a in
+    let within = ltb i (stepsIn d) in
+    let green = straight (rowIn d i) a in
+    let b = implied (bit (d .approaches) a) (both within green) (below-at (served d) approachesInWord a (diagram-passes order 2) h) u in
+    let l = ltb-true i (stepsIn d) (both-left within green b) in
+    record {
+      step = i + 1;
+      has = record { first = omega arith; last = omega (arith, l) };
+      green = rw (row-after order i l) (both-right within green b);
+    }

@@ -1,0 +1,68 @@
+-- 01, "Lamps and seconds": what the five steps of a phase show, by their names, and how an approach's lamps follow each other.
+use Prim.Native.Nat.{ℕ, _+_, _-_, _%_, _≤_, _<_}
+use mathlib.Core.Path.{_≡_}
+use mathlib.Core.Bool.{true, false, _||_}
+use mathlib.Core.Logic.{_⊎_}
+use Rattle.diagram.specs.Table.{stepsAPhase, stepsOf, rowOf, flashingOf}
+use Rattle.diagram.specs.Known.{Step}
+use Rattle.diagram.specs.Lamps.{lampIn, lampsAnApproach, approachesInWord, redLit, yellowLit, greenLit, roundLit, straightLit, greenManLit, uses}
+
+-- The five steps of a phase
+
+-- the place of a step in its phase: 1 for green, on to 5 for all-red
+abbrev pub placeOf : ℕ → ℕ
+placeOf step = (step - 1) % stepsAPhase + 1
+
+abbrev pub walkFlash : ℕ
+walkFlash = 2
+
+abbrev pub redMan : ℕ
+redMan = 3
+
+abbrev pub yellow : ℕ
+yellow = 4
+
+-- an approach shows yellow
+pub record SomeYellow (order step : ℕ) : Type 0 where
+  pub approach : ℕ
+  pub within : approach < approachesInWord
+  pub shown : yellowLit (rowOf order step) approach ≡ true
+
+pub record AsNamed (order step : ℕ) : Type 0 where
+  -- a lamp that flashes is a green man, in the step of the walk flash
+  pub flashes : (m : ℕ) → lampIn (flashingOf order step) m ≡ true → (m % lampsAnApproach ≡ 0) × (placeOf step ≡ walkFlash)
+  -- from the step of the red man on no green man is lit
+  pub men : (a : ℕ) → a < approachesInWord → redMan ≤ placeOf step → greenManLit (rowOf order step) a ≡ false
+  -- yellow is shown in its own step alone, and there by some approach
+  pub yellows : (a : ℕ) → a < approachesInWord → yellowLit (rowOf order step) a ≡ true → placeOf step ≡ yellow
+  pub some : placeOf step ≡ yellow → SomeYellow order step
+
+-- Each step of each order shows what its name says.
+abbrev pub StepsAsNamed : Type 0
+StepsAsNamed = (order step : ℕ) → Step order step → AsNamed order step
+
+-- One step after another
+
+pub record Follows (order step a : ℕ) : Type 0 where
+  -- green goes on, or yellow follows
+  pub green : greenLit (rowOf order step) a ≡ true → (greenLit (rowOf order (step + 1)) a || yellowLit (rowOf order (step + 1)) a) ≡ true
+  -- red follows yellow
+  pub yellow : yellowLit (rowOf order step) a ≡ true → redLit (rowOf order (step + 1)) a ≡ true
+
+-- From one step of a cycle to its next, no green turns red but by yellow.
+abbrev pub GreenYellowRed : Type 0
+GreenYellowRed = (order step a : ℕ) → Step order step → Step order (step + 1) → a < approachesInWord → Follows order step a
+
+-- The last step of an order shows red at each approach that it uses, whatever order comes next.
+abbrev pub EndsRed : Type 0
+EndsRed = (order a : ℕ) → a < approachesInWord → uses order a ≡ true → redLit (rowOf order (stepsOf order)) a ≡ true
+
+-- a step that lets the approach's vehicles go straight on
+pub record StraightOn (order a : ℕ) : Type 0 where
+  pub step : ℕ
+  pub has : Step order step
+  pub green : (roundLit (rowOf order step) a || straightLit (rowOf order step) a) ≡ true
+
+-- No approach that is used waits for ever.
+abbrev pub EachServed : Type 0
+EachServed = (order a : ℕ) → a < approachesInWord → uses order a ≡ true → StraightOn order a
