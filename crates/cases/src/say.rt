@@ -24,10 +24,10 @@ fn hex2(b: u8) {
     text(&t);
 }
 
-// A lamp word in eight digits; in the base no lamp has a number over 32.
+// A lamp word in sixteen digits, as in the listing.
 pub(crate) fn word(x: u64) {
-    let mut t = [0u8; 8];
-    text::put_hex8((x % 4_294_967_296) as u32, &mut t, 0);
+    let mut t = [0u8; 16];
+    text::put_hex16(x, &mut t, 0);
     text(&t);
 }
 

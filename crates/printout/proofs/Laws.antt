@@ -9,7 +9,7 @@ use lib.Seq.{sets-eq, take-at}
 use Rattle.octets.specs.Put.{Stored, Put}
 use Rattle.octets.proofs.Laws.{pick-by}
 use Rattle.text.specs.Text.{codes, octetsHex}
-use Rattle.text.proofs.Laws.{octets-length}
+use Rattle.text.proofs.Laws.{hex16-length, octets-length}
 use Rattle.line.specs.declared.Found.the-variants as found
 use Rattle.line.specs.Line.{lineFeed}
 use Rattle.controller.specs.declared.State.{State}
@@ -18,7 +18,7 @@ use Rattle.controller.specs.State.{outputLen}
 use Rattle.controller.specs.Replies.{Did, octetOf}
 use Rattle.controller.proofs.Answering.{outputs-left}
 use Rattle.printout.specs.declared.run.Run.{Run}
-use Rattle.printout.specs.Listing.{replyLine}
+use Rattle.printout.specs.Listing.{wordText, replyLine}
 use Rattle.printout.specs.Run.{textMost, Said, Listed, secondSaid, badSaid, octetMade, madeOf}
 
 -- Text
@@ -35,6 +35,10 @@ put-nothing l i =
       place = pick-by (λ (k : ℕ). i ≡ k) (leb (i + 0) (length l)) (λ _. omega arith) (λ _. refl);
       holds = pick-by (λ (k : List ℕ). l ≡ k) (leb (i + 0) (length l)) (λ _. refl) (λ _. refl);
     }
+
+pub word-length : (x : ℕ) → length (wordText x) ≡ 16
+unfolding wordText
+word-length x = hex16-length _
 
 pub reply-none : (xs : List ℕ) → length xs ≡ 0 → replyLine xs ≡ []
 unfolding replyLine

@@ -1,7 +1,7 @@
 -- 01, "Cases": what the listing program prints, in ASCII codes.
-use Prim.Native.Nat.{ℕ, _%_, _^_}
+use Prim.Native.Nat.{ℕ}
 use mathlib.Core.List.{List, [], _∷_, _++_}
-use Rattle.text.specs.Text.{codes, hex8, decimal, octetsHex}
+use Rattle.text.specs.Text.{codes, hex16, decimal, octetsHex}
 use Rattle.line.specs.Line.{tab, lineFeed}
 use Rattle.lamps.specs.declared.Row.{Row}
 
@@ -11,10 +11,10 @@ abbrev pub fieldMost : ℕ
 fieldMost = 21
 
 abbrev pub wordMost : ℕ
-wordMost = 9
+wordMost = 17
 
 abbrev pub lineMost : ℕ
-lineMost = 102
+lineMost = 118
 
 -- "It prints a header"
 unfoldable pub header : List ℕ
@@ -24,15 +24,11 @@ header = codes "second\tplan\tstep\tleft\tsteady\tflashing\n"
 unfoldable pub field : ℕ → List ℕ
 field n = decimal n ++ tab ∷ []
 
--- the lamps of approaches A to D are the low 32 bits of a word
-abbrev pub wordLimit : ℕ
-wordLimit = 2 ^ 32
-
--- "steady and flashing as eight hex digits": what a word has below the limit
+-- 02, E2: "The listing prints sixteen digits a word."
 unfoldable pub wordText : ℕ → List ℕ
-wordText x = hex8 (x % wordLimit)
+wordText x = hex16 x
 
--- "for each T one line (seconds so far, plan, step, left, steady and flashing as eight hex digits)"
+-- "for each T one line (seconds so far, plan, step, left, steady and flashing ..)"
 unfoldable pub numbers : ℕ → ℕ → Row → List ℕ
 numbers n plan row = field n ++ field plan ++ field (row .step) ++ field (row .left)
 

@@ -1,31 +1,28 @@
--- 01, "Cases": the lamp words are printed whole; two T lines print what 01 shows, and P1's octets its reply.
-use Prim.Native.Nat.{ℕ}
+-- 01, "Cases", and 02, E2: the lamp words are printed whole; two T lines print what 01 shows, its words with sixteen digits, and
+-- P1's octets their reply.
+use Prim.Native.Nat.{ℕ, _^_, _<_}
 use mathlib.Core.Path.{_≡_}
-use mathlib.Core.List.{List, _++_}
+use mathlib.Core.List.{_++_}
 use Rattle.text.specs.Text.{codes}
 use Rattle.text.specs.Promises.{Means}
-use Rattle.controller.specs.declared.State.{State}
-use Rattle.controller.specs.Seconds.{secondOf}
 use Rattle.printout.specs.Listing.{wordText}
 use Rattle.printout.specs.Run.{listingOf}
 
 -- The lamp words
 
--- eight hex digits that stand for the word
-abbrev pub Whole : ℕ → Type 0
-Whole word = Means 16 8 word (wordText word)
-
--- whatever a second shows, no lit lamp is missing from its line
+-- "a 64-bit steady word and a flashing word": the sixteen digits stand for any such word, and no lit lamp is missing
 abbrev pub WordsWhole : Type 0
-WordsWhole = (s : State) (book : List ℕ) → Whole (secondOf s book .row .steady) × Whole (secondOf s book .row .flashing)
+WordsWhole = (word : ℕ) → word < 2 ^ 64 → Means 16 16 word (wordText word)
 
 -- 01's listing
 
--- "Two T lines give, fields parted by tabs"
+-- "Two T lines give, fields parted by tabs"; 02, E2: "The listing prints sixteen digits a word."
 abbrev pub TwoSeconds : Type 0
 TwoSeconds =
     listingOf (codes "T\nT\n")
-    ≡ codes "second\tplan\tstep\tleft\tsteady\tflashing\n0\t0\t1\t18\t41418888\t00000000\n1\t0\t1\t17\t41418888\t00000000\n"
+    ≡ codes "second\tplan\tstep\tleft\tsteady\tflashing\n"
+    ++ codes "0\t0\t1\t18\t0000000041418888\t0000000000000000\n"
+    ++ codes "1\t0\t1\t17\t0000000041418888\t0000000000000000\n"
 
 -- P1 as octets, in capitals or not, and a bad line: "`reply`, tab, octets in hex with spaces, and for a bad line `bad`, tab, its
 -- number from 1"; the reply is P2 and P3

@@ -10,11 +10,8 @@ ghost use Rattle.octets.specs.Put.{Put, Stored};
 ghost use Rattle.printout.specs.Listing.{lineMost, fieldMost, wordMost, header, field, numbers, wordText, secondLine, replyLine, badLine};
 use lamps::Row;
 
-// The longest line of a second: four numbers of 20 digits and a tab, two words of eight digits and what follows each.
-const LINE_MOST: usize = 102;
-
-// The lamps of approaches A to D are the low 32 bits of a word, all that is printed.
-const WORD_LIMIT: u64 = 0x1_0000_0000;
+// The longest line of a second: four numbers of 20 digits and a tab, two words of sixteen digits and what follows each.
+const LINE_MOST: usize = 118;
 
 // "It prints a header".
 pub fn put_header(out: &mut [u8], at: usize) -> usize
@@ -23,7 +20,7 @@ pub fn put_header(out: &mut [u8], at: usize) -> usize
     octets::put(b"second\tplan\tstep\tleft\tsteady\tflashing\n", out, at)
 }
 
-// "for each T one line (seconds so far, plan, step, left, steady and flashing as eight hex digits)".
+// "for each T one line (seconds so far, plan, step, left, steady and flashing ..)".
 pub fn put_second(n: u64, plan: u8, row: Row, out: &mut [u8], at: usize) -> usize
     ensures { λ r. ⌜ Put (secondLine n plan row) at (now (out .entry)) r (now (out .exit)) × (length (secondLine n plan row) ≤ lineMost) ⌝ }
 {
@@ -86,12 +83,12 @@ fn store_field(n: u64, line: &mut [u8], at: usize) -> usize
     octets::put(b"\t", line, p)
 }
 
-// A lamp word "as eight hex digits" and what follows it.
+// 02, E2: "The listing prints sixteen digits a word": a lamp word and what follows it.
 fn store_word(x: u64, mark: u8, line: &mut [u8], at: usize) -> usize
     requires { ⌜ at + wordMost ≤ length (now line) ⌝ }
     ensures { λ r. ⌜ Stored (wordText x ++ mark ∷ []) at (now (line .entry)) r (now (line .exit)) × (r ≤ at + wordMost) ⌝ }
 {
-    let p = text::put_hex8((x % WORD_LIMIT) as u32, &mut *line, at);
+    let p = text::put_hex16(x, &mut *line, at);
     octets::put(&[mark], line, p)
 }
 

@@ -9,7 +9,7 @@ use borrow.Author.Tests.{lt-ltb, le-ltb}
 use lib.ListN.{length, set, take, drop, getD, length-append}
 use lib.Seq.{sets, set-comm, sets-eq, take-at}
 use Rattle.octets.proofs.Laws.{drop-next}
-use Rattle.text.specs.Text.{digit, digits, hex2, hex8, placesWithin, places, digitsMost, decimal, blankHex2, spaced, octetsHex}
+use Rattle.text.specs.Text.{digit, digits, hex2, hex16, placesWithin, places, digitsMost, decimal, blankHex2, spaced, octetsHex}
 
 -- Digits
 
@@ -21,8 +21,8 @@ digits-length b (suc k) n = omega (arith, length-append (digits b k (n / b)) (di
 pub hex2-length : (x : ℕ) → length (hex2 x) ≡ 2
 hex2-length x = digits-length 16 2 x
 
-pub hex8-length : (x : ℕ) → length (hex8 x) ≡ 8
-hex8-length x = digits-length 16 8 x
+pub hex16-length : (x : ℕ) → length (hex16 x) ≡ 16
+hex16-length x = digits-length 16 16 x
 
 -- the last of k digits, and those before it
 digits-last : (b k n : ℕ) → 0 < k → digits b k n ≡ digits b (k - 1) (n / b) ++ (digit (n % b) ∷ [])

@@ -20,12 +20,12 @@ unfoldable pub digits : ℕ → ℕ → ℕ → List ℕ
 digits b zero n = []
 digits b (suc k) n = digits b k (n / b) ++ (digit (n % b) ∷ [])
 
--- "Hex prints in capitals": an octet as two digits, a lamp word as eight
+-- "Hex prints in capitals": an octet as two digits, a lamp word as sixteen
 abbrev pub hex2 : ℕ → List ℕ
 hex2 x = digits 16 2 x
 
-abbrev pub hex8 : ℕ → List ℕ
-hex8 x = digits 16 8 x
+abbrev pub hex16 : ℕ → List ℕ
+hex16 x = digits 16 16 x
 
 -- how many digits n has in decimal, where f divisions by ten leave less than ten of it
 unfoldable pub placesWithin : ℕ → ℕ → ℕ

@@ -4,7 +4,7 @@ ghost use mathlib.Core.Path.{_≡_};
 ghost use Prim.Native.Nat.{_+_, _≤_, _<_};
 ghost use lib.ListN.{length, take};
 ghost use Rattle.octets.specs.Put.{Put, Stored};
-ghost use Rattle.text.specs.Text.{digit, digits, digitsMost, hex2, hex8, places, decimal, blankHex2, spaced, octetsHex};
+ghost use Rattle.text.specs.Text.{digit, digits, digitsMost, hex2, hex16, places, decimal, blankHex2, spaced, octetsHex};
 
 // The digits of the longest number here, 2^64 - 1 in decimal.
 const DIGITS_MOST: usize = 20;
@@ -16,11 +16,11 @@ pub fn put_hex2(b: u8, out: &mut [u8], at: usize) -> usize
     put_digits(b as u64, 16, 2, out, at)
 }
 
-// A word of 32 bits as eight hexadecimal digits.
-pub fn put_hex8(x: u32, out: &mut [u8], at: usize) -> usize
-    ensures { λ r. ⌜ Put (hex8 x) at (now (out .entry)) r (now (out .exit)) ⌝ }
+// A word of 64 bits as sixteen hexadecimal digits.
+pub fn put_hex16(x: u64, out: &mut [u8], at: usize) -> usize
+    ensures { λ r. ⌜ Put (hex16 x) at (now (out .entry)) r (now (out .exit)) ⌝ }
 {
-    put_digits(x as u64, 16, 8, out, at)
+    put_digits(x, 16, 16, out, at)
 }
 
 // A number in decimal, with no zeros in front.

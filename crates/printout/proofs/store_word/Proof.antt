@@ -1,9 +1,8 @@
--- `printout::store_word` meets its contract: there is room for eight digits and what follows them.
-use Prim.Native.Nat.{_%_}
+-- `printout::store_word` meets its contract: there is room for sixteen digits and what follows them.
 use native.Mathlib.Omega.{arith}
 use Rattle.octets.proofs.Laws.{put-stored, stored-then}
-use Rattle.text.proofs.Laws.{hex8-length}
-use Rattle.printout.specs.Listing.{wordLimit, wordText}
+use Rattle.printout.specs.Listing.{wordText}
+use Rattle.printout.proofs.Laws.{word-length}
 use borrow.Author.Needs.{needs}
 use Rattle.printout.proofs.store_word.Statement.{statement}
 use Rattle.printout.proofs.store_word.Tie as tie
@@ -11,8 +10,8 @@ use Rattle.printout.proofs.store_word.Tie as tie
 returns : tie.Need-returns
 unfolding wordText
 returns c =
-    let d = hex8-length (c .before .before .before .before .before .before .before .before .before .before .args .x % wordLimit) in
-    let p = put-stored (c .before .before .before .before .before .before .before .put-hex8 .ensures) (omega (arith, d)) in
+    let d = word-length (c .before .before .before .before .before .before .before .before .before .before .args .x) in
+    let p = put-stored (c .before .before .before .before .before .before .before .put-hex16 .ensures) (omega (arith, d)) in
     let q = put-stored (c .before .before .put .ensures) (omega (arith, d, p .place, p .long)) in
     (stored-then p q, omega (arith, d, p .place, q .place))
 
@@ -20,7 +19,6 @@ pub store-word-spec : {M : Type 1} → statement M
 store-word-spec =
     tie.close
     (tie.spec
-    (λ c. search needs)
     (λ c κs. search needs)
     (λ c. search needs)
     (λ c κs. search needs)
