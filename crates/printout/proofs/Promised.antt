@@ -1,10 +1,19 @@
--- The promises of specs/Promises.antt: the words by what digits mean, 01's listing by computation.
-use mathlib.Core.Path.{refl}
+-- The promises of specs/Promises.antt: the words by those of the diagrams, 01's listing by computation.
+use Prim.Native.Nat.{ℕ, _^_, _<_}
+use mathlib.Core.Path.{_≡_, refl}
+use mathlib.Core.Bool.{not}
+use mathlib.Core.List.{List}
+use native.Mathlib.Decide.{decLt}
 use native.Mathlib.Omega.{arith}
+use lib.Dec.{eqb}
+use lib.ListN.{length}
 use Rattle.octets.specs.ExclusiveOr.{xor, exclusiveOr}
 use Rattle.octets.specs.First.{firstOf}
+use Rattle.octets.proofs.Laws.{pick-by}
 use Rattle.diagram.specs.Rows as table
 use Rattle.diagram.specs.Table as diagram
+use Rattle.diagram.specs.Lamps.{lastLamp}
+use Rattle.diagram.proofs.Words.{words-fit}
 use Rattle.frame.specs.Frame.{frontOf, bodyOf, sentOf, cksOf, twice, doubled, written}
 use Rattle.frame.specs.Decoder.{freshDecoder, possibleOf, frontIn, cksIn, stepOf, takenOf}
 use Rattle.message.specs.Layouts.{layouts, layoutAt, known, numberOf, rowsAt}
@@ -12,29 +21,54 @@ use Rattle.message.specs.Layouts as message
 use Rattle.message.specs.Values.{zeros, placed, firstOut}
 use Rattle.message.specs.Reader.{noMessage, refusedAs, partOf, rangedOf, readPartOf, readOf}
 use Rattle.message.specs.Writer.{infoAs}
+use Rattle.record.specs.Record.{bookLen, orderOf}
 use Rattle.checks.specs.Standing.{timesDisagree, planDisagree, ranged, timesStand, planStands, readyStands, allZero, standingOf}
 use Rattle.plan.specs.BuiltIn.{padded, builtIn}
 use Rattle.plan.specs.Reading.{same}
 use Rattle.plan.specs.Reporting.{planInfo, reportPlanOf}
 use Rattle.lamps.specs.Rows.{phaseTable, secondsOf, rowAt}
 use Rattle.lamps.specs.Rows as lamps
+use Rattle.lamps.specs.declared.Row.{Row}
+use Rattle.lamps.proofs.Second.{lamps-of-step, dark-past}
+use Rattle.controller.specs.declared.State.{State}
+use Rattle.controller.specs.declared.Shown.{Shown}
 use Rattle.controller.specs.State.{freshOf, runningSound, soundOf}
 use Rattle.controller.specs.Handling.{queryRunningAs, handlingOf}
 use Rattle.controller.specs.Replies.{repliedOf, messageOf, doneOf, octetOf}
-use Rattle.controller.specs.Seconds.{movedOn, secondOf}
+use Rattle.controller.specs.Seconds.{movedOn, noSecond, secondOf}
 use Rattle.text.specs.Text.{digits, placesWithin, places, decimal, blankHex2, spaced, octetsHex}
 use Rattle.text.proofs.Means.{hex-means}
 use Rattle.line.specs.Line as line
 use Rattle.line.specs.Promises.{founds, after, foundIn}
 use Rattle.printout.specs.Listing.{header, field, wordText, numbers, secondLine, replyLine, badLine}
 use Rattle.printout.specs.Run.{secondSaid, badSaid, octetMade, madeOf, listingFrom, listingOf}
-use Rattle.printout.specs.Promises.{WordsWhole, TwoSeconds, ReplyAndBad}
+use Rattle.printout.specs.Promises.{Whole, WordsWhole, TwoSeconds, ReplyAndBad}
 
 -- Words
 
-pub words-whole : WordsWhole
+whole : (word : ℕ) → word < 2 ^ lastLamp → Whole word
 unfolding wordText
-words-whole word h = hex-means 16 word (omega arith)
+whole word h = hex-means 16 word (omega arith)
+
+abbrev Fits : Row → Type 0
+Fits r = (r .steady < 2 ^ lastLamp) × (r .flashing < 2 ^ lastLamp)
+
+row-fits : (rec : List ℕ) (p : ℕ) → Fits (rowAt rec p)
+row-fits rec p =
+    elim (decLt p (length (lamps.rowsOf rec))) [
+      | yes h ↦ let d = lamps-of-step rec p h in let w = words-fit (orderOf rec) (rowAt rec p .step) in (rw (d .steady) (w .0), rw (d .flashing) (w .1))
+      | no h ↦ rw (dark-past rec p (omega arith)) (omega arith, omega arith)
+    ]
+
+second-fits : (s : State) (book : List ℕ) → Fits (secondOf s book .row)
+unfolding secondOf noSecond
+second-fits s book =
+    let P : Shown → Type 0 = λ w. Fits (w .row) in
+    pick-by P (not (soundOf s)) (λ _. (omega arith, omega arith))
+    (λ _. pick-by P (not (eqb (length book) bookLen)) (λ _. (omega arith, omega arith)) (λ _. row-fits (s .running .copy) (s .running .position)))
+
+pub words-whole : WordsWhole
+words-whole s book = let f = second-fits s book in (whole (secondOf s book .row .steady) (f .0), whole (secondOf s book .row .flashing) (f .1))
 
 -- 01's listing
 

@@ -1,18 +1,24 @@
 -- 01, "Cases", and 02, E2: the lamp words are printed whole; two T lines print what 01 shows, its words with sixteen digits, and
 -- P1's octets their reply.
-use Prim.Native.Nat.{ℕ, _^_, _<_}
+use Prim.Native.Nat.{ℕ}
 use mathlib.Core.Path.{_≡_}
-use mathlib.Core.List.{_++_}
+use mathlib.Core.List.{List, _++_}
 use Rattle.text.specs.Text.{codes}
 use Rattle.text.specs.Promises.{Means}
+use Rattle.controller.specs.declared.State.{State}
+use Rattle.controller.specs.Seconds.{secondOf}
 use Rattle.printout.specs.Listing.{wordText}
 use Rattle.printout.specs.Run.{listingOf}
 
 -- The lamp words
 
--- "a 64-bit steady word and a flashing word": the sixteen digits stand for any such word, and no lit lamp is missing
+-- sixteen hex digits that stand for the word
+abbrev pub Whole : ℕ → Type 0
+Whole word = Means 16 16 word (wordText word)
+
+-- whatever a second shows, no lit lamp is missing from its line
 abbrev pub WordsWhole : Type 0
-WordsWhole = (word : ℕ) → word < 2 ^ 64 → Means 16 16 word (wordText word)
+WordsWhole = (s : State) (book : List ℕ) → Whole (secondOf s book .row .steady) × Whole (secondOf s book .row .flashing)
 
 -- 01's listing
 
