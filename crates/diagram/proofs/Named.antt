@@ -86,13 +86,13 @@ served d a = implies (bit (d .approaches) a) (both (ltb (goes d a) (stepsIn d)) 
 diagramTests : Diagram → List Bool
 diagramTests d = below (λ i. all (rowTests d i)) (stepsIn d) ∷ below (endsRed d) approachesInWord ∷ below (served d) approachesInWord ∷ []
 
-table-fits : every (λ d. all (diagramTests d)) directory ≡ true
+diagrams-pass : every (λ d. all (diagramTests d)) directory ≡ true
 unfolding every below all search-below diagramTests rowTests flashFits manFits yellowFits someYellow follows endsRed straight goes served lit greenLit directory rows
-table-fits = refl
+diagrams-pass = refl
 
 diagram-passes : (order k : ℕ) → getD (diagramTests (diagramOf order)) k true ≡ true
 unfolding every all diagramTests below endsRed served
-diagram-passes order k = all-at (diagramTests (diagramOf order)) k (found-passes (λ d. all (diagramTests d)) table-fits (λ _. refl) order)
+diagram-passes order k = all-at (diagramTests (diagramOf order)) k (found-passes (λ d. all (diagramTests d)) diagrams-pass (λ _. refl) order)
 
 -- the row of the step after i steps
 row-after : (order i : ℕ) → i < stepsIn (diagramOf order) → rowOf order (i + 1) ≡ rowIn (diagramOf order) i

@@ -9,8 +9,8 @@ mod rows;
 use crate::rows::APPROACHES;
 use crate::rows::FIRST_ROWS;
 use crate::rows::FLASHING;
+use crate::rows::LINE_OF;
 use crate::rows::LINES;
-use crate::rows::ORDERS;
 use crate::rows::PHASES;
 use crate::rows::ROWS;
 use crate::rows::STEADY;
@@ -26,19 +26,18 @@ struct Diagram {
     approaches: u8,
 }
 
-// The first line with that order; one with no phases and no approaches where there is none.
+// The line of an order; one with no phases and no approaches where there is none.
 fn find(order: u8) -> Diagram
     ensures { λ r. ⌜ r ≡ diagramOf order ⌝ }
 {
-    for i in 0..LINES {
-        if ORDERS[i] == order {
-            return Diagram {
-                order,
-                first: FIRST_ROWS[i],
-                phases: PHASES[i],
-                approaches: APPROACHES[i],
-            };
-        }
+    let line = LINE_OF[order as usize] as usize;
+    if line < LINES {
+        return Diagram {
+            order,
+            first: FIRST_ROWS[line],
+            phases: PHASES[line],
+            approaches: APPROACHES[line],
+        };
     }
     Diagram {
         order,

@@ -973,118 +973,352 @@ pub const FLASHING: [u64; ROWS] = [
 
 pub const LINES: usize = 25;
 
-// The phase orders, by Appendix 1's number and class.
-pub const ORDERS: [u8; LINES] = [
-    0x00, // 00 (A)
-    0x20, // 07 (A)
-    0x38, // 14 (A)
-    0x50, // 19 (A)
-    0x51, // 19 (B)
-    0x52, // 20 (A)
-    0x53, // 20 (B)
-    0x54, // 20 (C)
-    0x55, // 20 (D)
-    0x56, // 21 (A)
-    0x57, // 21 (B)
-    0x60, // 22 (A)
-    0x61, // 22 (B)
-    0x62, // 23 (A)
-    0x63, // 23 (B)
-    0x64, // 24 (A)
-    0x65, // 24 (B)
-    0x66, // 25 (A)
-    0x67, // 25 (B)
-    0x68, // 26 (A)
-    0x69, // 26 (B)
-    0x6a, // 27 (A)
-    0x6b, // 27 (B)
-    0x6c, // 28 (A)
-    0x6d, // 28 (B)
+// The line of an order that is not supported: past the last.
+const NO_LINE: u8 = LINES as u8;
+
+// The line of each phase order, from 0.
+pub const LINE_OF: [u8; 256] = [
+    0, // line of 00
+    NO_LINE, // line of 01
+    NO_LINE, // line of 02
+    NO_LINE, // line of 03
+    NO_LINE, // line of 04
+    NO_LINE, // line of 05
+    NO_LINE, // line of 06
+    NO_LINE, // line of 07
+    NO_LINE, // line of 08
+    NO_LINE, // line of 09
+    NO_LINE, // line of 0A
+    NO_LINE, // line of 0B
+    NO_LINE, // line of 0C
+    NO_LINE, // line of 0D
+    NO_LINE, // line of 0E
+    NO_LINE, // line of 0F
+    NO_LINE, // line of 10
+    NO_LINE, // line of 11
+    NO_LINE, // line of 12
+    NO_LINE, // line of 13
+    NO_LINE, // line of 14
+    NO_LINE, // line of 15
+    NO_LINE, // line of 16
+    NO_LINE, // line of 17
+    NO_LINE, // line of 18
+    NO_LINE, // line of 19
+    NO_LINE, // line of 1A
+    NO_LINE, // line of 1B
+    NO_LINE, // line of 1C
+    NO_LINE, // line of 1D
+    NO_LINE, // line of 1E
+    NO_LINE, // line of 1F
+    1, // line of 20
+    NO_LINE, // line of 21
+    NO_LINE, // line of 22
+    NO_LINE, // line of 23
+    NO_LINE, // line of 24
+    NO_LINE, // line of 25
+    NO_LINE, // line of 26
+    NO_LINE, // line of 27
+    NO_LINE, // line of 28
+    NO_LINE, // line of 29
+    NO_LINE, // line of 2A
+    NO_LINE, // line of 2B
+    NO_LINE, // line of 2C
+    NO_LINE, // line of 2D
+    NO_LINE, // line of 2E
+    NO_LINE, // line of 2F
+    NO_LINE, // line of 30
+    NO_LINE, // line of 31
+    NO_LINE, // line of 32
+    NO_LINE, // line of 33
+    NO_LINE, // line of 34
+    NO_LINE, // line of 35
+    NO_LINE, // line of 36
+    NO_LINE, // line of 37
+    2, // line of 38
+    NO_LINE, // line of 39
+    NO_LINE, // line of 3A
+    NO_LINE, // line of 3B
+    NO_LINE, // line of 3C
+    NO_LINE, // line of 3D
+    NO_LINE, // line of 3E
+    NO_LINE, // line of 3F
+    NO_LINE, // line of 40
+    NO_LINE, // line of 41
+    NO_LINE, // line of 42
+    NO_LINE, // line of 43
+    NO_LINE, // line of 44
+    NO_LINE, // line of 45
+    NO_LINE, // line of 46
+    NO_LINE, // line of 47
+    NO_LINE, // line of 48
+    NO_LINE, // line of 49
+    NO_LINE, // line of 4A
+    NO_LINE, // line of 4B
+    NO_LINE, // line of 4C
+    NO_LINE, // line of 4D
+    NO_LINE, // line of 4E
+    NO_LINE, // line of 4F
+    3, // line of 50
+    4, // line of 51
+    5, // line of 52
+    6, // line of 53
+    7, // line of 54
+    8, // line of 55
+    9, // line of 56
+    10, // line of 57
+    NO_LINE, // line of 58
+    NO_LINE, // line of 59
+    NO_LINE, // line of 5A
+    NO_LINE, // line of 5B
+    NO_LINE, // line of 5C
+    NO_LINE, // line of 5D
+    NO_LINE, // line of 5E
+    NO_LINE, // line of 5F
+    11, // line of 60
+    12, // line of 61
+    13, // line of 62
+    14, // line of 63
+    15, // line of 64
+    16, // line of 65
+    17, // line of 66
+    18, // line of 67
+    19, // line of 68
+    20, // line of 69
+    21, // line of 6A
+    22, // line of 6B
+    23, // line of 6C
+    24, // line of 6D
+    NO_LINE, // line of 6E
+    NO_LINE, // line of 6F
+    NO_LINE, // line of 70
+    NO_LINE, // line of 71
+    NO_LINE, // line of 72
+    NO_LINE, // line of 73
+    NO_LINE, // line of 74
+    NO_LINE, // line of 75
+    NO_LINE, // line of 76
+    NO_LINE, // line of 77
+    NO_LINE, // line of 78
+    NO_LINE, // line of 79
+    NO_LINE, // line of 7A
+    NO_LINE, // line of 7B
+    NO_LINE, // line of 7C
+    NO_LINE, // line of 7D
+    NO_LINE, // line of 7E
+    NO_LINE, // line of 7F
+    NO_LINE, // line of 80
+    NO_LINE, // line of 81
+    NO_LINE, // line of 82
+    NO_LINE, // line of 83
+    NO_LINE, // line of 84
+    NO_LINE, // line of 85
+    NO_LINE, // line of 86
+    NO_LINE, // line of 87
+    NO_LINE, // line of 88
+    NO_LINE, // line of 89
+    NO_LINE, // line of 8A
+    NO_LINE, // line of 8B
+    NO_LINE, // line of 8C
+    NO_LINE, // line of 8D
+    NO_LINE, // line of 8E
+    NO_LINE, // line of 8F
+    NO_LINE, // line of 90
+    NO_LINE, // line of 91
+    NO_LINE, // line of 92
+    NO_LINE, // line of 93
+    NO_LINE, // line of 94
+    NO_LINE, // line of 95
+    NO_LINE, // line of 96
+    NO_LINE, // line of 97
+    NO_LINE, // line of 98
+    NO_LINE, // line of 99
+    NO_LINE, // line of 9A
+    NO_LINE, // line of 9B
+    NO_LINE, // line of 9C
+    NO_LINE, // line of 9D
+    NO_LINE, // line of 9E
+    NO_LINE, // line of 9F
+    NO_LINE, // line of A0
+    NO_LINE, // line of A1
+    NO_LINE, // line of A2
+    NO_LINE, // line of A3
+    NO_LINE, // line of A4
+    NO_LINE, // line of A5
+    NO_LINE, // line of A6
+    NO_LINE, // line of A7
+    NO_LINE, // line of A8
+    NO_LINE, // line of A9
+    NO_LINE, // line of AA
+    NO_LINE, // line of AB
+    NO_LINE, // line of AC
+    NO_LINE, // line of AD
+    NO_LINE, // line of AE
+    NO_LINE, // line of AF
+    NO_LINE, // line of B0
+    NO_LINE, // line of B1
+    NO_LINE, // line of B2
+    NO_LINE, // line of B3
+    NO_LINE, // line of B4
+    NO_LINE, // line of B5
+    NO_LINE, // line of B6
+    NO_LINE, // line of B7
+    NO_LINE, // line of B8
+    NO_LINE, // line of B9
+    NO_LINE, // line of BA
+    NO_LINE, // line of BB
+    NO_LINE, // line of BC
+    NO_LINE, // line of BD
+    NO_LINE, // line of BE
+    NO_LINE, // line of BF
+    NO_LINE, // line of C0
+    NO_LINE, // line of C1
+    NO_LINE, // line of C2
+    NO_LINE, // line of C3
+    NO_LINE, // line of C4
+    NO_LINE, // line of C5
+    NO_LINE, // line of C6
+    NO_LINE, // line of C7
+    NO_LINE, // line of C8
+    NO_LINE, // line of C9
+    NO_LINE, // line of CA
+    NO_LINE, // line of CB
+    NO_LINE, // line of CC
+    NO_LINE, // line of CD
+    NO_LINE, // line of CE
+    NO_LINE, // line of CF
+    NO_LINE, // line of D0
+    NO_LINE, // line of D1
+    NO_LINE, // line of D2
+    NO_LINE, // line of D3
+    NO_LINE, // line of D4
+    NO_LINE, // line of D5
+    NO_LINE, // line of D6
+    NO_LINE, // line of D7
+    NO_LINE, // line of D8
+    NO_LINE, // line of D9
+    NO_LINE, // line of DA
+    NO_LINE, // line of DB
+    NO_LINE, // line of DC
+    NO_LINE, // line of DD
+    NO_LINE, // line of DE
+    NO_LINE, // line of DF
+    NO_LINE, // line of E0
+    NO_LINE, // line of E1
+    NO_LINE, // line of E2
+    NO_LINE, // line of E3
+    NO_LINE, // line of E4
+    NO_LINE, // line of E5
+    NO_LINE, // line of E6
+    NO_LINE, // line of E7
+    NO_LINE, // line of E8
+    NO_LINE, // line of E9
+    NO_LINE, // line of EA
+    NO_LINE, // line of EB
+    NO_LINE, // line of EC
+    NO_LINE, // line of ED
+    NO_LINE, // line of EE
+    NO_LINE, // line of EF
+    NO_LINE, // line of F0
+    NO_LINE, // line of F1
+    NO_LINE, // line of F2
+    NO_LINE, // line of F3
+    NO_LINE, // line of F4
+    NO_LINE, // line of F5
+    NO_LINE, // line of F6
+    NO_LINE, // line of F7
+    NO_LINE, // line of F8
+    NO_LINE, // line of F9
+    NO_LINE, // line of FA
+    NO_LINE, // line of FB
+    NO_LINE, // line of FC
+    NO_LINE, // line of FD
+    NO_LINE, // line of FE
+    NO_LINE, // line of FF
 ];
 
-// The first row of each order, from 0.
+// The first row of each line's order, from 0.
 pub const FIRST_ROWS: [u16; LINES] = [
-    0, // order 00
-    10, // order 20
-    25, // order 38
-    40, // order 50
-    60, // order 51
-    80, // order 52
-    100, // order 53
-    120, // order 54
-    140, // order 55
-    160, // order 56
-    180, // order 57
-    200, // order 60
-    220, // order 61
-    240, // order 62
-    260, // order 63
-    280, // order 64
-    300, // order 65
-    320, // order 66
-    340, // order 67
-    360, // order 68
-    380, // order 69
-    400, // order 6A
-    420, // order 6B
-    440, // order 6C
-    460, // order 6D
+    0, // first row of 00
+    10, // first row of 20
+    25, // first row of 38
+    40, // first row of 50
+    60, // first row of 51
+    80, // first row of 52
+    100, // first row of 53
+    120, // first row of 54
+    140, // first row of 55
+    160, // first row of 56
+    180, // first row of 57
+    200, // first row of 60
+    220, // first row of 61
+    240, // first row of 62
+    260, // first row of 63
+    280, // first row of 64
+    300, // first row of 65
+    320, // first row of 66
+    340, // first row of 67
+    360, // first row of 68
+    380, // first row of 69
+    400, // first row of 6A
+    420, // first row of 6B
+    440, // first row of 6C
+    460, // first row of 6D
 ];
 
 // Its phases.
 pub const PHASES: [u8; LINES] = [
-    2, // order 00
-    3, // order 20
-    3, // order 38
-    4, // order 50
-    4, // order 51
-    4, // order 52
-    4, // order 53
-    4, // order 54
-    4, // order 55
-    4, // order 56
-    4, // order 57
-    4, // order 60
-    4, // order 61
-    4, // order 62
-    4, // order 63
-    4, // order 64
-    4, // order 65
-    4, // order 66
-    4, // order 67
-    4, // order 68
-    4, // order 69
-    4, // order 6A
-    4, // order 6B
-    4, // order 6C
-    4, // order 6D
+    2, // phases of 00
+    3, // phases of 20
+    3, // phases of 38
+    4, // phases of 50
+    4, // phases of 51
+    4, // phases of 52
+    4, // phases of 53
+    4, // phases of 54
+    4, // phases of 55
+    4, // phases of 56
+    4, // phases of 57
+    4, // phases of 60
+    4, // phases of 61
+    4, // phases of 62
+    4, // phases of 63
+    4, // phases of 64
+    4, // phases of 65
+    4, // phases of 66
+    4, // phases of 67
+    4, // phases of 68
+    4, // phases of 69
+    4, // phases of 6A
+    4, // phases of 6B
+    4, // phases of 6C
+    4, // phases of 6D
 ];
 
 // The approaches it uses, bit 0 for A, on to bit 7 for H.
 pub const APPROACHES: [u8; LINES] = [
-    0x0f, // order 00
-    0x0f, // order 20
-    0x0f, // order 38
-    0x0f, // order 50
-    0x0f, // order 51
-    0x0f, // order 52
-    0x0f, // order 53
-    0x0f, // order 54
-    0x0f, // order 55
-    0x0f, // order 56
-    0x0f, // order 57
-    0x0f, // order 60
-    0x0f, // order 61
-    0x0f, // order 62
-    0x0f, // order 63
-    0x0f, // order 64
-    0x0f, // order 65
-    0x0f, // order 66
-    0x0f, // order 67
-    0x0f, // order 68
-    0x0f, // order 69
-    0x0f, // order 6A
-    0x0f, // order 6B
-    0x0f, // order 6C
-    0x0f, // order 6D
+    0x0f, // approaches of 00
+    0x0f, // approaches of 20
+    0x0f, // approaches of 38
+    0x0f, // approaches of 50
+    0x0f, // approaches of 51
+    0x0f, // approaches of 52
+    0x0f, // approaches of 53
+    0x0f, // approaches of 54
+    0x0f, // approaches of 55
+    0x0f, // approaches of 56
+    0x0f, // approaches of 57
+    0x0f, // approaches of 60
+    0x0f, // approaches of 61
+    0x0f, // approaches of 62
+    0x0f, // approaches of 63
+    0x0f, // approaches of 64
+    0x0f, // approaches of 65
+    0x0f, // approaches of 66
+    0x0f, // approaches of 67
+    0x0f, // approaches of 68
+    0x0f, // approaches of 69
+    0x0f, // approaches of 6A
+    0x0f, // approaches of 6B
+    0x0f, // approaches of 6C
+    0x0f, // approaches of 6D
 ];
