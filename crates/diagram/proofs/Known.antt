@@ -15,7 +15,7 @@ use Rattle.diagram.specs.Row.{Row, diagram}
 use Rattle.diagram.specs.Rows.{rows, directory}
 use Rattle.diagram.specs.Table.{unknown, find, diagramOf, phasesOf, stepsIn, stepsOf, rowNumber}
 use Rattle.diagram.specs.Known.{noLine, lineAt, Known, phasesDue, SupportedCodes, EachFound, KnownPhases, EachUsed, AllDark, OutsideDark, Absent, UnknownDark}
-use Rattle.diagram.proofs.Laws.{lineIn, Found, at, none, found, number-none, number-past, row-past}
+use Rattle.diagram.proofs.Laws.{number-none, number-past, row-past}
 
 -- What is not there
 
@@ -30,13 +30,28 @@ outside-dark order step out = by (ℕ-discrete step 0) (decLt (stepsOf order) st
     by (no s) (yes l) = dark (omega (arith, number-past order step l))
     by (no s) (no l) = absurd (out (record { first = omega arith; last = omega arith }))
 
+-- what the search finds: a line of the directory, or none
+data Found (order : ℕ) (ds : List Diagram) : Type 0 where
+  at : (i : ℕ) → i < length ds → getD ds i noLine .order ≡ order → find order ds ≡ getD ds i noLine → Found order ds
+  none : find order ds ≡ unknown order → Found order ds
+
+found : (order : ℕ) (ds : List Diagram) → Found order ds
+unfolding find
+found order [] = none refl
+found order (d ∷ ds) = by (ℕ-discrete (d .order) order) (found order ds)
+  where
+    by : Dec (d .order ≡ order) → Found order ds → Found order (d ∷ ds)
+    by (yes e) f = at 0 (omega arith) e (rw (eq-eqb (d .order) order e))
+    by (no ne) (at i h e p) = at (suc i) (omega arith) e (rw (ne-eqb (d .order) order ne) p)
+    by (no ne) (none p) = none (rw (ne-eqb (d .order) order ne) p)
+
 pub unknown-dark : UnknownDark
 unfolding diagramOf
 unknown-dark order out = by (found order directory)
   where
     by : Found order directory → Absent order
-    by (at l o p) = absurd (out (record { line = lineIn order directory; within = l; there = o }))
-    by (none l p) =
+    by (at i h e p) = absurd (out (record { line = i; within = h; there = e }))
+    by (none p) =
         let z : phasesOf order ≡ 0 = ap (λ (d : Diagram). d .phases) p in
         record {
           phases = z;
@@ -51,8 +66,8 @@ unfolding diagramOf
 phases-known order h = by (found order directory)
   where
     by : Found order directory → Known order
-    by (at l o p) = record { line = lineIn order directory; within = l; there = o }
-    by (none l p) = absurd (omega (arith, ap (λ (d : Diagram). d .phases) p))
+    by (at i l e p) = record { line = i; within = l; there = e }
+    by (none p) = absurd (omega (arith, ap (λ (d : Diagram). d .phases) p))
 
 -- a test that each line passes, and an unknown order too, is passed by every order
 pub found-passes : (test : Diagram → Bool) → every test directory ≡ true → ((order : ℕ) → test (unknown order) ≡ true)
@@ -61,8 +76,8 @@ unfolding diagramOf
 found-passes test t u order = by (found order directory)
   where
     by : Found order directory → test (find order directory) ≡ true
-    by (at l o p) = rw p (every-at test directory (lineIn order directory) noLine t (λ g. absurd (omega arith)))
-    by (none l p) = rw p (u order)
+    by (at i h e p) = rw p (every-at test directory i noLine t (λ l. absurd (omega arith)))
+    by (none p) = rw p (u order)
 
 pub phases-most : (order : ℕ) → phasesOf order ≤ 8
 unfolding every directory

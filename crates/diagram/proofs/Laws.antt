@@ -5,45 +5,12 @@ use mathlib.Core.List.{List, [], _∷_, map}
 use native.Mathlib.Decide.{ℕ-discrete}
 use native.Mathlib.Omega.{arith}
 use borrow.Author.Tests.{eq-eqb, ne-eqb, le-leb, lt-leb}
-use lib.Dec.{eqb}
 use lib.ListN.{length, getD, List·getD-map, List·getD-eq-default}
-use Rattle.octets.specs.Choice.{pick}
 use Rattle.diagram.specs.declared.Diagram.{Diagram}
 use Rattle.diagram.specs.Row.{Row, diagram}
-use Rattle.diagram.specs.Rows.{rows}
-use Rattle.diagram.specs.Table.{darkRow, unknown, find, diagramOf, stepsOf, rowNumber, rowOf}
+use Rattle.diagram.specs.Rows.{rows, directory}
+use Rattle.diagram.specs.Table.{darkRow, unknown, find, diagramOf, phasesOf, approachesOf, stepsOf, rowNumber, rowOf}
 use Rattle.diagram.specs.Known.{noLine}
-
--- The line of an order, over any directory
-
--- its number, from 0; past the last where there is none
-unfoldable pub lineIn : ℕ → List Diagram → ℕ
-lineIn order [] = 0
-lineIn order (d ∷ ds) = pick (eqb (d .order) order) 0 (suc (lineIn order ds))
-
-pub line-most : (order : ℕ) (ds : List Diagram) → lineIn order ds ≤ length ds
-unfolding lineIn
-line-most order [] = omega arith
-line-most order (d ∷ ds) = by (ℕ-discrete (d .order) order) (line-most order ds)
-  where
-    by : Dec (d .order ≡ order) → lineIn order ds ≤ length ds → lineIn order (d ∷ ds) ≤ length (d ∷ ds)
-    by (yes e) h = rw (eq-eqb (d .order) order e) (omega arith)
-    by (no ne) h = rw (ne-eqb (d .order) order ne) (omega arith)
-
--- what is found: that line of the directory, or none
-pub data Found (order : ℕ) (ds : List Diagram) : Type 0 where
-  at : lineIn order ds < length ds → getD ds (lineIn order ds) noLine .order ≡ order → find order ds ≡ getD ds (lineIn order ds) noLine → Found order ds
-  none : length ds ≤ lineIn order ds → find order ds ≡ unknown order → Found order ds
-
-pub found : (order : ℕ) (ds : List Diagram) → Found order ds
-unfolding lineIn find
-found order [] = none (omega arith) refl
-found order (d ∷ ds) = by (ℕ-discrete (d .order) order) (found order ds)
-  where
-    by : Dec (d .order ≡ order) → Found order ds → Found order (d ∷ ds)
-    by (yes e) f = let t = eq-eqb (d .order) order e in at (rw t (omega arith)) (rw t e) (rw t refl)
-    by (no ne) (at l o p) = let t = ne-eqb (d .order) order ne in at (rw t (omega arith)) (rw t o) (rw t p)
-    by (no ne) (none l p) = let t = ne-eqb (d .order) order ne in none (rw t (omega arith)) (rw t p)
 
 -- The columns, by which the code holds the directory
 
@@ -52,39 +19,32 @@ unfoldable pub upFrom : ℕ → ℕ → List ℕ
 upFrom k zero = []
 upFrom k (suc n) = k ∷ upFrom (suc k) n
 
-up-at : (k n i : ℕ) → i < n → getD (upFrom k n) i 0 ≡ k + i
+up-at : (k n i d : ℕ) → i < n → getD (upFrom k n) i d ≡ k + i
 unfolding upFrom
-up-at k zero i h = absurd (omega arith)
-up-at k (suc n) zero h = omega arith
-up-at k (suc n) (suc i) h = up-at (suc k) n i (omega arith) ∙ omega arith
+up-at k zero i d h = absurd (omega arith)
+up-at k (suc n) zero d h = omega arith
+up-at k (suc n) (suc i) d h = up-at (suc k) n i d (omega arith) ∙ omega arith
 
--- what a function says of each octet, its value at 0 past the last
-pub of-octet : (f : ℕ → ℕ) (o : ℕ) → o < 256 → getD (map f (upFrom 0 256)) o (f 0) ≡ f o
-of-octet f o h = List·getD-map f (upFrom 0 256) o 0 ∙ ap f (up-at 0 256 o h ∙ omega arith)
+-- a column has what the line of each order says, and past the last octet what is said where there is none
+pub column-at : (f : Diagram → ℕ) (order : ℕ) → order < 256 → getD (map (λ o. f (diagramOf o)) (upFrom 0 256)) order (f (diagramOf 256)) ≡ f (diagramOf order)
+column-at f order h = List·getD-map (λ o. f (diagramOf o)) (upFrom 0 256) order 256 ∙ ap (λ (o : ℕ). f (diagramOf o)) (up-at 0 256 order 256 h ∙ omega arith)
 
-abbrev column : (Diagram → ℕ) → List Diagram → ℕ → ℕ
-column f ds i = getD (map f ds) i (f noLine)
+-- a line is what its columns say
+found-order : (order : ℕ) (ds : List Diagram) → find order ds .order ≡ order
+unfolding find
+found-order order [] = refl
+found-order order (d ∷ ds) = by (ℕ-discrete (d .order) order) (found-order order ds)
+  where
+    by : Dec (d .order ≡ order) → find order ds .order ≡ order → find order (d ∷ ds) .order ≡ order
+    by (yes e) h = rw (eq-eqb (d .order) order e) e
+    by (no ne) h = rw (ne-eqb (d .order) order ne) h
 
-module _ (order : ℕ) (ds : List Diagram) (i : ℕ) where
-  in-column : (f : Diagram → ℕ) → column f ds i ≡ f (getD ds i noLine)
-  in-column f = List·getD-map f ds i noLine
-
-  pub find-line : i ≡ lineIn order ds → i < length ds
-      → diagram order (column (λ d. d .first) ds i) (column (λ d. d .phases) ds i) (column (λ d. d .approaches) ds i) ≡ find order ds
-  find-line e h = by (found order ds)
-    where
-      by : Found order ds → diagram order (column (λ d. d .first) ds i) (column (λ d. d .phases) ds i) (column (λ d. d .approaches) ds i) ≡ find order ds
-      by (at l o p) =
-          let here : getD ds i noLine .order ≡ order = rw e o in
-          rw (p, ← e, in-column (λ d. d .first), in-column (λ d. d .phases), in-column (λ d. d .approaches), ← here)
-      by (none l p) = absurd (omega (arith, e))
-
-  pub find-none : i ≡ lineIn order ds → length ds ≤ i → unknown order ≡ find order ds
-  find-none e h = by (found order ds)
-    where
-      by : Found order ds → unknown order ≡ find order ds
-      by (at l o p) = absurd (omega (arith, e))
-      by (none l p) = sym p
+pub line-of : (order : ℕ) {f p a : ℕ} → f ≡ diagramOf order .first → p ≡ phasesOf order → a ≡ approachesOf order → diagram order f p a ≡ diagramOf order
+unfolding diagramOf
+line-of order {f} {p} {a} ef ep ea =
+    let d = diagramOf order in
+    let same : diagram order f p a ≡ diagram (d .order) (d .first) (d .phases) (d .approaches) = rw (found-order order directory, ef, ep, ea) in
+    same
 
 -- Rows
 

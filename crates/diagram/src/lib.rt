@@ -9,8 +9,6 @@ mod rows;
 use crate::rows::APPROACHES;
 use crate::rows::FIRST_ROWS;
 use crate::rows::FLASHING;
-use crate::rows::LINE_OF;
-use crate::rows::LINES;
 use crate::rows::PHASES;
 use crate::rows::ROWS;
 use crate::rows::STEADY;
@@ -30,20 +28,11 @@ struct Diagram {
 fn find(order: u8) -> Diagram
     ensures { λ r. ⌜ r ≡ diagramOf order ⌝ }
 {
-    let line = LINE_OF[order as usize] as usize;
-    if line < LINES {
-        return Diagram {
-            order,
-            first: FIRST_ROWS[line],
-            phases: PHASES[line],
-            approaches: APPROACHES[line],
-        };
-    }
     Diagram {
         order,
-        first: 0,
-        phases: 0,
-        approaches: 0,
+        first: FIRST_ROWS[order as usize],
+        phases: PHASES[order as usize],
+        approaches: APPROACHES[order as usize],
     }
 }
 

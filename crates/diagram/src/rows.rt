@@ -971,276 +971,90 @@ pub const FLASHING: [u64; ROWS] = [
     0, // 6D, step 20
 ];
 
-pub const LINES: usize = 25;
+pub const ORDERS: usize = 256;
 
-// The line of an order that is not supported: past the last.
-const NO_LINE: u8 = LINES as u8;
-
-// The line of each phase order, from 0.
-pub const LINE_OF: [u8; 256] = [
-    0, // line of 00
-    NO_LINE, // line of 01
-    NO_LINE, // line of 02
-    NO_LINE, // line of 03
-    NO_LINE, // line of 04
-    NO_LINE, // line of 05
-    NO_LINE, // line of 06
-    NO_LINE, // line of 07
-    NO_LINE, // line of 08
-    NO_LINE, // line of 09
-    NO_LINE, // line of 0A
-    NO_LINE, // line of 0B
-    NO_LINE, // line of 0C
-    NO_LINE, // line of 0D
-    NO_LINE, // line of 0E
-    NO_LINE, // line of 0F
-    NO_LINE, // line of 10
-    NO_LINE, // line of 11
-    NO_LINE, // line of 12
-    NO_LINE, // line of 13
-    NO_LINE, // line of 14
-    NO_LINE, // line of 15
-    NO_LINE, // line of 16
-    NO_LINE, // line of 17
-    NO_LINE, // line of 18
-    NO_LINE, // line of 19
-    NO_LINE, // line of 1A
-    NO_LINE, // line of 1B
-    NO_LINE, // line of 1C
-    NO_LINE, // line of 1D
-    NO_LINE, // line of 1E
-    NO_LINE, // line of 1F
-    1, // line of 20
-    NO_LINE, // line of 21
-    NO_LINE, // line of 22
-    NO_LINE, // line of 23
-    NO_LINE, // line of 24
-    NO_LINE, // line of 25
-    NO_LINE, // line of 26
-    NO_LINE, // line of 27
-    NO_LINE, // line of 28
-    NO_LINE, // line of 29
-    NO_LINE, // line of 2A
-    NO_LINE, // line of 2B
-    NO_LINE, // line of 2C
-    NO_LINE, // line of 2D
-    NO_LINE, // line of 2E
-    NO_LINE, // line of 2F
-    NO_LINE, // line of 30
-    NO_LINE, // line of 31
-    NO_LINE, // line of 32
-    NO_LINE, // line of 33
-    NO_LINE, // line of 34
-    NO_LINE, // line of 35
-    NO_LINE, // line of 36
-    NO_LINE, // line of 37
-    2, // line of 38
-    NO_LINE, // line of 39
-    NO_LINE, // line of 3A
-    NO_LINE, // line of 3B
-    NO_LINE, // line of 3C
-    NO_LINE, // line of 3D
-    NO_LINE, // line of 3E
-    NO_LINE, // line of 3F
-    NO_LINE, // line of 40
-    NO_LINE, // line of 41
-    NO_LINE, // line of 42
-    NO_LINE, // line of 43
-    NO_LINE, // line of 44
-    NO_LINE, // line of 45
-    NO_LINE, // line of 46
-    NO_LINE, // line of 47
-    NO_LINE, // line of 48
-    NO_LINE, // line of 49
-    NO_LINE, // line of 4A
-    NO_LINE, // line of 4B
-    NO_LINE, // line of 4C
-    NO_LINE, // line of 4D
-    NO_LINE, // line of 4E
-    NO_LINE, // line of 4F
-    3, // line of 50
-    4, // line of 51
-    5, // line of 52
-    6, // line of 53
-    7, // line of 54
-    8, // line of 55
-    9, // line of 56
-    10, // line of 57
-    NO_LINE, // line of 58
-    NO_LINE, // line of 59
-    NO_LINE, // line of 5A
-    NO_LINE, // line of 5B
-    NO_LINE, // line of 5C
-    NO_LINE, // line of 5D
-    NO_LINE, // line of 5E
-    NO_LINE, // line of 5F
-    11, // line of 60
-    12, // line of 61
-    13, // line of 62
-    14, // line of 63
-    15, // line of 64
-    16, // line of 65
-    17, // line of 66
-    18, // line of 67
-    19, // line of 68
-    20, // line of 69
-    21, // line of 6A
-    22, // line of 6B
-    23, // line of 6C
-    24, // line of 6D
-    NO_LINE, // line of 6E
-    NO_LINE, // line of 6F
-    NO_LINE, // line of 70
-    NO_LINE, // line of 71
-    NO_LINE, // line of 72
-    NO_LINE, // line of 73
-    NO_LINE, // line of 74
-    NO_LINE, // line of 75
-    NO_LINE, // line of 76
-    NO_LINE, // line of 77
-    NO_LINE, // line of 78
-    NO_LINE, // line of 79
-    NO_LINE, // line of 7A
-    NO_LINE, // line of 7B
-    NO_LINE, // line of 7C
-    NO_LINE, // line of 7D
-    NO_LINE, // line of 7E
-    NO_LINE, // line of 7F
-    NO_LINE, // line of 80
-    NO_LINE, // line of 81
-    NO_LINE, // line of 82
-    NO_LINE, // line of 83
-    NO_LINE, // line of 84
-    NO_LINE, // line of 85
-    NO_LINE, // line of 86
-    NO_LINE, // line of 87
-    NO_LINE, // line of 88
-    NO_LINE, // line of 89
-    NO_LINE, // line of 8A
-    NO_LINE, // line of 8B
-    NO_LINE, // line of 8C
-    NO_LINE, // line of 8D
-    NO_LINE, // line of 8E
-    NO_LINE, // line of 8F
-    NO_LINE, // line of 90
-    NO_LINE, // line of 91
-    NO_LINE, // line of 92
-    NO_LINE, // line of 93
-    NO_LINE, // line of 94
-    NO_LINE, // line of 95
-    NO_LINE, // line of 96
-    NO_LINE, // line of 97
-    NO_LINE, // line of 98
-    NO_LINE, // line of 99
-    NO_LINE, // line of 9A
-    NO_LINE, // line of 9B
-    NO_LINE, // line of 9C
-    NO_LINE, // line of 9D
-    NO_LINE, // line of 9E
-    NO_LINE, // line of 9F
-    NO_LINE, // line of A0
-    NO_LINE, // line of A1
-    NO_LINE, // line of A2
-    NO_LINE, // line of A3
-    NO_LINE, // line of A4
-    NO_LINE, // line of A5
-    NO_LINE, // line of A6
-    NO_LINE, // line of A7
-    NO_LINE, // line of A8
-    NO_LINE, // line of A9
-    NO_LINE, // line of AA
-    NO_LINE, // line of AB
-    NO_LINE, // line of AC
-    NO_LINE, // line of AD
-    NO_LINE, // line of AE
-    NO_LINE, // line of AF
-    NO_LINE, // line of B0
-    NO_LINE, // line of B1
-    NO_LINE, // line of B2
-    NO_LINE, // line of B3
-    NO_LINE, // line of B4
-    NO_LINE, // line of B5
-    NO_LINE, // line of B6
-    NO_LINE, // line of B7
-    NO_LINE, // line of B8
-    NO_LINE, // line of B9
-    NO_LINE, // line of BA
-    NO_LINE, // line of BB
-    NO_LINE, // line of BC
-    NO_LINE, // line of BD
-    NO_LINE, // line of BE
-    NO_LINE, // line of BF
-    NO_LINE, // line of C0
-    NO_LINE, // line of C1
-    NO_LINE, // line of C2
-    NO_LINE, // line of C3
-    NO_LINE, // line of C4
-    NO_LINE, // line of C5
-    NO_LINE, // line of C6
-    NO_LINE, // line of C7
-    NO_LINE, // line of C8
-    NO_LINE, // line of C9
-    NO_LINE, // line of CA
-    NO_LINE, // line of CB
-    NO_LINE, // line of CC
-    NO_LINE, // line of CD
-    NO_LINE, // line of CE
-    NO_LINE, // line of CF
-    NO_LINE, // line of D0
-    NO_LINE, // line of D1
-    NO_LINE, // line of D2
-    NO_LINE, // line of D3
-    NO_LINE, // line of D4
-    NO_LINE, // line of D5
-    NO_LINE, // line of D6
-    NO_LINE, // line of D7
-    NO_LINE, // line of D8
-    NO_LINE, // line of D9
-    NO_LINE, // line of DA
-    NO_LINE, // line of DB
-    NO_LINE, // line of DC
-    NO_LINE, // line of DD
-    NO_LINE, // line of DE
-    NO_LINE, // line of DF
-    NO_LINE, // line of E0
-    NO_LINE, // line of E1
-    NO_LINE, // line of E2
-    NO_LINE, // line of E3
-    NO_LINE, // line of E4
-    NO_LINE, // line of E5
-    NO_LINE, // line of E6
-    NO_LINE, // line of E7
-    NO_LINE, // line of E8
-    NO_LINE, // line of E9
-    NO_LINE, // line of EA
-    NO_LINE, // line of EB
-    NO_LINE, // line of EC
-    NO_LINE, // line of ED
-    NO_LINE, // line of EE
-    NO_LINE, // line of EF
-    NO_LINE, // line of F0
-    NO_LINE, // line of F1
-    NO_LINE, // line of F2
-    NO_LINE, // line of F3
-    NO_LINE, // line of F4
-    NO_LINE, // line of F5
-    NO_LINE, // line of F6
-    NO_LINE, // line of F7
-    NO_LINE, // line of F8
-    NO_LINE, // line of F9
-    NO_LINE, // line of FA
-    NO_LINE, // line of FB
-    NO_LINE, // line of FC
-    NO_LINE, // line of FD
-    NO_LINE, // line of FE
-    NO_LINE, // line of FF
-];
-
-// The first row of each line's order, from 0.
-pub const FIRST_ROWS: [u16; LINES] = [
+// The first row of each phase order, from 0; this and what follows is 0 for one that is not supported.
+pub const FIRST_ROWS: [u16; ORDERS] = [
     0, // first row of 00
+    0, // first row of 01
+    0, // first row of 02
+    0, // first row of 03
+    0, // first row of 04
+    0, // first row of 05
+    0, // first row of 06
+    0, // first row of 07
+    0, // first row of 08
+    0, // first row of 09
+    0, // first row of 0A
+    0, // first row of 0B
+    0, // first row of 0C
+    0, // first row of 0D
+    0, // first row of 0E
+    0, // first row of 0F
+    0, // first row of 10
+    0, // first row of 11
+    0, // first row of 12
+    0, // first row of 13
+    0, // first row of 14
+    0, // first row of 15
+    0, // first row of 16
+    0, // first row of 17
+    0, // first row of 18
+    0, // first row of 19
+    0, // first row of 1A
+    0, // first row of 1B
+    0, // first row of 1C
+    0, // first row of 1D
+    0, // first row of 1E
+    0, // first row of 1F
     10, // first row of 20
+    0, // first row of 21
+    0, // first row of 22
+    0, // first row of 23
+    0, // first row of 24
+    0, // first row of 25
+    0, // first row of 26
+    0, // first row of 27
+    0, // first row of 28
+    0, // first row of 29
+    0, // first row of 2A
+    0, // first row of 2B
+    0, // first row of 2C
+    0, // first row of 2D
+    0, // first row of 2E
+    0, // first row of 2F
+    0, // first row of 30
+    0, // first row of 31
+    0, // first row of 32
+    0, // first row of 33
+    0, // first row of 34
+    0, // first row of 35
+    0, // first row of 36
+    0, // first row of 37
     25, // first row of 38
+    0, // first row of 39
+    0, // first row of 3A
+    0, // first row of 3B
+    0, // first row of 3C
+    0, // first row of 3D
+    0, // first row of 3E
+    0, // first row of 3F
+    0, // first row of 40
+    0, // first row of 41
+    0, // first row of 42
+    0, // first row of 43
+    0, // first row of 44
+    0, // first row of 45
+    0, // first row of 46
+    0, // first row of 47
+    0, // first row of 48
+    0, // first row of 49
+    0, // first row of 4A
+    0, // first row of 4B
+    0, // first row of 4C
+    0, // first row of 4D
+    0, // first row of 4E
+    0, // first row of 4F
     40, // first row of 50
     60, // first row of 51
     80, // first row of 52
@@ -1249,6 +1063,14 @@ pub const FIRST_ROWS: [u16; LINES] = [
     140, // first row of 55
     160, // first row of 56
     180, // first row of 57
+    0, // first row of 58
+    0, // first row of 59
+    0, // first row of 5A
+    0, // first row of 5B
+    0, // first row of 5C
+    0, // first row of 5D
+    0, // first row of 5E
+    0, // first row of 5F
     200, // first row of 60
     220, // first row of 61
     240, // first row of 62
@@ -1263,13 +1085,236 @@ pub const FIRST_ROWS: [u16; LINES] = [
     420, // first row of 6B
     440, // first row of 6C
     460, // first row of 6D
+    0, // first row of 6E
+    0, // first row of 6F
+    0, // first row of 70
+    0, // first row of 71
+    0, // first row of 72
+    0, // first row of 73
+    0, // first row of 74
+    0, // first row of 75
+    0, // first row of 76
+    0, // first row of 77
+    0, // first row of 78
+    0, // first row of 79
+    0, // first row of 7A
+    0, // first row of 7B
+    0, // first row of 7C
+    0, // first row of 7D
+    0, // first row of 7E
+    0, // first row of 7F
+    0, // first row of 80
+    0, // first row of 81
+    0, // first row of 82
+    0, // first row of 83
+    0, // first row of 84
+    0, // first row of 85
+    0, // first row of 86
+    0, // first row of 87
+    0, // first row of 88
+    0, // first row of 89
+    0, // first row of 8A
+    0, // first row of 8B
+    0, // first row of 8C
+    0, // first row of 8D
+    0, // first row of 8E
+    0, // first row of 8F
+    0, // first row of 90
+    0, // first row of 91
+    0, // first row of 92
+    0, // first row of 93
+    0, // first row of 94
+    0, // first row of 95
+    0, // first row of 96
+    0, // first row of 97
+    0, // first row of 98
+    0, // first row of 99
+    0, // first row of 9A
+    0, // first row of 9B
+    0, // first row of 9C
+    0, // first row of 9D
+    0, // first row of 9E
+    0, // first row of 9F
+    0, // first row of A0
+    0, // first row of A1
+    0, // first row of A2
+    0, // first row of A3
+    0, // first row of A4
+    0, // first row of A5
+    0, // first row of A6
+    0, // first row of A7
+    0, // first row of A8
+    0, // first row of A9
+    0, // first row of AA
+    0, // first row of AB
+    0, // first row of AC
+    0, // first row of AD
+    0, // first row of AE
+    0, // first row of AF
+    0, // first row of B0
+    0, // first row of B1
+    0, // first row of B2
+    0, // first row of B3
+    0, // first row of B4
+    0, // first row of B5
+    0, // first row of B6
+    0, // first row of B7
+    0, // first row of B8
+    0, // first row of B9
+    0, // first row of BA
+    0, // first row of BB
+    0, // first row of BC
+    0, // first row of BD
+    0, // first row of BE
+    0, // first row of BF
+    0, // first row of C0
+    0, // first row of C1
+    0, // first row of C2
+    0, // first row of C3
+    0, // first row of C4
+    0, // first row of C5
+    0, // first row of C6
+    0, // first row of C7
+    0, // first row of C8
+    0, // first row of C9
+    0, // first row of CA
+    0, // first row of CB
+    0, // first row of CC
+    0, // first row of CD
+    0, // first row of CE
+    0, // first row of CF
+    0, // first row of D0
+    0, // first row of D1
+    0, // first row of D2
+    0, // first row of D3
+    0, // first row of D4
+    0, // first row of D5
+    0, // first row of D6
+    0, // first row of D7
+    0, // first row of D8
+    0, // first row of D9
+    0, // first row of DA
+    0, // first row of DB
+    0, // first row of DC
+    0, // first row of DD
+    0, // first row of DE
+    0, // first row of DF
+    0, // first row of E0
+    0, // first row of E1
+    0, // first row of E2
+    0, // first row of E3
+    0, // first row of E4
+    0, // first row of E5
+    0, // first row of E6
+    0, // first row of E7
+    0, // first row of E8
+    0, // first row of E9
+    0, // first row of EA
+    0, // first row of EB
+    0, // first row of EC
+    0, // first row of ED
+    0, // first row of EE
+    0, // first row of EF
+    0, // first row of F0
+    0, // first row of F1
+    0, // first row of F2
+    0, // first row of F3
+    0, // first row of F4
+    0, // first row of F5
+    0, // first row of F6
+    0, // first row of F7
+    0, // first row of F8
+    0, // first row of F9
+    0, // first row of FA
+    0, // first row of FB
+    0, // first row of FC
+    0, // first row of FD
+    0, // first row of FE
+    0, // first row of FF
 ];
 
-// Its phases.
-pub const PHASES: [u8; LINES] = [
+// The phases of each order.
+pub const PHASES: [u8; ORDERS] = [
     2, // phases of 00
+    0, // phases of 01
+    0, // phases of 02
+    0, // phases of 03
+    0, // phases of 04
+    0, // phases of 05
+    0, // phases of 06
+    0, // phases of 07
+    0, // phases of 08
+    0, // phases of 09
+    0, // phases of 0A
+    0, // phases of 0B
+    0, // phases of 0C
+    0, // phases of 0D
+    0, // phases of 0E
+    0, // phases of 0F
+    0, // phases of 10
+    0, // phases of 11
+    0, // phases of 12
+    0, // phases of 13
+    0, // phases of 14
+    0, // phases of 15
+    0, // phases of 16
+    0, // phases of 17
+    0, // phases of 18
+    0, // phases of 19
+    0, // phases of 1A
+    0, // phases of 1B
+    0, // phases of 1C
+    0, // phases of 1D
+    0, // phases of 1E
+    0, // phases of 1F
     3, // phases of 20
+    0, // phases of 21
+    0, // phases of 22
+    0, // phases of 23
+    0, // phases of 24
+    0, // phases of 25
+    0, // phases of 26
+    0, // phases of 27
+    0, // phases of 28
+    0, // phases of 29
+    0, // phases of 2A
+    0, // phases of 2B
+    0, // phases of 2C
+    0, // phases of 2D
+    0, // phases of 2E
+    0, // phases of 2F
+    0, // phases of 30
+    0, // phases of 31
+    0, // phases of 32
+    0, // phases of 33
+    0, // phases of 34
+    0, // phases of 35
+    0, // phases of 36
+    0, // phases of 37
     3, // phases of 38
+    0, // phases of 39
+    0, // phases of 3A
+    0, // phases of 3B
+    0, // phases of 3C
+    0, // phases of 3D
+    0, // phases of 3E
+    0, // phases of 3F
+    0, // phases of 40
+    0, // phases of 41
+    0, // phases of 42
+    0, // phases of 43
+    0, // phases of 44
+    0, // phases of 45
+    0, // phases of 46
+    0, // phases of 47
+    0, // phases of 48
+    0, // phases of 49
+    0, // phases of 4A
+    0, // phases of 4B
+    0, // phases of 4C
+    0, // phases of 4D
+    0, // phases of 4E
+    0, // phases of 4F
     4, // phases of 50
     4, // phases of 51
     4, // phases of 52
@@ -1278,6 +1323,14 @@ pub const PHASES: [u8; LINES] = [
     4, // phases of 55
     4, // phases of 56
     4, // phases of 57
+    0, // phases of 58
+    0, // phases of 59
+    0, // phases of 5A
+    0, // phases of 5B
+    0, // phases of 5C
+    0, // phases of 5D
+    0, // phases of 5E
+    0, // phases of 5F
     4, // phases of 60
     4, // phases of 61
     4, // phases of 62
@@ -1292,13 +1345,236 @@ pub const PHASES: [u8; LINES] = [
     4, // phases of 6B
     4, // phases of 6C
     4, // phases of 6D
+    0, // phases of 6E
+    0, // phases of 6F
+    0, // phases of 70
+    0, // phases of 71
+    0, // phases of 72
+    0, // phases of 73
+    0, // phases of 74
+    0, // phases of 75
+    0, // phases of 76
+    0, // phases of 77
+    0, // phases of 78
+    0, // phases of 79
+    0, // phases of 7A
+    0, // phases of 7B
+    0, // phases of 7C
+    0, // phases of 7D
+    0, // phases of 7E
+    0, // phases of 7F
+    0, // phases of 80
+    0, // phases of 81
+    0, // phases of 82
+    0, // phases of 83
+    0, // phases of 84
+    0, // phases of 85
+    0, // phases of 86
+    0, // phases of 87
+    0, // phases of 88
+    0, // phases of 89
+    0, // phases of 8A
+    0, // phases of 8B
+    0, // phases of 8C
+    0, // phases of 8D
+    0, // phases of 8E
+    0, // phases of 8F
+    0, // phases of 90
+    0, // phases of 91
+    0, // phases of 92
+    0, // phases of 93
+    0, // phases of 94
+    0, // phases of 95
+    0, // phases of 96
+    0, // phases of 97
+    0, // phases of 98
+    0, // phases of 99
+    0, // phases of 9A
+    0, // phases of 9B
+    0, // phases of 9C
+    0, // phases of 9D
+    0, // phases of 9E
+    0, // phases of 9F
+    0, // phases of A0
+    0, // phases of A1
+    0, // phases of A2
+    0, // phases of A3
+    0, // phases of A4
+    0, // phases of A5
+    0, // phases of A6
+    0, // phases of A7
+    0, // phases of A8
+    0, // phases of A9
+    0, // phases of AA
+    0, // phases of AB
+    0, // phases of AC
+    0, // phases of AD
+    0, // phases of AE
+    0, // phases of AF
+    0, // phases of B0
+    0, // phases of B1
+    0, // phases of B2
+    0, // phases of B3
+    0, // phases of B4
+    0, // phases of B5
+    0, // phases of B6
+    0, // phases of B7
+    0, // phases of B8
+    0, // phases of B9
+    0, // phases of BA
+    0, // phases of BB
+    0, // phases of BC
+    0, // phases of BD
+    0, // phases of BE
+    0, // phases of BF
+    0, // phases of C0
+    0, // phases of C1
+    0, // phases of C2
+    0, // phases of C3
+    0, // phases of C4
+    0, // phases of C5
+    0, // phases of C6
+    0, // phases of C7
+    0, // phases of C8
+    0, // phases of C9
+    0, // phases of CA
+    0, // phases of CB
+    0, // phases of CC
+    0, // phases of CD
+    0, // phases of CE
+    0, // phases of CF
+    0, // phases of D0
+    0, // phases of D1
+    0, // phases of D2
+    0, // phases of D3
+    0, // phases of D4
+    0, // phases of D5
+    0, // phases of D6
+    0, // phases of D7
+    0, // phases of D8
+    0, // phases of D9
+    0, // phases of DA
+    0, // phases of DB
+    0, // phases of DC
+    0, // phases of DD
+    0, // phases of DE
+    0, // phases of DF
+    0, // phases of E0
+    0, // phases of E1
+    0, // phases of E2
+    0, // phases of E3
+    0, // phases of E4
+    0, // phases of E5
+    0, // phases of E6
+    0, // phases of E7
+    0, // phases of E8
+    0, // phases of E9
+    0, // phases of EA
+    0, // phases of EB
+    0, // phases of EC
+    0, // phases of ED
+    0, // phases of EE
+    0, // phases of EF
+    0, // phases of F0
+    0, // phases of F1
+    0, // phases of F2
+    0, // phases of F3
+    0, // phases of F4
+    0, // phases of F5
+    0, // phases of F6
+    0, // phases of F7
+    0, // phases of F8
+    0, // phases of F9
+    0, // phases of FA
+    0, // phases of FB
+    0, // phases of FC
+    0, // phases of FD
+    0, // phases of FE
+    0, // phases of FF
 ];
 
-// The approaches it uses, bit 0 for A, on to bit 7 for H.
-pub const APPROACHES: [u8; LINES] = [
+// The approaches that each order uses, bit 0 for A, on to bit 7 for H.
+pub const APPROACHES: [u8; ORDERS] = [
     0x0f, // approaches of 00
+    0, // approaches of 01
+    0, // approaches of 02
+    0, // approaches of 03
+    0, // approaches of 04
+    0, // approaches of 05
+    0, // approaches of 06
+    0, // approaches of 07
+    0, // approaches of 08
+    0, // approaches of 09
+    0, // approaches of 0A
+    0, // approaches of 0B
+    0, // approaches of 0C
+    0, // approaches of 0D
+    0, // approaches of 0E
+    0, // approaches of 0F
+    0, // approaches of 10
+    0, // approaches of 11
+    0, // approaches of 12
+    0, // approaches of 13
+    0, // approaches of 14
+    0, // approaches of 15
+    0, // approaches of 16
+    0, // approaches of 17
+    0, // approaches of 18
+    0, // approaches of 19
+    0, // approaches of 1A
+    0, // approaches of 1B
+    0, // approaches of 1C
+    0, // approaches of 1D
+    0, // approaches of 1E
+    0, // approaches of 1F
     0x0f, // approaches of 20
+    0, // approaches of 21
+    0, // approaches of 22
+    0, // approaches of 23
+    0, // approaches of 24
+    0, // approaches of 25
+    0, // approaches of 26
+    0, // approaches of 27
+    0, // approaches of 28
+    0, // approaches of 29
+    0, // approaches of 2A
+    0, // approaches of 2B
+    0, // approaches of 2C
+    0, // approaches of 2D
+    0, // approaches of 2E
+    0, // approaches of 2F
+    0, // approaches of 30
+    0, // approaches of 31
+    0, // approaches of 32
+    0, // approaches of 33
+    0, // approaches of 34
+    0, // approaches of 35
+    0, // approaches of 36
+    0, // approaches of 37
     0x0f, // approaches of 38
+    0, // approaches of 39
+    0, // approaches of 3A
+    0, // approaches of 3B
+    0, // approaches of 3C
+    0, // approaches of 3D
+    0, // approaches of 3E
+    0, // approaches of 3F
+    0, // approaches of 40
+    0, // approaches of 41
+    0, // approaches of 42
+    0, // approaches of 43
+    0, // approaches of 44
+    0, // approaches of 45
+    0, // approaches of 46
+    0, // approaches of 47
+    0, // approaches of 48
+    0, // approaches of 49
+    0, // approaches of 4A
+    0, // approaches of 4B
+    0, // approaches of 4C
+    0, // approaches of 4D
+    0, // approaches of 4E
+    0, // approaches of 4F
     0x0f, // approaches of 50
     0x0f, // approaches of 51
     0x0f, // approaches of 52
@@ -1307,6 +1583,14 @@ pub const APPROACHES: [u8; LINES] = [
     0x0f, // approaches of 55
     0x0f, // approaches of 56
     0x0f, // approaches of 57
+    0, // approaches of 58
+    0, // approaches of 59
+    0, // approaches of 5A
+    0, // approaches of 5B
+    0, // approaches of 5C
+    0, // approaches of 5D
+    0, // approaches of 5E
+    0, // approaches of 5F
     0x0f, // approaches of 60
     0x0f, // approaches of 61
     0x0f, // approaches of 62
@@ -1321,4 +1605,150 @@ pub const APPROACHES: [u8; LINES] = [
     0x0f, // approaches of 6B
     0x0f, // approaches of 6C
     0x0f, // approaches of 6D
+    0, // approaches of 6E
+    0, // approaches of 6F
+    0, // approaches of 70
+    0, // approaches of 71
+    0, // approaches of 72
+    0, // approaches of 73
+    0, // approaches of 74
+    0, // approaches of 75
+    0, // approaches of 76
+    0, // approaches of 77
+    0, // approaches of 78
+    0, // approaches of 79
+    0, // approaches of 7A
+    0, // approaches of 7B
+    0, // approaches of 7C
+    0, // approaches of 7D
+    0, // approaches of 7E
+    0, // approaches of 7F
+    0, // approaches of 80
+    0, // approaches of 81
+    0, // approaches of 82
+    0, // approaches of 83
+    0, // approaches of 84
+    0, // approaches of 85
+    0, // approaches of 86
+    0, // approaches of 87
+    0, // approaches of 88
+    0, // approaches of 89
+    0, // approaches of 8A
+    0, // approaches of 8B
+    0, // approaches of 8C
+    0, // approaches of 8D
+    0, // approaches of 8E
+    0, // approaches of 8F
+    0, // approaches of 90
+    0, // approaches of 91
+    0, // approaches of 92
+    0, // approaches of 93
+    0, // approaches of 94
+    0, // approaches of 95
+    0, // approaches of 96
+    0, // approaches of 97
+    0, // approaches of 98
+    0, // approaches of 99
+    0, // approaches of 9A
+    0, // approaches of 9B
+    0, // approaches of 9C
+    0, // approaches of 9D
+    0, // approaches of 9E
+    0, // approaches of 9F
+    0, // approaches of A0
+    0, // approaches of A1
+    0, // approaches of A2
+    0, // approaches of A3
+    0, // approaches of A4
+    0, // approaches of A5
+    0, // approaches of A6
+    0, // approaches of A7
+    0, // approaches of A8
+    0, // approaches of A9
+    0, // approaches of AA
+    0, // approaches of AB
+    0, // approaches of AC
+    0, // approaches of AD
+    0, // approaches of AE
+    0, // approaches of AF
+    0, // approaches of B0
+    0, // approaches of B1
+    0, // approaches of B2
+    0, // approaches of B3
+    0, // approaches of B4
+    0, // approaches of B5
+    0, // approaches of B6
+    0, // approaches of B7
+    0, // approaches of B8
+    0, // approaches of B9
+    0, // approaches of BA
+    0, // approaches of BB
+    0, // approaches of BC
+    0, // approaches of BD
+    0, // approaches of BE
+    0, // approaches of BF
+    0, // approaches of C0
+    0, // approaches of C1
+    0, // approaches of C2
+    0, // approaches of C3
+    0, // approaches of C4
+    0, // approaches of C5
+    0, // approaches of C6
+    0, // approaches of C7
+    0, // approaches of C8
+    0, // approaches of C9
+    0, // approaches of CA
+    0, // approaches of CB
+    0, // approaches of CC
+    0, // approaches of CD
+    0, // approaches of CE
+    0, // approaches of CF
+    0, // approaches of D0
+    0, // approaches of D1
+    0, // approaches of D2
+    0, // approaches of D3
+    0, // approaches of D4
+    0, // approaches of D5
+    0, // approaches of D6
+    0, // approaches of D7
+    0, // approaches of D8
+    0, // approaches of D9
+    0, // approaches of DA
+    0, // approaches of DB
+    0, // approaches of DC
+    0, // approaches of DD
+    0, // approaches of DE
+    0, // approaches of DF
+    0, // approaches of E0
+    0, // approaches of E1
+    0, // approaches of E2
+    0, // approaches of E3
+    0, // approaches of E4
+    0, // approaches of E5
+    0, // approaches of E6
+    0, // approaches of E7
+    0, // approaches of E8
+    0, // approaches of E9
+    0, // approaches of EA
+    0, // approaches of EB
+    0, // approaches of EC
+    0, // approaches of ED
+    0, // approaches of EE
+    0, // approaches of EF
+    0, // approaches of F0
+    0, // approaches of F1
+    0, // approaches of F2
+    0, // approaches of F3
+    0, // approaches of F4
+    0, // approaches of F5
+    0, // approaches of F6
+    0, // approaches of F7
+    0, // approaches of F8
+    0, // approaches of F9
+    0, // approaches of FA
+    0, // approaches of FB
+    0, // approaches of FC
+    0, // approaches of FD
+    0, // approaches of FE
+    0, // approaches of FF
 ];
