@@ -30,7 +30,7 @@ abbrev pub fieldOctets : Bool → ℕ → List ℕ
 fieldOctets false v = lowOf v ∷ []
 fieldOctets true v = highOf v ∷ lowOf v ∷ []
 
--- is the value in its field's range? A phase order's is the directory: the orders that have phases
+-- is the value in its field's range? 02, E2: "01's range for phase order becomes the supported codes", the orders that have phases
 abbrev pub passes : Field → ℕ → Bool
 passes (Octet least greatest) v = both (leb least v) (leb v greatest)
 passes (Two least greatest) v = both (leb least v) (leb v greatest)
@@ -84,7 +84,7 @@ walkFlash = Octet 0 90
 abbrev pub redMan : Field
 redMan = Octet 0 9
 
--- "direct 0 to 7, phase order 00, green 1 to 900, cycle 1 to 900, offset 0 to 899"
+-- "direct 0 to 7", a phase order, "green 1 to 900, cycle 1 to 900, offset 0 to 899"
 abbrev pub direct : Field
 direct = Octet 0 7
 

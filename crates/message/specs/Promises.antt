@@ -128,7 +128,7 @@ StoredParts = (k : ℕ) → StoredAs k
 
 -- Reading
 
--- the value is in its field's range; a phase order's is the directory
+-- the value is in its field's range; a phase order's is the supported codes, the orders that have phases
 abbrev pub InRange : Field → ℕ → Type 0
 InRange (Octet least greatest) v = (least ≤ v) × (v ≤ greatest)
 InRange (Two least greatest) v = (least ≤ v) × (v ≤ greatest)

@@ -25,6 +25,16 @@ plan offset = 0x5F ∷ 0x15 ∷ 1 ∷ 0 ∷ 0 ∷ 2 ∷ 0 ∷ 25 ∷ 0 ∷ 25 �
 abbrev onePhase : List ℕ
 onePhase = 0x5F ∷ 0x15 ∷ 1 ∷ 0 ∷ 0 ∷ 1 ∷ 0 ∷ 25 ∷ 0 ∷ 30 ∷ 0 ∷ 0 ∷ []
 
+-- a 5F 14 of plan 1 with three such phases; a 5F 15 with this phase order and two of three phases, and with all three of order 20
+abbrev threeTimes : List ℕ
+threeTimes = 0x5F ∷ 0x14 ∷ 1 ∷ 3 ∷ 22 ∷ 0 ∷ 90 ∷ 3 ∷ 2 ∷ 15 ∷ 6 ∷ 22 ∷ 0 ∷ 90 ∷ 3 ∷ 2 ∷ 15 ∷ 6 ∷ 22 ∷ 0 ∷ 90 ∷ 3 ∷ 2 ∷ 15 ∷ 6 ∷ []
+
+abbrev twoPhases : ℕ → List ℕ
+twoPhases order = 0x5F ∷ 0x15 ∷ 1 ∷ 0 ∷ order ∷ 2 ∷ 0 ∷ 25 ∷ 0 ∷ 25 ∷ 0 ∷ 60 ∷ 0 ∷ 0 ∷ []
+
+abbrev threePhases : List ℕ
+threePhases = 0x5F ∷ 0x15 ∷ 1 ∷ 0 ∷ 0x20 ∷ 3 ∷ 0 ∷ 25 ∷ 0 ∷ 25 ∷ 0 ∷ 25 ∷ 0 ∷ 90 ∷ 0 ∷ 0 ∷ []
+
 abbrev book1 : List ℕ
 book1 = setTimesOf emptyBook (times 22) .book
 
@@ -36,6 +46,10 @@ answers =
     ∷ setPlanOf book1 onePhase .answer
     ∷ setPlanOf book1 (plan 60) .answer  -- "Offset equal to a cycle under 900 is 14."
     ∷ setPlanOf book1 (plan 59) .answer
+    ∷ setPlanOf book1 (twoPhases 0x22) .answer  -- "Diagram number 22 used as a phase order"
+    ∷ setPlanOf book1 (twoPhases 0x20) .answer  -- 02, E2: "A plan's count must equal its diagram's."
+    ∷ setPlanOf (setTimesOf emptyBook threeTimes .book) (twoPhases 0x20) .answer
+    ∷ setPlanOf (setTimesOf emptyBook threeTimes .book) threePhases .answer
     ∷ []
 
 unfoldable pub dueAnswers : List Answered
@@ -45,6 +59,10 @@ dueAnswers =
     ∷ answered refusal.notReady 1
     ∷ answered refusal.disagree 4
     ∷ answered refusal.disagree 8
+    ∷ answered refusal.none 0
+    ∷ answered refusal.outOfRange 3
+    ∷ answered refusal.disagree 4
+    ∷ answered refusal.disagree 4
     ∷ answered refusal.none 0
     ∷ []
 
