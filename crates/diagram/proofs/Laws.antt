@@ -9,8 +9,7 @@ use lib.ListN.{length, getD, List·getD-map, List·getD-eq-default}
 use Rattle.diagram.specs.declared.Diagram.{Diagram}
 use Rattle.diagram.specs.Row.{Row, diagram}
 use Rattle.diagram.specs.Rows.{rows, directory}
-use Rattle.diagram.specs.Table.{darkRow, unknown, find, diagramOf, phasesOf, approachesOf, stepsOf, rowNumber, rowOf}
-use Rattle.diagram.specs.Known.{noLine}
+use Rattle.diagram.specs.Table.{darkRow, find, diagramOf, phasesOf, approachesOf, stepsOf, rowNumber, rowOf}
 
 -- The columns, by which the code holds the directory
 

@@ -1,6 +1,6 @@
 -- What specs/Named.antt promises, by computed tests over each diagram's rows; the witnesses are searched for.
-use Prim.Native.Nat.{ℕ, zero, suc, _+_, _*_, _-_, _%_, _≤_, _<_}
-use mathlib.Core.Path.{_≡_, refl, sym, ap, subst, _∙_}
+use Prim.Native.Nat.{ℕ, zero, suc, _+_, _-_, _%_, _≤_, _<_}
+use mathlib.Core.Path.{_≡_, refl, ap, subst, _∙_}
 use mathlib.Core.Bool.{Bool, true, false, not, _||_}
 use mathlib.Core.List.{List, [], _∷_}
 use native.Mathlib.Decide.{decLt}
@@ -16,8 +16,8 @@ use Rattle.diagram.specs.Row.{Row}
 use Rattle.diagram.specs.Rows.{rows, directory}
 use Rattle.diagram.specs.Table.{diagramOf, stepsAPhase, stepsIn, rowOf, flashingOf}
 use Rattle.diagram.specs.Known.{Step}
-use Rattle.diagram.specs.Lamps.{bit, lit, lampIn, lampsAnApproach, lastLamp, approachesInWord, redLit, yellowLit, greenLit, roundLit, straightLit, greenManLit, uses}
-use Rattle.diagram.specs.Named.{placeOf, walkFlash, redMan, yellow, SomeYellow, AsNamed, StepsAsNamed, Follows, GreenYellowRed, EndsRed, StraightOn, EachServed}
+use Rattle.diagram.specs.Lamps.{bit, lit, lampIn, lampsAnApproach, lastLamp, approachesInWord, redLit, yellowLit, greenLit, roundLit, straightLit, greenManLit}
+use Rattle.diagram.specs.Named.{placeOf, walkFlash, redMan, yellow, SomeYellow, AsNamed, StepsAsNamed, Follows, GreenYellowRed, EndsRed, EachServed}
 use Rattle.diagram.proofs.Laws.{row-there}
 use Rattle.diagram.proofs.Known.{found-passes}
 use Rattle.diagram.proofs.Rule.{rowIn}

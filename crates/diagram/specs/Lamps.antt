@@ -30,28 +30,28 @@ abbrev pub lampsAnApproach : ℕ
 lampsAnApproach = 8
 
 abbrev pub redLit : Row → ℕ → Bool
-redLit r a = lit r (8 * a + 1)
+redLit r a = lit r (lampsAnApproach * a + 1)
 
 abbrev pub yellowLit : Row → ℕ → Bool
-yellowLit r a = lit r (8 * a + 2)
+yellowLit r a = lit r (lampsAnApproach * a + 2)
 
 abbrev pub leftLit : Row → ℕ → Bool
-leftLit r a = lit r (8 * a + 3)
+leftLit r a = lit r (lampsAnApproach * a + 3)
 
 abbrev pub roundLit : Row → ℕ → Bool
-roundLit r a = lit r (8 * a + 4)
+roundLit r a = lit r (lampsAnApproach * a + 4)
 
 abbrev pub straightLit : Row → ℕ → Bool
-straightLit r a = lit r (8 * a + 5)
+straightLit r a = lit r (lampsAnApproach * a + 5)
 
 abbrev pub rightLit : Row → ℕ → Bool
-rightLit r a = lit r (8 * a + 6)
+rightLit r a = lit r (lampsAnApproach * a + 6)
 
 abbrev pub redManLit : Row → ℕ → Bool
-redManLit r a = lit r (8 * a + 7)
+redManLit r a = lit r (lampsAnApproach * a + 7)
 
 abbrev pub greenManLit : Row → ℕ → Bool
-greenManLit r a = lit r (8 * a + 8)
+greenManLit r a = lit r (lampsAnApproach * a + 8)
 
 -- any of the four greens
 unfoldable pub greenLit : Row → ℕ → Bool

@@ -2,7 +2,6 @@
 use Prim.Native.Nat.{ℕ, _+_, _-_, _%_, _≤_, _<_}
 use mathlib.Core.Path.{_≡_}
 use mathlib.Core.Bool.{true, false, _||_}
-use mathlib.Core.Logic.{_⊎_}
 use Rattle.diagram.specs.Table.{stepsAPhase, stepsOf, rowOf, flashingOf}
 use Rattle.diagram.specs.Known.{Step}
 use Rattle.diagram.specs.Lamps.{lampIn, lampsAnApproach, approachesInWord, redLit, yellowLit, greenLit, roundLit, straightLit, greenManLit, uses}

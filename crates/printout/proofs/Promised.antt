@@ -1,6 +1,6 @@
 -- The promises of specs/Promises.antt: the words by those of the diagrams, 01's listing by computation.
 use Prim.Native.Nat.{ℕ, _^_, _<_}
-use mathlib.Core.Path.{_≡_, refl}
+use mathlib.Core.Path.{refl}
 use mathlib.Core.Bool.{not}
 use mathlib.Core.List.{List}
 use native.Mathlib.Decide.{decLt}
