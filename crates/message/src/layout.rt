@@ -312,9 +312,9 @@ fn out(l: usize, k: usize, n: usize, i: usize, v: u16) -> bool
 }
 
 // "The search over fields stops at the first that fails and yields its number", 0 where none fails.
-pub(crate) fn first_out(l: usize, k: usize, values: [u16; FIELDS_MOST]) -> usize
-    requires { ⌜ k ≤ mostAt l ⌝ }
-    ensures { λ r. ⌜ r ≡ firstOut (rowsAt l k) values ⌝ }
+pub(crate) fn first_out(l: usize, k: usize, values: &[u16]) -> usize
+    requires { ⌜ (k ≤ mostAt l) × (length (now values) ≡ fieldsMost) ⌝ }
+    ensures { λ r. ⌜ r ≡ firstOut (rowsAt l k) (now (values .entry)) ⌝ }
 {
     let n = fields(l, k);
     let mut i: usize = 0;

@@ -46,7 +46,7 @@ fn ranged(l: usize, k: usize, part: &[u8]) -> Read
     ensures { λ r. ⌜ r ≡ rangedOf l k (now (part .entry)) ⌝ }
 {
     let values = values(l, k, part);
-    let field = layout::first_out(l, k, values);
+    let field = layout::first_out(l, k, &values);
     if field != 0 {
         return refused(refusal::OUT_OF_RANGE, field as u8);
     }

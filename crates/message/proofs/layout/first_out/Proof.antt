@@ -21,25 +21,25 @@ loop-holds c = refl
 
 -- the test of the turn is the search's
 judged : (c : tie.After-out Inv-loop μ-loop)
-    → (let a = c .before .before .before .before .args in c .out .result ≡ outAt (rowsAt (a .l) (a .k)) (a .t3) (c .before .before .loop .i))
+    → (let a = c .before .before .before .before .before .before .args in c .out .result ≡ outAt (rowsAt (a .l) (a .k)) (a .values .now) (c .before .before .before .loop .i))
 judged c = c .out .ensures
 
 loop-again : tie.Need-loop-again Inv-loop μ-loop
 loop-again c =
-    let v = c .before .before .before .loop in
-    let a = c .before .before .before .before .before .args in
-    sym (search-goes (outAt (rowsAt (a .l) (a .k)) (a .t3)) fieldsMost (v .i) (search needs) (sym (judged (c .before)) ∙ c .if2 .left)) ∙ v .inv
+    let v = c .before .before .before .before .loop in
+    let a = c .before .before .before .before .before .before .before .args in
+    sym (search-goes (outAt (rowsAt (a .l) (a .k)) (a .values .now)) fieldsMost (v .i) (search needs) (sym (judged (c .before)) ∙ c .if2 .left)) ∙ v .inv
 
 returns : tie.Need-returns Inv-loop μ-loop
 returns c =
-    let a = c .before .before .before .args in
-    sym (search-ends (outAt (rowsAt (a .l) (a .k)) (a .t3)) fieldsMost (c .before .loop .i) (c .if1 .taken)) ∙ c .before .loop .inv
+    let a = c .before .before .before .before .args in
+    sym (search-ends (outAt (rowsAt (a .l) (a .k)) (a .values .now)) fieldsMost (c .before .loop .i) (c .if1 .taken)) ∙ c .before .loop .inv
 
 returns-2 : tie.Need-returns-2 Inv-loop μ-loop
 returns-2 c =
-    let v = c .before .before .before .loop in
-    let a = c .before .before .before .before .before .args in
-    sym (search-stops (outAt (rowsAt (a .l) (a .k)) (a .t3)) fieldsMost (v .i) (search needs) (sym (judged (c .before)) ∙ c .if2 .taken)) ∙ v .inv
+    let v = c .before .before .before .before .loop in
+    let a = c .before .before .before .before .before .before .before .args in
+    sym (search-stops (outAt (rowsAt (a .l) (a .k)) (a .values .now)) fieldsMost (v .i) (search needs) (sym (judged (c .before)) ∙ c .if2 .taken)) ∙ v .inv
 
 pub first-out-spec : {M : Type 1} → statement M
 first-out-spec =

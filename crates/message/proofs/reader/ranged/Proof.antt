@@ -10,21 +10,21 @@ use Rattle.message.proofs.reader.ranged.Tie as tie
 
 cast-refused : tie.Need-cast-refused
 cast-refused c =
-    let a = c .before .before .before .before .args in
-    omega (arith, c .before .first-out .ensures, first-out-most (rowsAt (a .l) (a .k)) (c .before .before .values .result))
+    let a = c .before .before .before .before .before .args in
+    omega (arith, c .before .first-out .ensures, first-out-most (rowsAt (a .l) (a .k)) (c .before .before .before .values .result))
 
 returns : tie.Need-returns
 returns c =
-    let a = c .before .before .before .before .before .args in
+    let a = c .before .before .before .before .before .before .args in
     c .refused .ensures
-    ∙ ranged-12 (a .l) (a .k) (a .part .now) (c .before .before .before .values .result) (c .before .before .first-out .result)
-    (c .before .before .before .values .ensures) (c .before .before .first-out .ensures) (c .before .if1 .taken)
+    ∙ ranged-12 (a .l) (a .k) (a .part .now) (c .before .before .before .before .values .result) (c .before .before .first-out .result)
+    (c .before .before .before .before .values .ensures) (c .before .before .first-out .ensures) (c .before .if1 .taken)
 
 returns-2 : tie.Need-returns-2
 returns-2 c =
-    let a = c .before .before .before .before .before .before .args in
-    ranged-done (a .l) (a .k) (a .part .now) (c .before .before .before .before .values .result) (c .before .before .before .first-out .result)
-    (c .before .before .before .before .values .ensures) (c .before .before .before .first-out .ensures) (c .before .before .if1 .left)
+    let a = c .before .before .before .before .before .before .before .args in
+    ranged-done (a .l) (a .k) (a .part .now) (c .before .before .before .before .before .values .result) (c .before .before .before .first-out .result)
+    (c .before .before .before .before .before .values .ensures) (c .before .before .before .first-out .ensures) (c .before .before .if1 .left)
     (kept-code (c .before .layout-at .ensures)) (c .fields .ensures .0)
 
 pub ranged-spec : {M : Type 1} → statement M
@@ -32,6 +32,7 @@ ranged-spec =
     tie.close
     (tie.spec
     (λ c κs. search needs)
+    (λ c. search needs)
     (λ c κs. search needs)
     cast-refused
     (λ c κs. search needs)
