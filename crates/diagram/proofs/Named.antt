@@ -3,9 +3,9 @@ use Prim.Native.Nat.{ℕ, zero, suc, _+_, _-_, _%_, _≤_, _<_}
 use mathlib.Core.Path.{_≡_, refl, ap, subst, _∙_}
 use mathlib.Core.Bool.{Bool, true, false, not, _||_}
 use mathlib.Core.List.{List, [], _∷_}
-use native.Mathlib.Decide.{decLt}
+use native.Mathlib.Decide.{decLe, decLt}
 use native.Mathlib.Omega.{arith}
-use borrow.Author.Tests.{eq-eqb, eqb-true, le-leb, lt-ltb, ltb-true, not-true}
+use borrow.Author.Tests.{eq-eqb, ne-eqb, eqb-true, le-leb, lt-ltb, ltb-true, not-true}
 use lib.Dec.{eqb, leb, ltb}
 use lib.ListN.{getD}
 use Rattle.octets.specs.Choice.{pick, both}
@@ -19,7 +19,7 @@ use Rattle.diagram.specs.Known.{Step}
 use Rattle.diagram.specs.Lamps.{bit, lit, lampIn, lampsAnApproach, lastLamp, approachesInWord, redLit, yellowLit, greenLit, roundLit, straightLit, greenManLit}
 use Rattle.diagram.specs.Named.{placeOf, walkFlash, redMan, yellow, SomeYellow, AsNamed, StepsAsNamed, Follows, GreenYellowRed, EndsRed, EachServed}
 use Rattle.diagram.proofs.Laws.{row-there}
-use Rattle.diagram.proofs.Known.{found-passes}
+use Rattle.diagram.proofs.Known.{found-passes, outside-dark}
 use Rattle.diagram.proofs.Rule.{rowIn}
 use Rattle.diagram.proofs.Words.{flashing-fits, bit-past}
 
@@ -45,6 +45,9 @@ place i = i % stepsAPhase + 1
 flashFits : Row → ℕ → ℕ → Bool
 flashFits r i j = implies (bit (r .flashing) j) (both (eqb ((j + 1) % lampsAnApproach) 0) (eqb (place i) walkFlash))
 
+quietFits : Row → ℕ → Bool
+quietFits r i = implies (not (eqb (place i) walkFlash)) (eqb (r .flashing) 0)
+
 manFits : Row → ℕ → ℕ → Bool
 manFits r i a = implies (leb redMan (place i)) (not (greenManLit r a))
 
@@ -65,6 +68,7 @@ rowTests d i =
     let r = rowIn d i in
     below (flashFits r i) lastLamp ∷ below (manFits r i) approachesInWord ∷ below (yellowFits r i) approachesInWord ∷ someFits r i
     ∷ implies (ltb (i + 1) (stepsIn d)) (below (follows r (rowIn d (i + 1))) approachesInWord)
+    ∷ quietFits r i
     ∷ []
 
 straight : Row → ℕ → Bool
@@ -87,7 +91,7 @@ diagramTests : Diagram → List Bool
 diagramTests d = below (λ i. all (rowTests d i)) (stepsIn d) ∷ below (endsRed d) approachesInWord ∷ below (served d) approachesInWord ∷ []
 
 diagrams-pass : every (λ d. all (diagramTests d)) directory ≡ true
-unfolding every below all search-below diagramTests rowTests flashFits manFits yellowFits someYellow follows endsRed straight goes served lit greenLit directory rows
+unfolding every below all search-below diagramTests rowTests flashFits quietFits manFits yellowFits someYellow follows endsRed straight goes served lit greenLit directory rows
 diagrams-pass = refl
 
 diagram-passes : (order k : ℕ) → getD (diagramTests (diagramOf order)) k true ≡ true
@@ -138,6 +142,12 @@ module _ (order step : ℕ) (s : Step order step) where
       by (yes l) = flashing-at m t l
       by (no g) = absurd (clash (subst (λ (w : Row). lampIn (w .flashing) m ≡ false) there (past (omega arith))) t)
 
+  quiet : (placeOf step ≡ walkFlash → ⊥) → r .flashing ≡ 0
+  unfolding rowTests quietFits
+  quiet ne =
+      let t = implied (not (eqb (placeOf step) walkFlash)) (eqb (r .flashing) 0) (passes 5) (ap not (ne-eqb (placeOf step) walkFlash ne)) in
+      eqb-true (r .flashing) 0 t
+
   men : (a : ℕ) → a < approachesInWord → redMan ≤ placeOf step → greenManLit r a ≡ false
   unfolding rowTests manFits
   men a h l =
@@ -164,6 +174,7 @@ module _ (order step : ℕ) (s : Step order step) where
   pub as-named : AsNamed order step
   as-named = record {
     flashes = rw (there, flashingOf) flashes;
+    quiet = rw (there, flashingOf) quiet;
     men = rw there men;
     yellows = rw there yellows;
     some = some;
@@ -195,6 +206,15 @@ module _ (order step : ℕ) (s : Step order step) where
 
 pub steps-as-named : StepsAsNamed
 steps-as-named order step s = as-named order step s
+
+-- at any step, there or not
+pub quiet-else : (order step : ℕ) → (step % stepsAPhase ≡ walkFlash → ⊥) → flashingOf order step ≡ 0
+quiet-else order step ne = by (decLe 1 step) (decLe step (stepsIn (diagramOf order)))
+  where
+    by : Dec (1 ≤ step) → Dec (step ≤ stepsIn (diagramOf order)) → flashingOf order step ≡ 0
+    by (yes f) (yes l) = as-named order step (record { first = f; last = l }) .quiet (λ e. ne (omega (arith, e)))
+    by (yes f) (no g) = outside-dark order step (λ s. g (s .last)) .flashing
+    by (no z) _ = outside-dark order step (λ s. z (s .first)) .flashing
 
 pub green-yellow-red : GreenYellowRed
 green-yellow-red order step a s n h = followed order step s a n h

@@ -1,7 +1,7 @@
 -- What the directory promises: which phase orders are known, that each row is a step of one, and that all else is dark.
 use Prim.Native.Nat.{ℕ, _≤_, _<_}
 use mathlib.Core.Path.{_≡_}
-use mathlib.Core.Bool.{_||_}
+use mathlib.Core.Bool.{Bool, _||_}
 use lib.Dec.{eqb, leb}
 use lib.ListN.{length, getD}
 use Rattle.octets.specs.Choice.{pick, both}
@@ -27,13 +27,16 @@ pub record Known (order : ℕ) : Type 0 where
 abbrev pub EachFound : Type 0
 EachFound = (i : ℕ) → i < length directory → diagramOf (lineAt i .order) ≡ lineAt i
 
+abbrev pub within : ℕ → ℕ → ℕ → Bool
+within least v greatest = both (leb least v) (leb v greatest)
+
 -- 02, E2: "The phase order is the type code of Appendix 1, as 60 and 61 for number 22 (A) and (B)."
 -- The phases of each supported code: of number 00, of 07 and 14, of 19 to 21 and 22 to 28; an order that is none of them has none.
 unfoldable pub phasesDue : ℕ → ℕ
 phasesDue order =
     pick (eqb order 0x00) 2
     (pick (eqb order 0x20 || eqb order 0x38) 3
-    (pick (both (leb 0x50 order) (leb order 0x57) || both (leb 0x60 order) (leb order 0x6d)) 4 0))
+    (pick (within 0x50 order 0x57 || within 0x60 order 0x6d) 4 0))
 
 -- 02, E2: "01's range for phase order becomes the supported codes"
 abbrev pub SupportedCodes : Type 0

@@ -30,6 +30,7 @@ pub record SomeYellow (order step : ℕ) : Type 0 where
 pub record AsNamed (order step : ℕ) : Type 0 where
   -- a lamp that flashes is a green man, in the step of the walk flash
   pub flashes : (m : ℕ) → lampIn (flashingOf order step) m ≡ true → (m % lampsAnApproach ≡ 0) × (placeOf step ≡ walkFlash)
+  pub quiet : (placeOf step ≡ walkFlash → ⊥) → flashingOf order step ≡ 0
   -- from the step of the red man on no green man is lit
   pub men : (a : ℕ) → a < approachesInWord → redMan ≤ placeOf step → greenManLit (rowOf order step) a ≡ false
   -- yellow is shown in its own step alone, and there by some approach

@@ -3,18 +3,21 @@
 ghost use mathlib.Core.Path.{_≡_};
 ghost use Rattle.diagram.specs.Table.{diagramOf, stepsIn, phasesOf, approachesOf, stepsOf};
 ghost use Rattle.diagram.specs.Table.{rowNumber, steadyOf, flashingOf};
+ghost use Rattle.diagram.specs.Known.{within};
 
 mod rows;
 
 use crate::rows::APPROACHES;
 use crate::rows::FIRST_ROWS;
 use crate::rows::FLASHING;
-use crate::rows::PHASES;
 use crate::rows::ROWS;
 use crate::rows::STEADY;
 
 // The steps of a phase: green, walk flash, red man, yellow, all-red.
 pub const STEPS_A_PHASE: u16 = 5;
+
+// The step of the walk flash in each phase.
+const WALK_FLASH: u16 = 2;
 
 // A line of the directory.
 struct Diagram {
@@ -31,7 +34,7 @@ fn find(order: u8) -> Diagram
     Diagram {
         order,
         first: FIRST_ROWS[order as usize],
-        phases: PHASES[order as usize],
+        phases: phases(order),
         approaches: APPROACHES[order as usize],
     }
 }
@@ -43,11 +46,32 @@ fn steps_in(d: Diagram) -> u16
     STEPS_A_PHASE * d.phases as u16
 }
 
-// The phases of an order; 0 where it is unknown.
+// The phases of an order; 0 where it is unknown. They are asked for in every call, so no table is read for them.
 pub fn phases(order: u8) -> u8
     ensures { λ r. ⌜ r ≡ phasesOf order ⌝ }
 {
-    find(order).phases
+    if order == 0x00 {
+        return 2;
+    }
+    if order == 0x20 {
+        return 3;
+    }
+    if order == 0x38 {
+        return 3;
+    }
+    if within(0x50, order, 0x57) {
+        return 4;
+    }
+    if within(0x60, order, 0x6d) {
+        return 4;
+    }
+    0
+}
+
+fn within(least: u8, order: u8, greatest: u8) -> bool
+    ensures { λ r. ⌜ r ≡ within least order greatest ⌝ }
+{
+    least <= order && order <= greatest
 }
 
 // The approaches that an order uses, bit 0 for A, on to bit 7 for H; none where it is unknown.
@@ -84,18 +108,21 @@ pub fn steady(order: u8, step: u16) -> u64
 {
     let row = row_number(order, step);
     if row < ROWS {
-        return STEADY[row];
+        return STEADY[row] as u64;
     }
     0
 }
 
-// The flashing lamps of a step, the first step being 1; none where there is no such step.
+// The flashing lamps of a step, the first step being 1; none where there is no such step, and none but in the walk flash.
 pub fn flashing(order: u8, step: u16) -> u64
     ensures { λ r. ⌜ r ≡ flashingOf order step ⌝ }
 {
+    if step % STEPS_A_PHASE != WALK_FLASH {
+        return 0;
+    }
     let row = row_number(order, step);
     if row < ROWS {
-        return FLASHING[row];
+        return FLASHING[row] as u64;
     }
     0
 }

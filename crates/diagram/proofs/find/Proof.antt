@@ -9,8 +9,8 @@ use Rattle.diagram.proofs.find.Tie as tie
 returns : tie.Need-returns
 unfolding directory find diagramOf upFrom
 returns c =
-    let o = c .args .order in
-    line-of o (column-at (λ d. d .first) o (search needs)) (column-at (λ d. d .phases) o (search needs)) (column-at (λ d. d .approaches) o (search needs))
+    let o = c .before .args .order in
+    line-of o (column-at (λ d. d .first) o (search needs)) (c .phases .ensures) (column-at (λ d. d .approaches) o (search needs))
 
 pub find-spec : {M : Type 1} → statement M
-find-spec = tie.close (tie.spec (λ c. search needs) (λ c. search needs) (λ c. search needs) (λ c. search needs) returns)
+find-spec = tie.close (tie.spec (λ c. search needs) (λ c. search needs) (λ c κs. search needs) (λ c. search needs) returns)

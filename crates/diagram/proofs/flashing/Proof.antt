@@ -1,17 +1,33 @@
--- `diagram::flashing` meets its contract: the code's words are those of the table, and past its end there is none.
+-- `diagram::flashing` meets its contract: but in the walk flash no lamp flashes, and there the code's words are those of the table.
+use Prim.Native.Nat.{ℕ}
+use mathlib.Core.Path.{sym, subst}
+use native.Mathlib.Omega.{arith}
 use borrow.Author.Needs.{needs}
+use mir.Syntax.{w64}
+use mir.Val.{Fits}
 use Rattle.diagram.specs.Rows.{rows}
 use Rattle.diagram.proofs.Laws.{word-there, word-past}
+use Rattle.diagram.proofs.Words.{flashing-fits}
+use Rattle.diagram.proofs.Named.{quiet-else}
 use Rattle.diagram.proofs.flashing.Statement.{statement}
 use Rattle.diagram.proofs.flashing.Tie as tie
 
 returns : tie.Need-returns
+returns c = let a = c .before .args in sym (quiet-else (a .order) (a .step) (c .if1 .taken))
+
+cast-result : tie.Need-cast-result
 unfolding rows
-returns c = let a = c .before .before .args in word-there (a .order) (a .step) (λ r. r .flashing) (c .before .row-number .ensures)
+cast-result c =
+    let a = c .before .before .before .args in
+    subst (λ (n : ℕ). Fits w64 n) (sym (word-there (a .order) (a .step) (λ r. r .flashing) (c .before .row-number .ensures))) (omega (arith, flashing-fits (a .order) (a .step)))
 
 returns-2 : tie.Need-returns-2
 unfolding rows
-returns-2 c = let a = c .before .before .args in word-past (a .order) (a .step) (λ r. r .flashing) (c .before .row-number .ensures) (search needs)
+returns-2 c = let a = c .before .before .before .args in word-there (a .order) (a .step) (λ r. r .flashing) (c .before .row-number .ensures)
+
+returns-3 : tie.Need-returns-3
+unfolding rows
+returns-3 c = let a = c .before .before .before .args in word-past (a .order) (a .step) (λ r. r .flashing) (c .before .row-number .ensures) (search needs)
 
 pub flashing-spec : {M : Type 1} → statement M
-flashing-spec = tie.close (tie.spec (λ c κs. search needs) (λ c. search needs) (λ c. search needs) returns returns-2)
+flashing-spec = tie.close (tie.spec returns (λ c κs. search needs) (λ c. search needs) (λ c. search needs) cast-result returns-2 returns-3)
