@@ -11,6 +11,9 @@ LAMPS = ["red", "yellow", "left", "round", "straight", "right", "red-man", "gree
 COLUMNS = ["紅燈", "黃燈", "左轉綠", "圓綠燈", "直行綠", "右轉綠", "行人紅", "行人綠"]
 PHASES = ["I", "II", "III", "IV", "V", "VI", "VII", "VIII"]
 
+# the columns before the lamps: step, phase and the heading 方位
+LEAD = 3
+
 # a lamp that is lit, and one that flashes; a mark in the column of the heading 方位, left of the lamps
 STEADY, FLASHING = "○", "△"
 HEADING = "heading"
@@ -55,14 +58,15 @@ def part(lines, first, last):
 
 def codes(lines, renumbered):
     """Appendix 1: the type code of each number and class."""
-    found, number = {}, None
+    found, number, unset = {}, None, dict(renumbered)
     for row in (cells(l) for l in part(lines, "附錄一", "附錄二") if l.startswith("|")):
         if not re.fullmatch("[0-9A-F]{2}", row[-1]) or not re.fullmatch("[A-F]", row[2]):
             continue
         number = int(row[0]) if row[0] else number
-        key = (renumbered.get(row[-1], number), row[2])
+        key = (unset.pop(row[-1], number), row[2])
         assert key not in found, f"Appendix 1 has {key} twice"
         found[key] = int(row[-1], 16)
+    assert not unset, f"codes that Appendix 1 does not have: {unset}"
     return found
 
 
@@ -76,24 +80,24 @@ def titled(text):
 def heads(table, row):
     """Whether the row is one of a table's three headings; the approaches are taken from the first."""
     if row[2] == "方位":
-        table.approaches = [c for c in row[3:] if c]
+        table.approaches = [c for c in row[LEAD:] if c]
     elif row[2] == "流向":
-        assert row[3:] == COLUMNS * len(table.approaches), row
+        assert row[LEAD:] == COLUMNS * len(table.approaches), row
     elif row[2] == "編號":
-        numbers = [8 * (ord(a) - ord("A")) + i for a in table.approaches for i in range(1, 9)]
-        assert [int(c) for c in row[3:]] == numbers, row
+        numbers = [len(LAMPS) * (ord(a) - ord("A")) + i for a in table.approaches for i in range(1, len(LAMPS) + 1)]
+        assert [int(c) for c in row[LEAD:]] == numbers, row
     return row[2] in ("方位", "流向", "編號")
 
 
 def add_row(table, row):
     """A row of a step: its number, the mark of a phase, the heading's column, eight lamps an approach."""
     table.steps += 1
-    assert len(row) == 3 + 8 * len(table.approaches) and row[0] == str(table.steps), row
+    assert len(row) == LEAD + len(LAMPS) * len(table.approaches) and row[0] == str(table.steps), row
     assert row[1] in ("", PHASES[len(table.starts)]) and row[2] in ("", STEADY), row
     if row[1]:
         table.starts.append(table.steps)
     for i, approach in enumerate(table.approaches):
-        lamps = row[3 + 8 * i:11 + 8 * i]
+        lamps = row[LEAD + len(LAMPS) * i:][:len(LAMPS)]
         assert set(lamps) <= {"", STEADY, FLASHING}, row
         marks = {l + ("-flashing" if c == FLASHING else "") for l, c in zip(LAMPS, lamps) if c}
         key = (table.steps, approach)
@@ -128,12 +132,14 @@ def drop(table, empty):
 
 def diagrams(lines, empty):
     """Appendix 2: each diagram, its tables put together."""
-    found = {}
+    found, kept = {}, set(empty)
     for table in tables(lines):
+        kept.discard((table.diagram.number, table.diagram.letter, table.steps))
         drop(table, empty)
         d = found.setdefault((table.diagram.number, table.diagram.letter), table.diagram)
         d.starts, d.steps = d.starts or table.starts, d.steps or table.steps
         assert (d.starts, d.steps) == (table.starts, table.steps), f"a continuation differs: {d.number} ({d.letter})"
+    assert not kept, f"rows that are not there: {kept}"
     for d in found.values():
         assert "".join(d.approaches()) == "ABCDEFGH"[:len(d.approaches())], f"approaches of {d.number} ({d.letter})"
     return found

@@ -14,7 +14,7 @@ use Rattle.diagram.specs.declared.Diagram.{Diagram}
 use Rattle.diagram.specs.Row.{Row, diagram}
 use Rattle.diagram.specs.Rows.{rows, directory}
 use Rattle.diagram.specs.Table.{unknown, find, diagramOf, phasesOf, stepsIn, stepsOf, rowNumber}
-use Rattle.diagram.specs.Known.{noLine, lineAt, Known, phasesDue, SupportedCodes, EachFound, KnownPhases, EachUsed, AllDark, OutsideDark, Absent, UnknownDark}
+use Rattle.diagram.specs.Known.{noLine, lineAt, Known, phasesDue, SupportedCodes, phasesMost, EachFound, KnownPhases, EachUsed, AllDark, OutsideDark, Absent, UnknownDark}
 use Rattle.diagram.proofs.Laws.{number-none, number-past, row-past}
 
 -- What is not there
@@ -79,9 +79,9 @@ found-passes test t u order = by (found order directory)
     by (at i h e p) = rw p (every-at test directory i noLine t (λ l. absurd (omega arith)))
     by (none p) = rw p (u order)
 
-pub phases-most : (order : ℕ) → phasesOf order ≤ 8
+pub phases-most : (order : ℕ) → phasesOf order ≤ phasesMost
 unfolding every directory
-phases-most order = leb-true (phasesOf order) 8 (found-passes (λ d. leb (d .phases) 8) refl (λ _. refl) order)
+phases-most order = leb-true (phasesOf order) phasesMost (found-passes (λ d. leb (d .phases) phasesMost) refl (λ _. refl) order)
 
 -- The lines of the directory
 

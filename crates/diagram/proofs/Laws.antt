@@ -24,9 +24,14 @@ up-at k zero i d h = absurd (omega arith)
 up-at k (suc n) zero d h = omega arith
 up-at k (suc n) (suc i) d h = up-at (suc k) n i d (omega arith) ∙ omega arith
 
--- a column has what the line of each order says, and past the last octet what is said where there is none
-pub column-at : (f : Diagram → ℕ) (order : ℕ) → order < 256 → getD (map (λ o. f (diagramOf o)) (upFrom 0 256)) order (f (diagramOf 256)) ≡ f (diagramOf order)
-column-at f order h = List·getD-map (λ o. f (diagramOf o)) (upFrom 0 256) order 256 ∙ ap (λ (o : ℕ). f (diagramOf o)) (up-at 0 256 order 256 h ∙ omega arith)
+-- an order is an octet
+abbrev orders : ℕ
+orders = 256
+
+-- a column has what the line of each order says, and past the last what is said where there is none
+pub column-at : (f : Diagram → ℕ) (order : ℕ) → order < orders → getD (map (λ o. f (diagramOf o)) (upFrom 0 orders)) order (f (diagramOf orders)) ≡ f (diagramOf order)
+column-at f order h =
+    List·getD-map (λ o. f (diagramOf o)) (upFrom 0 orders) order orders ∙ ap (λ (o : ℕ). f (diagramOf o)) (up-at 0 orders order orders h ∙ omega arith)
 
 -- a line is what its columns say
 found-order : (order : ℕ) (ds : List Diagram) → find order ds .order ≡ order

@@ -1,6 +1,6 @@
 -- What specs/Named.antt promises, by computed tests over each diagram's rows; the witnesses are searched for.
-use Prim.Native.Nat.{ℕ, zero, suc, _+_, _-_, _%_, _≤_, _<_}
-use mathlib.Core.Path.{_≡_, refl, ap, subst, _∙_}
+use Prim.Native.Nat.{ℕ, zero, suc, _+_, _*_, _-_, _%_, _≤_, _<_}
+use mathlib.Core.Path.{_≡_, refl, sym, ap, subst, _∙_}
 use mathlib.Core.Bool.{Bool, true, false, not, _||_}
 use mathlib.Core.List.{List, [], _∷_}
 use native.Mathlib.Decide.{decLe, decLt}
@@ -15,9 +15,9 @@ use Rattle.diagram.specs.declared.Diagram.{Diagram}
 use Rattle.diagram.specs.Row.{Row}
 use Rattle.diagram.specs.Rows.{rows, directory}
 use Rattle.diagram.specs.Table.{diagramOf, stepsAPhase, stepsIn, rowOf, flashingOf}
-use Rattle.diagram.specs.Known.{Step}
-use Rattle.diagram.specs.Lamps.{bit, lit, lampIn, lampsAnApproach, lastLamp, approachesInWord, redLit, yellowLit, greenLit, roundLit, straightLit, greenManLit}
-use Rattle.diagram.specs.Named.{placeOf, walkFlash, redMan, yellow, SomeYellow, AsNamed, StepsAsNamed, Follows, GreenYellowRed, EndsRed, EachServed}
+use Rattle.diagram.specs.Known.{Step, inRange}
+use Rattle.diagram.specs.Lamps.{bit, lit, lampIn, lampsAnApproach, vehicleLamps, greenManOf, lastLamp, approachesInWord, redLit, yellowLit, greenLit, roundLit, straightLit, greenManLit}
+use Rattle.diagram.specs.Named.{placeOf, greenPlace, walkFlashPlace, redManPlace, yellowPlace, SomeGreen, SomeYellow, VehiclesAlike, Within, AsNamed, StepsAsNamed, Follows, GreenYellowRed, EndsRed, EachServed}
 use Rattle.diagram.proofs.Laws.{row-there}
 use Rattle.diagram.proofs.Known.{found-passes, outside-dark}
 use Rattle.diagram.proofs.Rule.{rowIn}
@@ -32,6 +32,15 @@ implied : (x y : Bool) → implies x y ≡ true → x ≡ true → y ≡ true
 implied true y t e = t
 implied false y t e = absurd (clash refl e)
 
+same : Bool → Bool → Bool
+same true y = y
+same false y = not y
+
+same-eq : (x y : Bool) → same x y ≡ true → x ≡ y
+unfolding same
+same-eq true y t = sym t
+same-eq false y t = sym (not-true y t)
+
 -- the greatest number below n that passes, or 0
 search-below : (ℕ → Bool) → ℕ → ℕ
 search-below test zero = 0
@@ -43,32 +52,51 @@ abbrev place : ℕ → ℕ
 place i = i % stepsAPhase + 1
 
 flashFits : Row → ℕ → ℕ → Bool
-flashFits r i j = implies (bit (r .flashing) j) (both (eqb ((j + 1) % lampsAnApproach) 0) (eqb (place i) walkFlash))
+flashFits r i j = implies (bit (r .flashing) j) (both (eqb ((j + 1) % lampsAnApproach) 0) (eqb (place i) walkFlashPlace))
 
 quietFits : Row → ℕ → Bool
-quietFits r i = implies (not (eqb (place i) walkFlash)) (eqb (r .flashing) 0)
+quietFits r i = implies (not (eqb (place i) walkFlashPlace)) (eqb (r .flashing) 0)
 
 manFits : Row → ℕ → ℕ → Bool
-manFits r i a = implies (leb redMan (place i)) (not (greenManLit r a))
+manFits r i a = implies (leb redManPlace (place i)) (not (greenManLit r a))
 
 yellowFits : Row → ℕ → ℕ → Bool
-yellowFits r i a = implies (yellowLit r a) (eqb (place i) yellow)
+yellowFits r i a = implies (yellowLit r a) (eqb (place i) yellowPlace)
+
+someGreen : Row → ℕ
+someGreen r = search-below (greenLit r) approachesInWord
+
+abbrev greenFits : Row → ℕ → Bool
+greenFits r i = implies (eqb (place i) greenPlace) (both (ltb (someGreen r) approachesInWord) (greenLit r (someGreen r)))
 
 someYellow : Row → ℕ
 someYellow r = search-below (yellowLit r) approachesInWord
 
 abbrev someFits : Row → ℕ → Bool
-someFits r i = implies (eqb (place i) yellow) (both (ltb (someYellow r) approachesInWord) (yellowLit r (someYellow r)))
+someFits r i = implies (eqb (place i) yellowPlace) (both (ltb (someYellow r) approachesInWord) (yellowLit r (someYellow r)))
 
-follows : Row → Row → ℕ → Bool
-follows r s a = both (implies (greenLit r a) (greenLit s a || yellowLit s a)) (implies (yellowLit r a) (redLit s a))
+-- of a row and its next, number n
+
+abbrev alike : Row → Row → ℕ → ℕ → Bool
+alike r s a j = same (lit r (lampsAnApproach * a + (j + 1))) (lit s (lampsAnApproach * a + (j + 1)))
+
+followTests : Row → Row → ℕ → ℕ → List Bool
+followTests r s n a =
+    implies (greenLit r a) (greenLit s a || yellowLit s a) ∷ implies (yellowLit r a) (redLit s a) ∷ implies (yellowLit s a) (greenLit r a)
+    ∷ implies (inRange walkFlashPlace (place n) redManPlace) (below (alike r s a) vehicleLamps)
+    ∷ implies (eqb (place n) walkFlashPlace) (same (lampIn (s .flashing) (greenManOf a)) (greenManLit r a))
+    ∷ []
+
+follows : Row → Row → ℕ → ℕ → Bool
+follows r s n a = all (followTests r s n a)
 
 rowTests : Diagram → ℕ → List Bool
 rowTests d i =
     let r = rowIn d i in
     below (flashFits r i) lastLamp ∷ below (manFits r i) approachesInWord ∷ below (yellowFits r i) approachesInWord ∷ someFits r i
-    ∷ implies (ltb (i + 1) (stepsIn d)) (below (follows r (rowIn d (i + 1))) approachesInWord)
+    ∷ implies (ltb (i + 1) (stepsIn d)) (below (follows r (rowIn d (i + 1)) (i + 1)) approachesInWord)
     ∷ quietFits r i
+    ∷ greenFits r i
     ∷ []
 
 straight : Row → ℕ → Bool
@@ -76,7 +104,7 @@ straight r a = roundLit r a || straightLit r a
 
 -- the row that lets the approach go straight on
 goes : Diagram → ℕ → ℕ
-goes d a = search-below (λ i. straight (rowIn d i) a) (stepsIn d)
+goes d a = search-below (λ i. both (eqb (place i) greenPlace) (straight (rowIn d i) a)) (stepsIn d)
 
 abbrev lastIn : Diagram → ℕ
 lastIn d = stepsIn d - 1
@@ -84,14 +112,17 @@ lastIn d = stepsIn d - 1
 endsRed : Diagram → ℕ → Bool
 endsRed d a = implies (bit (d .approaches) a) (both (ltb 0 (stepsIn d)) (redLit (rowIn d (lastIn d)) a))
 
+servedTests : Diagram → ℕ → List Bool
+servedTests d a = ltb (goes d a) (stepsIn d) ∷ eqb (place (goes d a)) greenPlace ∷ straight (rowIn d (goes d a)) a ∷ []
+
 served : Diagram → ℕ → Bool
-served d a = implies (bit (d .approaches) a) (both (ltb (goes d a) (stepsIn d)) (straight (rowIn d (goes d a)) a))
+served d a = implies (bit (d .approaches) a) (all (servedTests d a))
 
 diagramTests : Diagram → List Bool
 diagramTests d = below (λ i. all (rowTests d i)) (stepsIn d) ∷ below (endsRed d) approachesInWord ∷ below (served d) approachesInWord ∷ []
 
 diagrams-pass : every (λ d. all (diagramTests d)) directory ≡ true
-unfolding every below all search-below diagramTests rowTests flashFits quietFits manFits yellowFits someYellow follows endsRed straight goes served lit greenLit directory rows
+unfolding every below all same search-below diagramTests rowTests flashFits quietFits manFits yellowFits someGreen someYellow followTests follows endsRed straight goes servedTests served lit greenLit directory rows
 diagrams-pass = refl
 
 diagram-passes : (order k : ℕ) → getD (diagramTests (diagramOf order)) k true ≡ true
@@ -123,48 +154,59 @@ module _ (order step : ℕ) (s : Step order step) where
   unfolding diagramTests
   passes k = all-at (rowTests d i) k (below-at (λ n. all (rowTests d n)) (stepsIn d) i (diagram-passes order 0) (omega (arith, s .first, s .last)))
 
-  flashing-at : (m : ℕ) → lampIn (r .flashing) m ≡ true → m - 1 < lastLamp → (m % lampsAnApproach ≡ 0) × (placeOf step ≡ walkFlash)
+  flashing-at : (m : ℕ) → lampIn (r .flashing) m ≡ true → m - 1 < lastLamp → (m % lampsAnApproach ≡ 0) × (placeOf step ≡ walkFlashPlace)
   unfolding rowTests flashFits
   flashing-at m t l =
       let man = eqb ((m - 1 + 1) % lampsAnApproach) 0 in
-      let at = eqb (placeOf step) walkFlash in
+      let at = eqb (placeOf step) walkFlashPlace in
       let b = implied (bit (r .flashing) (m - 1)) (both man at) (below-at (flashFits r i) lastLamp (m - 1) (passes 0) l) t in
       let z = eqb-true ((m - 1 + 1) % lampsAnApproach) 0 (both-left man at b) in
-      (omega (arith, z), eqb-true (placeOf step) walkFlash (both-right man at b))
+      (omega (arith, z), eqb-true (placeOf step) walkFlashPlace (both-right man at b))
 
-  flashes : (m : ℕ) → lampIn (r .flashing) m ≡ true → (m % lampsAnApproach ≡ 0) × (placeOf step ≡ walkFlash)
+  flashes : (m : ℕ) → lampIn (r .flashing) m ≡ true → (m % lampsAnApproach ≡ 0) × (placeOf step ≡ walkFlashPlace)
   flashes m t = by (decLt (m - 1) lastLamp)
     where
       past : (lastLamp ≤ m - 1) → lampIn (flashingOf order step) m ≡ false
       past h = bit-past (flashingOf order step) lastLamp (m - 1) (flashing-fits order step) h
 
-      by : Dec (m - 1 < lastLamp) → (m % lampsAnApproach ≡ 0) × (placeOf step ≡ walkFlash)
+      by : Dec (m - 1 < lastLamp) → (m % lampsAnApproach ≡ 0) × (placeOf step ≡ walkFlashPlace)
       by (yes l) = flashing-at m t l
       by (no g) = absurd (clash (subst (λ (w : Row). lampIn (w .flashing) m ≡ false) there (past (omega arith))) t)
 
-  quiet : (placeOf step ≡ walkFlash → ⊥) → r .flashing ≡ 0
+  quiet : (placeOf step ≡ walkFlashPlace → ⊥) → r .flashing ≡ 0
   unfolding rowTests quietFits
   quiet ne =
-      let t = implied (not (eqb (placeOf step) walkFlash)) (eqb (r .flashing) 0) (passes 5) (ap not (ne-eqb (placeOf step) walkFlash ne)) in
+      let t = implied (not (eqb (placeOf step) walkFlashPlace)) (eqb (r .flashing) 0) (passes 5) (ap not (ne-eqb (placeOf step) walkFlashPlace ne)) in
       eqb-true (r .flashing) 0 t
 
-  men : (a : ℕ) → a < approachesInWord → redMan ≤ placeOf step → greenManLit r a ≡ false
+  men : (a : ℕ) → a < approachesInWord → redManPlace ≤ placeOf step → greenManLit r a ≡ false
   unfolding rowTests manFits
   men a h l =
       let t = below-at (manFits r i) approachesInWord a (passes 1) h in
-      not-true (greenManLit r a) (implied (leb redMan (placeOf step)) (not (greenManLit r a)) t (le-leb redMan (placeOf step) l))
+      not-true (greenManLit r a) (implied (leb redManPlace (placeOf step)) (not (greenManLit r a)) t (le-leb redManPlace (placeOf step) l))
 
-  yellows : (a : ℕ) → a < approachesInWord → yellowLit r a ≡ true → placeOf step ≡ yellow
+  yellows : (a : ℕ) → a < approachesInWord → yellowLit r a ≡ true → placeOf step ≡ yellowPlace
   unfolding rowTests yellowFits
   yellows a h y =
       let t = below-at (yellowFits r i) approachesInWord a (passes 2) h in
-      eqb-true (placeOf step) yellow (implied (yellowLit r a) (eqb (placeOf step) yellow) t y)
+      eqb-true (placeOf step) yellowPlace (implied (yellowLit r a) (eqb (placeOf step) yellowPlace) t y)
 
-  some : placeOf step ≡ yellow → SomeYellow order step
+  greens : placeOf step ≡ greenPlace → SomeGreen order step
+  unfolding rowTests
+  greens e =
+      let a = someGreen r in
+      let b = implied (eqb (placeOf step) greenPlace) (both (ltb a approachesInWord) (greenLit r a)) (passes 6) (eq-eqb (placeOf step) greenPlace e) in
+      record {
+        approach = a;
+        within = ltb-true a approachesInWord (both-left (ltb a approachesInWord) (greenLit r a) b);
+        shown = rw there (both-right (ltb a approachesInWord) (greenLit r a) b);
+      }
+
+  some : placeOf step ≡ yellowPlace → SomeYellow order step
   unfolding rowTests
   some e =
       let a = someYellow r in
-      let b = implied (eqb (placeOf step) yellow) (both (ltb a approachesInWord) (yellowLit r a)) (passes 3) (eq-eqb (placeOf step) yellow e) in
+      let b = implied (eqb (placeOf step) yellowPlace) (both (ltb a approachesInWord) (yellowLit r a)) (passes 3) (eq-eqb (placeOf step) yellowPlace e) in
       record {
         approach = a;
         within = ltb-true a approachesInWord (both-left (ltb a approachesInWord) (yellowLit r a) b);
@@ -173,6 +215,7 @@ module _ (order step : ℕ) (s : Step order step) where
 
   pub as-named : AsNamed order step
   as-named = record {
+    greens = greens;
     flashes = rw (there, flashingOf) flashes;
     quiet = rw (there, flashingOf) quiet;
     men = rw there men;
@@ -187,28 +230,46 @@ module _ (order step : ℕ) (s : Step order step) where
     next-there : rowOf order (step + 1) ≡ next
     next-there = row-after order step (omega (arith, n .last))
 
-    follow : follows r next a ≡ true
-    unfolding rowTests
-    follow =
+    follow : (k : ℕ) → getD (followTests r next step a) k true ≡ true
+    unfolding rowTests follows
+    follow k =
         let e : step - 1 + 1 ≡ step = omega (arith, s .first) in
-        let t = implied (ltb (i + 1) (stepsIn d)) (below (follows r (rowIn d (i + 1))) approachesInWord) (passes 4) (lt-ltb (i + 1) (stepsIn d) (omega (arith, s .first, n .last))) in
-        subst (λ (k : ℕ). follows r (rowIn d k) a ≡ true) e (below-at (follows r (rowIn d (i + 1))) approachesInWord a t h)
+        let t = implied (ltb (i + 1) (stepsIn d)) (below (follows r (rowIn d (i + 1)) (i + 1)) approachesInWord) (passes 4) (lt-ltb (i + 1) (stepsIn d) (omega (arith, s .first, n .last))) in
+        all-at (followTests r next step a) k (subst (λ (m : ℕ). follows r (rowIn d m) m a ≡ true) e (below-at (follows r (rowIn d (i + 1)) (i + 1)) approachesInWord a t h))
+
+    -- the next step's place, as the tests have it
+    placed : placeOf (step + 1) ≡ place step
+    placed = omega arith
+
+    keep : Within walkFlashPlace (placeOf (step + 1)) redManPlace → VehiclesAlike r next a
+    unfolding followTests
+    keep w j l =
+        let p = inRange walkFlashPlace (place step) redManPlace in
+        let t : p ≡ true = rw (le-leb walkFlashPlace (place step) (omega (arith, w .0, placed)), le-leb (place step) redManPlace (omega (arith, w .1, placed))) in
+        same-eq (lit r (lampsAnApproach * a + (j + 1))) (lit next (lampsAnApproach * a + (j + 1)))
+        (below-at (alike r next a) vehicleLamps j (implied p (below (alike r next a) vehicleLamps) (follow 3) t) l)
+
+    walks : placeOf (step + 1) ≡ walkFlashPlace → lampIn (next .flashing) (greenManOf a) ≡ greenManLit r a
+    unfolding followTests
+    walks e =
+        let man = lampIn (next .flashing) (greenManOf a) in
+        same-eq man (greenManLit r a) (implied (eqb (place step) walkFlashPlace) (same man (greenManLit r a)) (follow 4) (eq-eqb (place step) walkFlashPlace (sym placed ∙ e)))
 
     pub followed : Follows order step a
-    unfolding follows
-    followed =
-        let g = implies (greenLit r a) (greenLit next a || yellowLit next a) in
-        let y = implies (yellowLit r a) (redLit next a) in
-        record {
-          green = rw (there, next-there) (implied (greenLit r a) (greenLit next a || yellowLit next a) (both-left g y follow));
-          yellow = rw (there, next-there) (implied (yellowLit r a) (redLit next a) (both-right g y follow));
-        }
+    unfolding followTests
+    followed = record {
+      green = rw (there, next-there) (implied (greenLit r a) (greenLit next a || yellowLit next a) (follow 0));
+      yellow = rw (there, next-there) (implied (yellowLit r a) (redLit next a) (follow 1));
+      after = rw (there, next-there) (implied (yellowLit next a) (greenLit r a) (follow 2));
+      kept = rw (there, next-there) keep;
+      walk = rw (there, next-there, flashingOf) walks;
+    }
 
 pub steps-as-named : StepsAsNamed
 steps-as-named order step s = as-named order step s
 
 -- at any step, there or not
-pub quiet-else : (order step : ℕ) → (step % stepsAPhase ≡ walkFlash → ⊥) → flashingOf order step ≡ 0
+pub quiet-else : (order step : ℕ) → (step % stepsAPhase ≡ walkFlashPlace → ⊥) → flashingOf order step ≡ 0
 quiet-else order step ne = by (decLe 1 step) (decLe step (stepsIn (diagramOf order)))
   where
     by : Dec (1 ≤ step) → Dec (step ≤ stepsIn (diagramOf order)) → flashingOf order step ≡ 0
@@ -229,16 +290,16 @@ ends-red order a h u =
     rw (row-there order (stepsIn d) (ltb-true 0 (stepsIn d) (both-left some red b)) (omega arith)) (both-right some red b)
 
 pub each-served : EachServed
-unfolding diagramTests served straight
+unfolding diagramTests served servedTests straight
 each-served order a h u =
     let d = diagramOf order in
     let i = goes d a in
-    let within = ltb i (stepsIn d) in
-    let green = straight (rowIn d i) a in
-    let b = implied (bit (d .approaches) a) (both within green) (below-at (served d) approachesInWord a (diagram-passes order 2) h) u in
-    let l = ltb-true i (stepsIn d) (both-left within green b) in
+    let t = implied (bit (d .approaches) a) (all (servedTests d a)) (below-at (served d) approachesInWord a (diagram-passes order 2) h) u in
+    let b : (k : ℕ) → getD (servedTests d a) k true ≡ true = λ k. all-at (servedTests d a) k t in
+    let l = ltb-true i (stepsIn d) (b 0) in
     record {
       step = i + 1;
       has = record { first = omega arith; last = omega (arith, l) };
-      green = rw (row-after order i l) (both-right within green b);
+      place = omega (arith, eqb-true (place i) greenPlace (b 1));
+      green = rw (row-after order i l) (b 2);
     }

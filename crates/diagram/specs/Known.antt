@@ -27,8 +27,8 @@ pub record Known (order : ℕ) : Type 0 where
 abbrev pub EachFound : Type 0
 EachFound = (i : ℕ) → i < length directory → diagramOf (lineAt i .order) ≡ lineAt i
 
-abbrev pub within : ℕ → ℕ → ℕ → Bool
-within least v greatest = both (leb least v) (leb v greatest)
+abbrev pub inRange : ℕ → ℕ → ℕ → Bool
+inRange least v greatest = both (leb least v) (leb v greatest)
 
 -- 02, E2: "The phase order is the type code of Appendix 1, as 60 and 61 for number 22 (A) and (B)."
 -- The phases of each supported code: of number 00, of 07 and 14, of 19 to 21 and 22 to 28; an order that is none of them has none.
@@ -36,15 +36,19 @@ unfoldable pub phasesDue : ℕ → ℕ
 phasesDue order =
     pick (eqb order 0x00) 2
     (pick (eqb order 0x20 || eqb order 0x38) 3
-    (pick (within 0x50 order 0x57 || within 0x60 order 0x6d) 4 0))
+    (pick (inRange 0x50 order 0x57 || inRange 0x60 order 0x6d) 4 0))
 
 -- 02, E2: "01's range for phase order becomes the supported codes"
 abbrev pub SupportedCodes : Type 0
 SupportedCodes = (order : ℕ) → phasesOf order ≡ phasesDue order
 
--- "k is 1 to 8", and equal to the diagram's: a known order has 1 to 8 phases.
+-- 02, E2: "up to eight phases"
+abbrev pub phasesMost : ℕ
+phasesMost = 8
+
+-- A known order has a phase at least, and no more than that.
 abbrev pub KnownPhases : Type 0
-KnownPhases = (order : ℕ) → Known order → (1 ≤ phasesOf order) × (phasesOf order ≤ 8)
+KnownPhases = (order : ℕ) → Known order → (1 ≤ phasesOf order) × (phasesOf order ≤ phasesMost)
 
 -- the order has that step
 pub record Step (order step : ℕ) : Type 0 where

@@ -29,6 +29,10 @@ approachesInWord = 8
 abbrev pub lampsAnApproach : ℕ
 lampsAnApproach = 8
 
+-- all but the two men
+abbrev pub vehicleLamps : ℕ
+vehicleLamps = 6
+
 abbrev pub redLit : Row → ℕ → Bool
 redLit r a = lit r (lampsAnApproach * a + 1)
 
@@ -50,8 +54,11 @@ rightLit r a = lit r (lampsAnApproach * a + 6)
 abbrev pub redManLit : Row → ℕ → Bool
 redManLit r a = lit r (lampsAnApproach * a + 7)
 
+abbrev pub greenManOf : ℕ → ℕ
+greenManOf a = lampsAnApproach * a + 8
+
 abbrev pub greenManLit : Row → ℕ → Bool
-greenManLit r a = lit r (lampsAnApproach * a + 8)
+greenManLit r a = lit r (greenManOf a)
 
 -- any of the four greens
 unfoldable pub greenLit : Row → ℕ → Bool

@@ -1,10 +1,11 @@
 -- 01, "Lamps and seconds": what the five steps of a phase show, by their names, and how an approach's lamps follow each other.
-use Prim.Native.Nat.{ℕ, _+_, _-_, _%_, _≤_, _<_}
+use Prim.Native.Nat.{ℕ, _+_, _*_, _-_, _%_, _≤_, _<_}
 use mathlib.Core.Path.{_≡_}
 use mathlib.Core.Bool.{true, false, _||_}
+use Rattle.diagram.specs.Row.{Row}
 use Rattle.diagram.specs.Table.{stepsAPhase, stepsOf, rowOf, flashingOf}
 use Rattle.diagram.specs.Known.{Step}
-use Rattle.diagram.specs.Lamps.{lampIn, lampsAnApproach, approachesInWord, redLit, yellowLit, greenLit, roundLit, straightLit, greenManLit, uses}
+use Rattle.diagram.specs.Lamps.{lit, lampIn, lampsAnApproach, vehicleLamps, greenManOf, approachesInWord, redLit, yellowLit, greenLit, roundLit, straightLit, greenManLit, uses}
 
 -- The five steps of a phase
 
@@ -12,14 +13,23 @@ use Rattle.diagram.specs.Lamps.{lampIn, lampsAnApproach, approachesInWor
 abbrev pub placeOf : ℕ → ℕ
 placeOf step = (step - 1) % stepsAPhase + 1
 
-abbrev pub walkFlash : ℕ
-walkFlash = 2
+abbrev pub greenPlace : ℕ
+greenPlace = 1
 
-abbrev pub redMan : ℕ
-redMan = 3
+abbrev pub walkFlashPlace : ℕ
+walkFlashPlace = 2
 
-abbrev pub yellow : ℕ
-yellow = 4
+abbrev pub redManPlace : ℕ
+redManPlace = 3
+
+abbrev pub yellowPlace : ℕ
+yellowPlace = 4
+
+-- an approach shows green
+pub record SomeGreen (order step : ℕ) : Type 0 where
+  pub approach : ℕ
+  pub within : approach < approachesInWord
+  pub shown : greenLit (rowOf order step) approach ≡ true
 
 -- an approach shows yellow
 pub record SomeYellow (order step : ℕ) : Type 0 where
@@ -28,14 +38,16 @@ pub record SomeYellow (order step : ℕ) : Type 0 where
   pub shown : yellowLit (rowOf order step) approach ≡ true
 
 pub record AsNamed (order step : ℕ) : Type 0 where
+  -- in the step of the green some approach shows it
+  pub greens : placeOf step ≡ greenPlace → SomeGreen order step
   -- a lamp that flashes is a green man, in the step of the walk flash
-  pub flashes : (m : ℕ) → lampIn (flashingOf order step) m ≡ true → (m % lampsAnApproach ≡ 0) × (placeOf step ≡ walkFlash)
-  pub quiet : (placeOf step ≡ walkFlash → ⊥) → flashingOf order step ≡ 0
+  pub flashes : (m : ℕ) → lampIn (flashingOf order step) m ≡ true → (m % lampsAnApproach ≡ 0) × (placeOf step ≡ walkFlashPlace)
+  pub quiet : (placeOf step ≡ walkFlashPlace → ⊥) → flashingOf order step ≡ 0
   -- from the step of the red man on no green man is lit
-  pub men : (a : ℕ) → a < approachesInWord → redMan ≤ placeOf step → greenManLit (rowOf order step) a ≡ false
+  pub men : (a : ℕ) → a < approachesInWord → redManPlace ≤ placeOf step → greenManLit (rowOf order step) a ≡ false
   -- yellow is shown in its own step alone, and there by some approach
-  pub yellows : (a : ℕ) → a < approachesInWord → yellowLit (rowOf order step) a ≡ true → placeOf step ≡ yellow
-  pub some : placeOf step ≡ yellow → SomeYellow order step
+  pub yellows : (a : ℕ) → a < approachesInWord → yellowLit (rowOf order step) a ≡ true → placeOf step ≡ yellowPlace
+  pub some : placeOf step ≡ yellowPlace → SomeYellow order step
 
 -- Each step of each order shows what its name says.
 abbrev pub StepsAsNamed : Type 0
@@ -43,11 +55,24 @@ StepsAsNamed = (order step : ℕ) → Step order step → AsNamed order step
 
 -- One step after another
 
+-- the six lamps of an approach for vehicles, red to right green, are alike
+abbrev pub VehiclesAlike : Row → Row → ℕ → Type 0
+VehiclesAlike r s a = (j : ℕ) → j < vehicleLamps → lit r (lampsAnApproach * a + (j + 1)) ≡ lit s (lampsAnApproach * a + (j + 1))
+
+abbrev pub Within : ℕ → ℕ → ℕ → Type 0
+Within least v greatest = (least ≤ v) × (v ≤ greatest)
+
 pub record Follows (order step a : ℕ) : Type 0 where
   -- green goes on, or yellow follows
   pub green : greenLit (rowOf order step) a ≡ true → (greenLit (rowOf order (step + 1)) a || yellowLit (rowOf order (step + 1)) a) ≡ true
   -- red follows yellow
   pub yellow : yellowLit (rowOf order step) a ≡ true → redLit (rowOf order (step + 1)) a ≡ true
+  -- yellow follows green alone
+  pub after : yellowLit (rowOf order (step + 1)) a ≡ true → greenLit (rowOf order step) a ≡ true
+  -- walk flash and red man keep the vehicles' lamps of the step before
+  pub kept : Within walkFlashPlace (placeOf (step + 1)) redManPlace → VehiclesAlike (rowOf order step) (rowOf order (step + 1)) a
+  -- the green men of the step before flash in the walk flash, and no others
+  pub walk : placeOf (step + 1) ≡ walkFlashPlace → lampIn (flashingOf order (step + 1)) (greenManOf a) ≡ greenManLit (rowOf order step) a
 
 -- From one step of a cycle to its next, no green turns red but by yellow.
 abbrev pub GreenYellowRed : Type 0
@@ -57,12 +82,13 @@ GreenYellowRed = (order step a : ℕ) → Step order step → Step order (step +
 abbrev pub EndsRed : Type 0
 EndsRed = (order a : ℕ) → a < approachesInWord → uses order a ≡ true → redLit (rowOf order (stepsOf order)) a ≡ true
 
--- a step that lets the approach's vehicles go straight on
+-- a step of the green that lets the approach's vehicles go straight on
 pub record StraightOn (order a : ℕ) : Type 0 where
   pub step : ℕ
   pub has : Step order step
+  pub place : placeOf step ≡ greenPlace
   pub green : (roundLit (rowOf order step) a || straightLit (rowOf order step) a) ≡ true
 
--- No approach that is used waits for ever.
+-- No approach that is used waits for ever: a step of the green has a second at least.
 abbrev pub EachServed : Type 0
 EachServed = (order a : ℕ) → a < approachesInWord → uses order a ≡ true → StraightOn order a

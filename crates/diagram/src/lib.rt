@@ -1,9 +1,9 @@
-// 01, "Lamps and seconds": the step table. The lamp words of all diagrams stand in one table, row by row, and a directory
-// gives for each phase order its first row, its phases and the approaches it uses.
+// 01, "Lamps and seconds": the step table. The lamp words of all diagrams stand in one table, row by row; for each phase order
+// there are its phases, its first row and the approaches it uses.
 ghost use mathlib.Core.Path.{_≡_};
 ghost use Rattle.diagram.specs.Table.{diagramOf, stepsIn, phasesOf, approachesOf, stepsOf};
 ghost use Rattle.diagram.specs.Table.{rowNumber, steadyOf, flashingOf};
-ghost use Rattle.diagram.specs.Known.{within};
+ghost use Rattle.diagram.specs.Known.{inRange};
 
 mod rows;
 
@@ -46,7 +46,7 @@ fn steps_in(d: Diagram) -> u16
     STEPS_A_PHASE * d.phases as u16
 }
 
-// The phases of an order; 0 where it is unknown. They are asked for in every call, so no table is read for them.
+// The phases of an order; 0 where it is unknown. Each call asks for them while a plan of the book runs, so no table is read.
 pub fn phases(order: u8) -> u8
     ensures { λ r. ⌜ r ≡ phasesOf order ⌝ }
 {
@@ -59,17 +59,17 @@ pub fn phases(order: u8) -> u8
     if order == 0x38 {
         return 3;
     }
-    if within(0x50, order, 0x57) {
+    if in_range(0x50, order, 0x57) {
         return 4;
     }
-    if within(0x60, order, 0x6d) {
+    if in_range(0x60, order, 0x6d) {
         return 4;
     }
     0
 }
 
-fn within(least: u8, order: u8, greatest: u8) -> bool
-    ensures { λ r. ⌜ r ≡ within least order greatest ⌝ }
+fn in_range(least: u8, order: u8, greatest: u8) -> bool
+    ensures { λ r. ⌜ r ≡ inRange least order greatest ⌝ }
 {
     least <= order && order <= greatest
 }

@@ -3,7 +3,7 @@
 
 pub const ROWS: usize = 480;
 
-// The steady lamps of each step, the diagrams one after another. None has a number over 32, so a word has 32 bits here.
+// The steady lamps of each step, the diagrams one after another; in 32 bits where no lamp has a number over 32.
 pub const STEADY: [u32; ROWS] = [
     0x41418888, // 00, step 1
     0x41410808, // 00, step 2

@@ -22,7 +22,7 @@ returns-3 c = rw (supported-codes (c .before .before .before .args .order), ne-e
 returns-4 : tie.Need-returns-4
 unfolding phasesDue
 returns-4 c =
-    rw (supported-codes (c .before .before .before .before .before .args .order), ne-eqb _ _ (c .before .before .before .before .if1 .left), ne-eqb _ _ (c .before .before .before .if2 .left), ne-eqb _ _ (c .before .before .if3 .left), sym (c .before .within .ensures) ∙ c .if4 .taken)
+    rw (supported-codes (c .before .before .before .before .before .args .order), ne-eqb _ _ (c .before .before .before .before .if1 .left), ne-eqb _ _ (c .before .before .before .if2 .left), ne-eqb _ _ (c .before .before .if3 .left), sym (c .before .in-range .ensures) ∙ c .if4 .taken)
 
 returns-5 : tie.Need-returns-5
 unfolding phasesDue
@@ -32,8 +32,8 @@ returns-5 c =
       ne-eqb _ _ (c .before .before .before .before .before .before .if1 .left),
       ne-eqb _ _ (c .before .before .before .before .before .if2 .left),
       ne-eqb _ _ (c .before .before .before .before .if3 .left),
-      sym (c .before .before .before .within .ensures) ∙ c .before .before .if4 .left,
-      sym (c .before .within2 .ensures) ∙ c .if5 .taken,
+      sym (c .before .before .before .in-range .ensures) ∙ c .before .before .if4 .left,
+      sym (c .before .in-range2 .ensures) ∙ c .if5 .taken,
     )
 
 returns-6 : tie.Need-returns-6
@@ -44,8 +44,8 @@ returns-6 c =
       ne-eqb _ _ (c .before .before .before .before .before .before .if1 .left),
       ne-eqb _ _ (c .before .before .before .before .before .if2 .left),
       ne-eqb _ _ (c .before .before .before .before .if3 .left),
-      sym (c .before .before .before .within .ensures) ∙ c .before .before .if4 .left,
-      sym (c .before .within2 .ensures) ∙ c .if5 .left,
+      sym (c .before .before .before .in-range .ensures) ∙ c .before .before .if4 .left,
+      sym (c .before .in-range2 .ensures) ∙ c .if5 .left,
     )
 
 pub phases-spec : {M : Type 1} → statement M
