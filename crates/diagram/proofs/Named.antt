@@ -17,7 +17,7 @@ use Rattle.diagram.specs.Rows.{rows, directory}
 use Rattle.diagram.specs.Table.{diagramOf, stepsAPhase, stepsIn, rowOf, flashingOf}
 use Rattle.diagram.specs.Known.{Step, inRange}
 use Rattle.diagram.specs.Lamps.{bit, lit, lampIn, lampsAnApproach, vehicleLamps, greenManOf, lastLamp, approachesInWord, redLit, yellowLit, greenLit, roundLit, straightLit, greenManLit}
-use Rattle.diagram.specs.Named.{placeOf, greenPlace, walkFlashPlace, redManPlace, yellowPlace, SomeGreen, SomeYellow, VehiclesAlike, Within, AsNamed, StepsAsNamed, Follows, GreenYellowRed, EndsRed, EachServed}
+use Rattle.diagram.specs.Named.{placeOf, greenPlace, walkFlashPlace, redManPlace, yellowPlace, Shown, VehiclesAlike, AsNamed, StepsAsNamed, Follows, StepsFollow, EndsRed, EachServed}
 use Rattle.diagram.proofs.Laws.{row-there}
 use Rattle.diagram.proofs.Known.{found-passes, outside-dark}
 use Rattle.diagram.proofs.Rule.{rowIn}
@@ -51,8 +51,8 @@ search-below test (suc n) = pick (test n) n (search-below test n)
 abbrev place : ℕ → ℕ
 place i = i % stepsAPhase + 1
 
-flashFits : Row → ℕ → ℕ → Bool
-flashFits r i j = implies (bit (r .flashing) j) (both (eqb ((j + 1) % lampsAnApproach) 0) (eqb (place i) walkFlashPlace))
+flashFits : Row → ℕ → Bool
+flashFits r j = implies (bit (r .flashing) j) (eqb ((j + 1) % lampsAnApproach) 0)
 
 quietFits : Row → ℕ → Bool
 quietFits r i = implies (not (eqb (place i) walkFlashPlace)) (eqb (r .flashing) 0)
@@ -63,17 +63,13 @@ manFits r i a = implies (leb redManPlace (place i)) (not (greenManLit r a))
 yellowFits : Row → ℕ → ℕ → Bool
 yellowFits r i a = implies (yellowLit r a) (eqb (place i) yellowPlace)
 
-someGreen : Row → ℕ
-someGreen r = search-below (greenLit r) approachesInWord
+module _ (lamp : Row → ℕ → Bool) (at : ℕ) (r : Row) where
+  -- an approach that shows it
+  shower : ℕ
+  shower = search-below (lamp r) approachesInWord
 
-abbrev greenFits : Row → ℕ → Bool
-greenFits r i = implies (eqb (place i) greenPlace) (both (ltb (someGreen r) approachesInWord) (greenLit r (someGreen r)))
-
-someYellow : Row → ℕ
-someYellow r = search-below (yellowLit r) approachesInWord
-
-abbrev someFits : Row → ℕ → Bool
-someFits r i = implies (eqb (place i) yellowPlace) (both (ltb (someYellow r) approachesInWord) (yellowLit r (someYellow r)))
+  shownFits : ℕ → Bool
+  shownFits i = implies (eqb (place i) at) (both (ltb shower approachesInWord) (lamp r shower))
 
 -- of a row and its next, number n
 
@@ -93,10 +89,10 @@ follows r s n a = all (followTests r s n a)
 rowTests : Diagram → ℕ → List Bool
 rowTests d i =
     let r = rowIn d i in
-    below (flashFits r i) lastLamp ∷ below (manFits r i) approachesInWord ∷ below (yellowFits r i) approachesInWord ∷ someFits r i
+    below (flashFits r) lastLamp ∷ below (manFits r i) approachesInWord ∷ below (yellowFits r i) approachesInWord ∷ shownFits yellowLit yellowPlace r i
     ∷ implies (ltb (i + 1) (stepsIn d)) (below (follows r (rowIn d (i + 1)) (i + 1)) approachesInWord)
     ∷ quietFits r i
-    ∷ greenFits r i
+    ∷ shownFits greenLit greenPlace r i
     ∷ []
 
 straight : Row → ℕ → Bool
@@ -122,7 +118,7 @@ diagramTests : Diagram → List Bool
 diagramTests d = below (λ i. all (rowTests d i)) (stepsIn d) ∷ below (endsRed d) approachesInWord ∷ below (served d) approachesInWord ∷ []
 
 diagrams-pass : every (λ d. all (diagramTests d)) directory ≡ true
-unfolding every below all same search-below diagramTests rowTests flashFits quietFits manFits yellowFits someGreen someYellow followTests follows endsRed straight goes servedTests served lit greenLit directory rows
+unfolding every below all same search-below diagramTests rowTests flashFits quietFits manFits yellowFits shower shownFits followTests follows endsRed straight goes servedTests served lit greenLit directory rows
 diagrams-pass = refl
 
 diagram-passes : (order k : ℕ) → getD (diagramTests (diagramOf order)) k true ≡ true
@@ -154,22 +150,19 @@ module _ (order step : ℕ) (s : Step order step) where
   unfolding diagramTests
   passes k = all-at (rowTests d i) k (below-at (λ n. all (rowTests d n)) (stepsIn d) i (diagram-passes order 0) (omega (arith, s .first, s .last)))
 
-  flashing-at : (m : ℕ) → lampIn (r .flashing) m ≡ true → m - 1 < lastLamp → (m % lampsAnApproach ≡ 0) × (placeOf step ≡ walkFlashPlace)
+  flashing-at : (m : ℕ) → lampIn (r .flashing) m ≡ true → m - 1 < lastLamp → m % lampsAnApproach ≡ 0
   unfolding rowTests flashFits
   flashing-at m t l =
-      let man = eqb ((m - 1 + 1) % lampsAnApproach) 0 in
-      let at = eqb (placeOf step) walkFlashPlace in
-      let b = implied (bit (r .flashing) (m - 1)) (both man at) (below-at (flashFits r i) lastLamp (m - 1) (passes 0) l) t in
-      let z = eqb-true ((m - 1 + 1) % lampsAnApproach) 0 (both-left man at b) in
-      (omega (arith, z), eqb-true (placeOf step) walkFlashPlace (both-right man at b))
+      let b = implied (bit (r .flashing) (m - 1)) (eqb ((m - 1 + 1) % lampsAnApproach) 0) (below-at (flashFits r) lastLamp (m - 1) (passes 0) l) t in
+      omega (arith, eqb-true ((m - 1 + 1) % lampsAnApproach) 0 b)
 
-  flashes : (m : ℕ) → lampIn (r .flashing) m ≡ true → (m % lampsAnApproach ≡ 0) × (placeOf step ≡ walkFlashPlace)
+  flashes : (m : ℕ) → lampIn (r .flashing) m ≡ true → m % lampsAnApproach ≡ 0
   flashes m t = by (decLt (m - 1) lastLamp)
     where
       past : (lastLamp ≤ m - 1) → lampIn (flashingOf order step) m ≡ false
       past h = bit-past (flashingOf order step) lastLamp (m - 1) (flashing-fits order step) h
 
-      by : Dec (m - 1 < lastLamp) → (m % lampsAnApproach ≡ 0) × (placeOf step ≡ walkFlashPlace)
+      by : Dec (m - 1 < lastLamp) → m % lampsAnApproach ≡ 0
       by (yes l) = flashing-at m t l
       by (no g) = absurd (clash (subst (λ (w : Row). lampIn (w .flashing) m ≡ false) there (past (omega arith))) t)
 
@@ -191,36 +184,26 @@ module _ (order step : ℕ) (s : Step order step) where
       let t = below-at (yellowFits r i) approachesInWord a (passes 2) h in
       eqb-true (placeOf step) yellowPlace (implied (yellowLit r a) (eqb (placeOf step) yellowPlace) t y)
 
-  greens : placeOf step ≡ greenPlace → SomeGreen order step
-  unfolding rowTests
-  greens e =
-      let a = someGreen r in
-      let b = implied (eqb (placeOf step) greenPlace) (both (ltb a approachesInWord) (greenLit r a)) (passes 6) (eq-eqb (placeOf step) greenPlace e) in
+  shown : (lamp : Row → ℕ → Bool) (at : ℕ) → shownFits lamp at r i ≡ true → placeOf step ≡ at → Shown lamp order step
+  unfolding shownFits
+  shown lamp at t e =
+      let a = shower lamp at r in
+      let b = implied (eqb (placeOf step) at) (both (ltb a approachesInWord) (lamp r a)) t (eq-eqb (placeOf step) at e) in
       record {
         approach = a;
-        within = ltb-true a approachesInWord (both-left (ltb a approachesInWord) (greenLit r a) b);
-        shown = rw there (both-right (ltb a approachesInWord) (greenLit r a) b);
-      }
-
-  some : placeOf step ≡ yellowPlace → SomeYellow order step
-  unfolding rowTests
-  some e =
-      let a = someYellow r in
-      let b = implied (eqb (placeOf step) yellowPlace) (both (ltb a approachesInWord) (yellowLit r a)) (passes 3) (eq-eqb (placeOf step) yellowPlace e) in
-      record {
-        approach = a;
-        within = ltb-true a approachesInWord (both-left (ltb a approachesInWord) (yellowLit r a) b);
-        shown = rw there (both-right (ltb a approachesInWord) (yellowLit r a) b);
+        within = ltb-true a approachesInWord (both-left (ltb a approachesInWord) (lamp r a) b);
+        lights = rw there (both-right (ltb a approachesInWord) (lamp r a) b);
       }
 
   pub as-named : AsNamed order step
+  unfolding rowTests
   as-named = record {
-    greens = greens;
+    greens = shown greenLit greenPlace (passes 6);
     flashes = rw (there, flashingOf) flashes;
     quiet = rw (there, flashingOf) quiet;
     men = rw there men;
     yellows = rw there yellows;
-    some = some;
+    some = shown yellowLit yellowPlace (passes 3);
   }
 
   module _ (a : ℕ) (n : Step order (step + 1)) (h : a < approachesInWord) where
@@ -241,11 +224,11 @@ module _ (order step : ℕ) (s : Step order step) where
     placed : placeOf (step + 1) ≡ place step
     placed = omega arith
 
-    keep : Within walkFlashPlace (placeOf (step + 1)) redManPlace → VehiclesAlike r next a
+    keep : walkFlashPlace ≤ placeOf (step + 1) → placeOf (step + 1) ≤ redManPlace → VehiclesAlike r next a
     unfolding followTests
-    keep w j l =
+    keep f g j l =
         let p = inRange walkFlashPlace (place step) redManPlace in
-        let t : p ≡ true = rw (le-leb walkFlashPlace (place step) (omega (arith, w .0, placed)), le-leb (place step) redManPlace (omega (arith, w .1, placed))) in
+        let t : p ≡ true = rw (le-leb walkFlashPlace (place step) (omega (arith, f, placed)), le-leb (place step) redManPlace (omega (arith, g, placed))) in
         same-eq (lit r (lampsAnApproach * a + (j + 1))) (lit next (lampsAnApproach * a + (j + 1)))
         (below-at (alike r next a) vehicleLamps j (implied p (below (alike r next a) vehicleLamps) (follow 3) t) l)
 
@@ -277,8 +260,8 @@ quiet-else order step ne = by (decLe 1 step) (decLe step (stepsIn (diagramOf ord
     by (yes f) (no g) = outside-dark order step (λ s. g (s .last)) .flashing
     by (no z) _ = outside-dark order step (λ s. z (s .first)) .flashing
 
-pub green-yellow-red : GreenYellowRed
-green-yellow-red order step a s n h = followed order step s a n h
+pub steps-follow : StepsFollow
+steps-follow order step a s n h = followed order step s a n h
 
 pub ends-red : EndsRed
 unfolding diagramTests endsRed

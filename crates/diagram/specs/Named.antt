@@ -1,7 +1,7 @@
 -- 01, "Lamps and seconds": what the five steps of a phase show, by their names, and how an approach's lamps follow each other.
 use Prim.Native.Nat.{ℕ, _+_, _*_, _-_, _%_, _≤_, _<_}
 use mathlib.Core.Path.{_≡_}
-use mathlib.Core.Bool.{true, false, _||_}
+use mathlib.Core.Bool.{Bool, true, false, _||_}
 use Rattle.diagram.specs.Row.{Row}
 use Rattle.diagram.specs.Table.{stepsAPhase, stepsOf, rowOf, flashingOf}
 use Rattle.diagram.specs.Known.{Step}
@@ -25,29 +25,23 @@ redManPlace = 3
 abbrev pub yellowPlace : ℕ
 yellowPlace = 4
 
--- an approach shows green
-pub record SomeGreen (order step : ℕ) : Type 0 where
+-- some approach shows it
+pub record Shown (lamp : Row → ℕ → Bool) (order step : ℕ) : Type 0 where
   pub approach : ℕ
   pub within : approach < approachesInWord
-  pub shown : greenLit (rowOf order step) approach ≡ true
-
--- an approach shows yellow
-pub record SomeYellow (order step : ℕ) : Type 0 where
-  pub approach : ℕ
-  pub within : approach < approachesInWord
-  pub shown : yellowLit (rowOf order step) approach ≡ true
+  pub lights : lamp (rowOf order step) approach ≡ true
 
 pub record AsNamed (order step : ℕ) : Type 0 where
   -- in the step of the green some approach shows it
-  pub greens : placeOf step ≡ greenPlace → SomeGreen order step
-  -- a lamp that flashes is a green man, in the step of the walk flash
-  pub flashes : (m : ℕ) → lampIn (flashingOf order step) m ≡ true → (m % lampsAnApproach ≡ 0) × (placeOf step ≡ walkFlashPlace)
+  pub greens : placeOf step ≡ greenPlace → Shown greenLit order step
+  -- a lamp that flashes is a green man, and none does but in the step of the walk flash
+  pub flashes : (m : ℕ) → lampIn (flashingOf order step) m ≡ true → m % lampsAnApproach ≡ 0
   pub quiet : (placeOf step ≡ walkFlashPlace → ⊥) → flashingOf order step ≡ 0
   -- from the step of the red man on no green man is lit
   pub men : (a : ℕ) → a < approachesInWord → redManPlace ≤ placeOf step → greenManLit (rowOf order step) a ≡ false
   -- yellow is shown in its own step alone, and there by some approach
   pub yellows : (a : ℕ) → a < approachesInWord → yellowLit (rowOf order step) a ≡ true → placeOf step ≡ yellowPlace
-  pub some : placeOf step ≡ yellowPlace → SomeYellow order step
+  pub some : placeOf step ≡ yellowPlace → Shown yellowLit order step
 
 -- Each step of each order shows what its name says.
 abbrev pub StepsAsNamed : Type 0
@@ -59,9 +53,6 @@ StepsAsNamed = (order step : ℕ) → Step order step → AsNamed order step
 abbrev pub VehiclesAlike : Row → Row → ℕ → Type 0
 VehiclesAlike r s a = (j : ℕ) → j < vehicleLamps → lit r (lampsAnApproach * a + (j + 1)) ≡ lit s (lampsAnApproach * a + (j + 1))
 
-abbrev pub Within : ℕ → ℕ → ℕ → Type 0
-Within least v greatest = (least ≤ v) × (v ≤ greatest)
-
 pub record Follows (order step a : ℕ) : Type 0 where
   -- green goes on, or yellow follows
   pub green : greenLit (rowOf order step) a ≡ true → (greenLit (rowOf order (step + 1)) a || yellowLit (rowOf order (step + 1)) a) ≡ true
@@ -70,13 +61,13 @@ pub record Follows (order step a : ℕ) : Type 0 where
   -- yellow follows green alone
   pub after : yellowLit (rowOf order (step + 1)) a ≡ true → greenLit (rowOf order step) a ≡ true
   -- walk flash and red man keep the vehicles' lamps of the step before
-  pub kept : Within walkFlashPlace (placeOf (step + 1)) redManPlace → VehiclesAlike (rowOf order step) (rowOf order (step + 1)) a
+  pub kept : walkFlashPlace ≤ placeOf (step + 1) → placeOf (step + 1) ≤ redManPlace → VehiclesAlike (rowOf order step) (rowOf order (step + 1)) a
   -- the green men of the step before flash in the walk flash, and no others
   pub walk : placeOf (step + 1) ≡ walkFlashPlace → lampIn (flashingOf order (step + 1)) (greenManOf a) ≡ greenManLit (rowOf order step) a
 
--- From one step of a cycle to its next, no green turns red but by yellow.
-abbrev pub GreenYellowRed : Type 0
-GreenYellowRed = (order step a : ℕ) → Step order step → Step order (step + 1) → a < approachesInWord → Follows order step a
+-- So each step of a cycle follows the one before it; no green turns red but by yellow.
+abbrev pub StepsFollow : Type 0
+StepsFollow = (order step a : ℕ) → Step order step → Step order (step + 1) → a < approachesInWord → Follows order step a
 
 -- The last step of an order shows red at each approach that it uses, whatever order comes next.
 abbrev pub EndsRed : Type 0

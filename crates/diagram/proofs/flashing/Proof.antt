@@ -1,13 +1,9 @@
 -- `diagram::flashing` meets its contract: but in the walk flash no lamp flashes, and there the code's words are those of the table.
-use Prim.Native.Nat.{ℕ}
-use mathlib.Core.Path.{sym, subst}
-use native.Mathlib.Omega.{arith}
+use mathlib.Core.Path.{sym}
 use borrow.Author.Needs.{needs}
-use mir.Syntax.{w64}
-use mir.Val.{Fits}
 use Rattle.diagram.specs.Rows.{rows}
 use Rattle.diagram.proofs.Laws.{word-there, word-past}
-use Rattle.diagram.proofs.Words.{flashing-fits}
+use Rattle.diagram.proofs.Words.{flashing-fits, word-widens}
 use Rattle.diagram.proofs.Named.{quiet-else}
 use Rattle.diagram.proofs.flashing.Statement.{statement}
 use Rattle.diagram.proofs.flashing.Tie as tie
@@ -17,9 +13,7 @@ returns c = let a = c .before .args in sym (quiet-else (a .order) (a .step) (c .
 
 cast-result : tie.Need-cast-result
 unfolding rows
-cast-result c =
-    let a = c .before .before .before .args in
-    subst (λ (n : ℕ). Fits w64 n) (sym (word-there (a .order) (a .step) (λ r. r .flashing) (c .before .row-number .ensures))) (omega (arith, flashing-fits (a .order) (a .step)))
+cast-result c = let a = c .before .before .before .args in word-widens (a .order) (a .step) (λ r. r .flashing) (flashing-fits (a .order) (a .step)) (c .before .row-number .ensures)
 
 returns-2 : tie.Need-returns-2
 unfolding rows
