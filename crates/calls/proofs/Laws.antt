@@ -26,7 +26,7 @@ use Rattle.plan.specs.declared.setting.Answered.{Answered}
 use Rattle.record.specs.Record.{recordLen, plansMost, bookLen, empty, ready, cycleOf}
 use Rattle.checks.specs.Standing.{standingOf}
 use Rattle.plan.specs.BuiltIn.{builtIn}
-use Rattle.plan.specs.Reading.{startOf, recordAt, same, readRefusal, PartRead}
+use Rattle.plan.specs.Reading.{recordStart, recordAt, same, readRefusal, PartRead}
 use Rattle.plan.specs.Setting.{setTimesCode, setPlanCode, setTimesOf, setPlanOf, planIn}
 use Rattle.plan.specs.Setting as setting
 use Rattle.plan.specs.Reporting.{reportPlanCode, reportRunningCode, reportTimesOf, reportPlanOf}
@@ -38,12 +38,12 @@ use Rattle.controller.specs.declared.Running.{Running}
 use Rattle.controller.specs.declared.State.{State}
 use Rattle.controller.specs.declared.Handled.{Handled}
 use Rattle.controller.specs.State.{all, runningSound, soundOf, planRecord, startedAt}
-use Rattle.controller.specs.Handling.{runCode, queryTimesCode, queryPlanCode, queryRunningCode, carriedOutReply, accepted, refusedAs, setAs, unlessUnread, runAs, queryTimesAs, queryPlanAs, queryRunningAs, handlingOf}
+use Rattle.controller.specs.Handling.{runCode, queryTimesCode, queryPlanCode, queryRunningCode, carriedOutReply, accepted, refusedWith, setAs, unlessUnread, runAs, queryTimesAs, queryPlanAs, queryRunningAs, handlingOf}
 use Rattle.controller.specs.Replies.{refusedCall, doneOf}
 use Rattle.controller.specs.Seconds.{pickedOf}
 use Rattle.controller.proofs.Laws.{picked-ready, picked-stays}
 use Rattle.controller.proofs.Judging.{sound-parts}
-use Rattle.calls.specs.Handling.{Handles}
+use Rattle.calls.specs.Handling.{HandlingLeaves}
 use Rattle.calls.specs.Stepper.{RecordOf}
 
 -- The octet call
@@ -61,7 +61,7 @@ module _ (book copy r : RefT (List ℕ)) (p : ℕ) (f : PartRead book copy p r) 
   refusalIs = readRefusal (now book) (now copy) p
 
   abbrev partIf : Bool → Type 0
-  partIf t = pick t (pick (eqb p 0) (PartOf copy 0 recordLen r) (PartOf book (startOf p) recordLen r)) (PartOf copy 0 0 r)
+  partIf t = pick t (pick (eqb p 0) (PartOf copy 0 recordLen r) (PartOf book (recordStart p) recordLen r)) (PartOf copy 0 0 r)
 
   read-none : (refusalIs ≡ refusal.none → ⊥) → now r ≡ []
   read-none n = let q : partIf false = subst partIf (ne-eqb refusalIs refusal.none n) f in q .octets
@@ -69,13 +69,13 @@ module _ (book copy r : RefT (List ℕ)) (p : ℕ) (f : PartRead book copy p r) 
   read-built-in : refusalIs ≡ refusal.none → p ≡ 0 → now r ≡ take recordLen (now copy)
   read-built-in e z =
       let q : partIf true = subst partIf (eq-eqb refusalIs refusal.none e) f in
-      let q′ : PartOf copy 0 recordLen r = subst (λ (t : Bool). pick t (PartOf copy 0 recordLen r) (PartOf book (startOf p) recordLen r)) (eq-eqb p 0 z) q in
+      let q′ : PartOf copy 0 recordLen r = subst (λ (t : Bool). pick t (PartOf copy 0 recordLen r) (PartOf book (recordStart p) recordLen r)) (eq-eqb p 0 z) q in
       q′ .octets
 
   read-book : refusalIs ≡ refusal.none → (p ≡ 0 → ⊥) → now r ≡ recordAt (now book) p
   read-book e n =
       let q : partIf true = subst partIf (eq-eqb refusalIs refusal.none e) f in
-      let q′ : PartOf book (startOf p) recordLen r = subst (λ (t : Bool). pick t (PartOf copy 0 recordLen r) (PartOf book (startOf p) recordLen r)) (ne-eqb p 0 n) q in
+      let q′ : PartOf book (recordStart p) recordLen r = subst (λ (t : Bool). pick t (PartOf copy 0 recordLen r) (PartOf book (recordStart p) recordLen r)) (ne-eqb p 0 n) q in
       q′ .octets
 
   pub record-of : length (now book) ≡ bookLen → now copy ≡ builtIn → RecordOf (now book) p (now r)
@@ -114,26 +114,26 @@ module _ (book copy r : RefT (List ℕ)) (p : ℕ) (f : PartRead book copy p r) 
 -- Messages
 
 module _ (code requested : ℕ) (book info : List ℕ) {m : Read} (em : m ≡ readOf info) where
-  unread : (h : Handled) → (m .refusal ≡ refusal.none → ⊥) → refusedAs code requested (m .refusal) (m .field) ≡ unlessUnread code requested info h
+  unread : (h : Handled) → (m .refusal ≡ refusal.none → ⊥) → refusedWith code requested (m .refusal) (m .field) ≡ unlessUnread code requested info h
   unread h n = rw (← em, ne-eqb (m .refusal) refusal.none n)
 
   was-read : (h : Handled) → m .refusal ≡ refusal.none → unlessUnread code requested info h ≡ h
   was-read h e = rw (← em, eq-eqb (m .refusal) refusal.none e)
 
   module _ (n : m .refusal ≡ refusal.none → ⊥) where
-    pub run-unread : refusedAs code requested (m .refusal) (m .field) ≡ runAs code requested book info
+    pub run-unread : refusedWith code requested (m .refusal) (m .field) ≡ runAs code requested book info
     unfolding runAs
     run-unread = unread _ n
 
-    pub times-unread : refusedAs code requested (m .refusal) (m .field) ≡ queryTimesAs code requested book info
+    pub times-unread : refusedWith code requested (m .refusal) (m .field) ≡ queryTimesAs code requested book info
     unfolding queryTimesAs
     times-unread = unread _ n
 
-    pub plan-unread : refusedAs code requested (m .refusal) (m .field) ≡ queryPlanAs code requested book info
+    pub plan-unread : refusedWith code requested (m .refusal) (m .field) ≡ queryPlanAs code requested book info
     unfolding queryPlanAs
     plan-unread = unread _ n
 
-    pub running-unread : (u : Running) → refusedAs code requested (m .refusal) (m .field) ≡ queryRunningAs code requested u info
+    pub running-unread : (u : Running) → refusedWith code requested (m .refusal) (m .field) ≡ queryRunningAs code requested u info
     unfolding queryRunningAs
     running-unread u = unread _ n
 
@@ -146,7 +146,7 @@ module _ (code requested : ℕ) (book info : List ℕ) {m : Read} (em : m ≡ re
       stands : n ≡ standingOf (planRecord book (planIn (bodyIn info)))
       stands = en ∙ (f .stands ∙ rw ep)
 
-      pub run-13 : (n ≡ ready → ⊥) → refusedAs code requested refusal.notReady planAt ≡ runAs code requested book info
+      pub run-13 : (n ≡ ready → ⊥) → refusedWith code requested refusal.notReady planAt ≡ runAs code requested book info
       unfolding runAs
       run-13 g = sym (was-read _ e ∙ rw (← stands, ne-eqb n ready g))
 
@@ -154,7 +154,7 @@ module _ (code requested : ℕ) (book info : List ℕ) {m : Read} (em : m ≡ re
       unfolding runAs
       run-done g ew = sym (was-read _ e ∙ rw (← stands, eq-eqb n ready g, ew, ep))
 
-      pub times-13 : n ≡ empty → refusedAs code requested refusal.notReady planAt ≡ queryTimesAs code requested book info
+      pub times-13 : n ≡ empty → refusedWith code requested refusal.notReady planAt ≡ queryTimesAs code requested book info
       unfolding queryTimesAs
       times-13 g = sym (was-read _ e ∙ rw (← stands, eq-eqb n empty g))
 
@@ -164,7 +164,7 @@ module _ (code requested : ℕ) (book info : List ℕ) {m : Read} (em : m ≡ re
           let r : rec ≡ planRecord book p = f .octets (λ (z : standingOf rec ≡ empty). g (en ∙ z)) in
           sym (was-read _ e ∙ rw (← stands, ne-eqb n empty g, ew, r, ep))
 
-      pub plan-13 : (n ≡ ready → ⊥) → refusedAs code requested refusal.notReady planAt ≡ queryPlanAs code requested book info
+      pub plan-13 : (n ≡ ready → ⊥) → refusedWith code requested refusal.notReady planAt ≡ queryPlanAs code requested book info
       unfolding queryPlanAs
       plan-13 g = sym (was-read _ e ∙ rw (← stands, ne-eqb n ready g))
 
@@ -176,35 +176,35 @@ module _ (code requested : ℕ) (book info : List ℕ) {m : Read} (em : m ≡ re
 
 -- by the code
 module _ (u : Running) (requested : ℕ) (book info : List ℕ) {code : ℕ} (ec : code ≡ codeIn info) {h : Handled} where
-  pub handles-times : codeIn info ≡ setTimesCode → {a : Answered} {b : List ℕ} → setting.Did (setTimesOf book info) a b → h ≡ setAs code requested a
-      → Handles (handlingOf u requested book info) h b
+  pub handles-times : codeIn info ≡ setTimesCode → {a : Answered} {b : List ℕ} → setting.SetLeaves (setTimesOf book info) a b → h ≡ setAs code requested a
+      → HandlingLeaves (handlingOf u requested book info) h b
   unfolding handlingOf
   handles-times e d eh = rw e (record { handled = eh ∙ rw (ec ∙ e, d .answer); book = d .book })
 
-  pub handles-plan : codeIn info ≡ setPlanCode → {a : Answered} {b : List ℕ} → setting.Did (setPlanOf book info) a b → h ≡ setAs code requested a
-      → Handles (handlingOf u requested book info) h b
+  pub handles-plan : codeIn info ≡ setPlanCode → {a : Answered} {b : List ℕ} → setting.SetLeaves (setPlanOf book info) a b → h ≡ setAs code requested a
+      → HandlingLeaves (handlingOf u requested book info) h b
   unfolding handlingOf
   handles-plan e d eh = rw e (record { handled = eh ∙ rw (ec ∙ e, d .answer); book = d .book })
 
-  pub handles-run : codeIn info ≡ runCode → h ≡ runAs code requested book info → Handles (handlingOf u requested book info) h book
+  pub handles-run : codeIn info ≡ runCode → h ≡ runAs code requested book info → HandlingLeaves (handlingOf u requested book info) h book
   unfolding handlingOf
   handles-run e eh = rw e (record { handled = eh ∙ rw (ec ∙ e); book = refl })
 
-  pub handles-query-times : codeIn info ≡ queryTimesCode → h ≡ queryTimesAs code requested book info → Handles (handlingOf u requested book info) h book
+  pub handles-query-times : codeIn info ≡ queryTimesCode → h ≡ queryTimesAs code requested book info → HandlingLeaves (handlingOf u requested book info) h book
   unfolding handlingOf
   handles-query-times e eh = rw e (record { handled = eh ∙ rw (ec ∙ e); book = refl })
 
-  pub handles-query-plan : codeIn info ≡ queryPlanCode → h ≡ queryPlanAs code requested book info → Handles (handlingOf u requested book info) h book
+  pub handles-query-plan : codeIn info ≡ queryPlanCode → h ≡ queryPlanAs code requested book info → HandlingLeaves (handlingOf u requested book info) h book
   unfolding handlingOf
   handles-query-plan e eh = rw e (record { handled = eh ∙ rw (ec ∙ e); book = refl })
 
-  pub handles-query-running : codeIn info ≡ queryRunningCode → h ≡ queryRunningAs code requested u info → Handles (handlingOf u requested book info) h book
+  pub handles-query-running : codeIn info ≡ queryRunningCode → h ≡ queryRunningAs code requested u info → HandlingLeaves (handlingOf u requested book info) h book
   unfolding handlingOf
   handles-query-running e eh = rw e (record { handled = eh ∙ rw (ec ∙ e); book = refl })
 
   pub handles-other : (codeIn info ≡ setTimesCode → ⊥) → (codeIn info ≡ setPlanCode → ⊥) → (codeIn info ≡ runCode → ⊥) → (codeIn info ≡ queryTimesCode → ⊥)
-      → (codeIn info ≡ queryPlanCode → ⊥) → (codeIn info ≡ queryRunningCode → ⊥) → h ≡ refusedAs code requested refusal.codeNotHandled 0
-      → Handles (handlingOf u requested book info) h book
+      → (codeIn info ≡ queryPlanCode → ⊥) → (codeIn info ≡ queryRunningCode → ⊥) → h ≡ refusedWith code requested refusal.codeNotHandled 0
+      → HandlingLeaves (handlingOf u requested book info) h book
   unfolding handlingOf
   handles-other n1 n2 n3 n4 n5 n6 eh =
       rw (ne-eqb (codeIn info) setTimesCode n1, ne-eqb (codeIn info) setPlanCode n2, ne-eqb (codeIn info) runCode n3, ne-eqb (codeIn info) queryTimesCode n4, ne-eqb (codeIn info) queryPlanCode n5, ne-eqb (codeIn info) queryRunningCode n6)

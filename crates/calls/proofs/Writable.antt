@@ -13,7 +13,7 @@ use Rattle.frame.specs.declared.decoder.Found.the-variants as found
 use Rattle.frame.specs.Frame.{infoMost}
 use Rattle.message.specs.declared.Message as message
 use Rattle.message.specs.Fields as field
-use Rattle.message.specs.Layouts.{layouts, layoutAt, numberOf, rowsAt, rowsOf}
+use Rattle.message.specs.Layouts.{layouts, layoutAt, numberOf, rowsAt, layoutRows}
 use Rattle.message.specs.Values.{placed}
 use Rattle.message.specs.Reader.{codeIn}
 use Rattle.message.specs.Writer.{writable, infoOf}
@@ -38,7 +38,7 @@ info-found kept e c l = let h = subst CanFind e c in (h .0, length-take-le _ kep
 
 module _ (code : ℕ) (h : code < 65536) where
   pub carried-out-writable : writable (carriedOutReply code) ≡ true
-  unfolding carriedOutReply numberOf firstOf layouts layoutAt rowsAt rowsOf placed
+  unfolding carriedOutReply numberOf firstOf layouts layoutAt rowsAt layoutRows placed
   carried-out-writable =
       in-writable (carriedOutReply code)
       (record {
@@ -55,7 +55,7 @@ module _ (code : ℕ) (h : code < 65536) where
       ranges (suc j) l = absurd (omega arith)
 
   pub refused-writable : (n parameter : ℕ) → n < 256 → parameter < 256 → writable (refusedReply code n parameter) ≡ true
-  unfolding refusedReply numberOf firstOf layouts layoutAt rowsAt rowsOf placed
+  unfolding refusedReply numberOf firstOf layouts layoutAt rowsAt layoutRows placed
   refused-writable n parameter hn hp =
       in-writable (refusedReply code n parameter)
       (record {

@@ -8,7 +8,7 @@ use Rattle.controller.specs.declared.Handled.{Handled}
 use Rattle.controller.specs.Handling.{Handling}
 
 -- the message was handled as it should, and b is left in the book
-pub record Handles (w : Handling) (h : Handled) (b : List ℕ) : Type 0 where
+pub record HandlingLeaves (w : Handling) (h : Handled) (b : List ℕ) : Type 0 where
   pub handled : h ≡ w .handled
   pub book : b ≡ w .book
 

@@ -6,8 +6,8 @@ ghost use Rattle.octets.specs.Part.{codeLen};
 ghost use Rattle.record.specs.Record.{bookLen};
 ghost use Rattle.message.specs.Reader.{bodyIn};
 ghost use Rattle.plan.specs.Setting.{planIn};
-ghost use Rattle.controller.specs.Handling.{carriedOutReply, refusedReply, accepted, refusedAs, setAs, runAs, queryTimesAs, queryPlanAs, queryRunningAs, handlingOf};
-ghost use Rattle.calls.specs.Handling.{Handles};
+ghost use Rattle.controller.specs.Handling.{carriedOutReply, refusedReply, accepted, refusedWith, setAs, runAs, queryTimesAs, queryPlanAs, queryRunningAs, handlingOf};
+ghost use Rattle.calls.specs.Handling.{HandlingLeaves};
 use crate::stepper;
 use controller::Handled;
 use controller::Running;
@@ -41,7 +41,7 @@ const PLAN: u8 = 1;
 // The message that INFO holds, carried out.
 pub(crate) fn carry_out(u: Running, requested: u8, book: &mut [u8], info: &[u8]) -> Handled
     requires { ⌜ (length (now book) ≡ bookLen) × (codeLen ≤ length (now info)) ⌝ }
-    ensures { λ r. ⌜ Handles (handlingOf u requested (now (book .entry)) (now (info .entry))) r (now (book .exit)) ⌝ }
+    ensures { λ r. ⌜ HandlingLeaves (handlingOf u requested (now (book .entry)) (now (info .entry))) r (now (book .exit)) ⌝ }
 {
     let code = octets::word(info[0], info[1]);
     if info[0] != CODE_HIGH {
@@ -99,7 +99,7 @@ fn accepted(requested: u8, reply: Message) -> Handled
 }
 
 fn refused(code: u16, requested: u8, n: u8, parameter: u8) -> Handled
-    ensures { λ r. ⌜ r ≡ refusedAs code requested n parameter ⌝ }
+    ensures { λ r. ⌜ r ≡ refusedWith code requested n parameter ⌝ }
 {
     Handled {
         refusal: n,

@@ -7,7 +7,7 @@ mod stepper;
 
 ghost use mathlib.Core.Path.{_≡_};
 ghost use Rattle.controller.specs.State.{soundOf};
-ghost use Rattle.controller.specs.Replies.{Did, quiet, octetOf, lineIdleOf};
+ghost use Rattle.controller.specs.Replies.{CallLeaves, quiet, octetOf, lineIdleOf};
 ghost use Rattle.controller.specs.Seconds.{startedOf, noSecond, secondOf};
 use codec::decoder;
 use controller::ALL;
@@ -55,7 +55,7 @@ pub fn sound(s: State) -> bool
 
 // Takes one octet from the line. What it ends is carried out on the book and replied to in the output.
 pub fn octet(s: State, book: &mut [u8], out: &mut [u8], b: u8) -> Answer
-    ensures { λ r. ⌜ Did (octetOf s (now (book .entry)) (now (out .entry)) b) r (now (book .exit)) (now (out .exit)) ⌝ }
+    ensures { λ r. ⌜ CallLeaves (octetOf s (now (book .entry)) (now (out .entry)) b) r (now (book .exit)) (now (out .exit)) ⌝ }
 {
     if !soundness::stands(s) {
         return quiet(s, refusal::STATE_UNSOUND);

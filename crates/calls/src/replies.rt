@@ -7,14 +7,14 @@ ghost use Rattle.octets.specs.Part.{codeLen};
 ghost use Rattle.octets.specs.Put.{Stored};
 ghost use Rattle.frame.specs.Frame.{infoMost};
 ghost use Rattle.frame.specs.Decoder.{takenOf};
-ghost use Rattle.frame.specs.Run.{told};
+ghost use Rattle.frame.specs.Run.{foundMeans};
 ghost use Rattle.message.specs.Writer.{writable, infoOf};
 ghost use Rattle.record.specs.Record.{plansMost, bookLen, ready};
 ghost use Rattle.checks.specs.Standing.{standingOf};
 ghost use Rattle.controller.specs.State.{outputLen, soundOf};
-ghost use Rattle.controller.specs.Replies.{Did, sent, errOf, naks, acks, forUs, isAnswer, eventFor, repliesOf, CanFind, repliedOf, messageOf, broughtOf, doneOf};
+ghost use Rattle.controller.specs.Replies.{CallLeaves, sent, errOf, naks, acks, forUs, isAnswer, eventFor, repliesOf, CanFind, repliedOf, messageOf, broughtOf, doneOf};
 ghost use Rattle.calls.specs.Handling.{Sendable};
-ghost use Rattle.calls.specs.Replies.{Tells, Brings, unchangedAs};
+ghost use Rattle.calls.specs.Replies.{ResultWritten, ResultAndBookLeft, unchangedAs};
 use crate::handling;
 use codec::decoder;
 use codec::writer;
@@ -34,7 +34,7 @@ use octets::refusal;
 const ERR_LEN: u8 = 4;
 
 // What an octet brought: what the answer says of it, and the SEQ and the request that the state then has.
-pub struct Brought {
+pub struct ResultCounted {
     pub refusal: u8,
     pub parameter: u8,
     pub event: Event,
@@ -46,7 +46,7 @@ pub struct Brought {
 // One octet to a sound state, and what it brought.
 pub(crate) fn taken(s: State, book: &mut [u8], out: &mut [u8], b: u8) -> Answer
     requires { ⌜ (soundOf s ≡ true) × (length (now book) ≡ bookLen) × (outputLen ≤ length (now out)) ⌝ }
-    ensures { λ r. ⌜ Did (doneOf s (takenOf (s .decoder) b) (now (book .entry)) (now (out .entry))) r (now (book .exit)) (now (out .exit)) ⌝ }
+    ensures { λ r. ⌜ CallLeaves (doneOf s (takenOf (s .decoder) b) (now (book .entry)) (now (out .entry))) r (now (book .exit)) (now (out .exit)) ⌝ }
 {
     let h = s.decoder.head;
     if decoder::idle_drops(h, b) {
@@ -92,9 +92,9 @@ fn by_found(
     kept: &[u8],
     book: &mut [u8],
     out: &mut [u8],
-) -> Brought
+) -> ResultCounted
     requires { ⌜ (CanFind found) × (length (now kept) ≡ infoMost) × (standingOf (u .copy) ≡ ready) × (u .plan ≤ plansMost) × (length (now book) ≡ bookLen) × (outputLen ≤ length (now out)) ⌝ }
-    ensures { λ r. ⌜ Brings (broughtOf (told found (now (kept .entry))) own ours requested u (now (book .entry))) (now (out .entry)) r (now (book .exit)) (now (out .exit)) ⌝ }
+    ensures { λ r. ⌜ ResultAndBookLeft (broughtOf (foundMeans found (now (kept .entry))) own ours requested u (now (book .entry))) (now (out .entry)) r (now (book .exit)) (now (out .exit)) ⌝ }
 {
     match found {
         Found::Nothing => unchanged(refusal::NONE, Event::Nothing, 0, ours, requested),
@@ -118,10 +118,10 @@ fn by_found(
 }
 
 // No message was handled: there is no parameter, and SEQ and request stay.
-fn unchanged(n: u8, event: Event, count: usize, ours: u8, requested: u8) -> Brought
+fn unchanged(n: u8, event: Event, count: usize, ours: u8, requested: u8) -> ResultCounted
     ensures { λ r. ⌜ r ≡ unchangedAs n event count ours requested ⌝ }
 {
-    Brought {
+    ResultCounted {
         refusal: n,
         parameter: 0,
         event,
@@ -173,9 +173,9 @@ fn message_taken(
     info: &[u8],
     book: &mut [u8],
     out: &mut [u8],
-) -> Brought
+) -> ResultCounted
     requires { ⌜ (codeLen ≤ length (now info)) × (standingOf (u .copy) ≡ ready) × (u .plan ≤ plansMost) × (length (now book) ≡ bookLen) × (outputLen ≤ length (now out)) ⌝ }
-    ensures { λ r. ⌜ Brings (messageOf own ours requested u seq addr (now (info .entry)) (now (book .entry))) (now (out .entry)) r (now (book .exit)) (now (out .exit)) ⌝ }
+    ensures { λ r. ⌜ ResultAndBookLeft (messageOf own ours requested u seq addr (now (info .entry)) (now (book .entry))) (now (out .entry)) r (now (book .exit)) (now (out .exit)) ⌝ }
 {
     if !for_us(own, addr) {
         return unchanged(refusal::NONE, Event::Nothing, 0, ours, requested);
@@ -218,9 +218,9 @@ fn ack(own: u16, seq: u8, addr: u16, out: &mut [u8]) -> usize
 }
 
 // "A sound message frame for us writes an ACK with the received SEQ, then one message frame with our next SEQ."
-fn replied(own: u16, ours: u8, seq: u8, addr: u16, h: Handled, out: &mut [u8]) -> Brought
+fn replied(own: u16, ours: u8, seq: u8, addr: u16, h: Handled, out: &mut [u8]) -> ResultCounted
     requires { ⌜ (Sendable h) × (outputLen ≤ length (now out)) ⌝ }
-    ensures { λ r. ⌜ Tells (repliedOf own ours seq addr h) (now (out .entry)) r (now (out .exit)) ⌝ }
+    ensures { λ r. ⌜ ResultWritten (repliedOf own ours seq addr h) (now (out .entry)) r (now (out .exit)) ⌝ }
 {
     // "FFFF is for all: carried out, never replied to."
     let reply_due = addr == own;
@@ -230,7 +230,7 @@ fn replied(own: u16, ours: u8, seq: u8, addr: u16, h: Handled, out: &mut [u8]) -
         count = write_reply(seq, ours, own, h.reply, out);
         next = std::num::wrapping_add_u8(ours, 1);
     }
-    Brought {
+    ResultCounted {
         refusal: h.refusal,
         parameter: h.parameter,
         event: Event::Nothing,

@@ -52,12 +52,12 @@ fn say_found(f: Found, d: Decoder, n: usize) {
             say::text(b", ");
             say::head(k, seq, addr);
         }
-        Found::Message(seq, addr, got) => {
+        Found::Message(seq, addr, filled) => {
             let info = d.info;
             say_number(n);
             say::head(Kind::Message, seq, addr);
             say::text(b", INFO ");
-            say::octets(script::first(&info, got as usize));
+            say::octets(script::first(&info, filled as usize));
         }
         Found::Ack(seq, addr) => {
             say_number(n);

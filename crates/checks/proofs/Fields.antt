@@ -11,10 +11,10 @@ use Rattle.octets.specs.Refusal as refusal
 use Rattle.message.specs.declared.Read.{Read}
 use Rattle.message.specs.declared.layout.Field.{Field}
 use Rattle.message.specs.Fields.{twoOf, widthOf, valueOf, noField}
-use Rattle.message.specs.Layouts.{layouts, layoutAt, rowsAt, rowsOf, repeated, times, greens, cycleOffset}
+use Rattle.message.specs.Layouts.{layouts, layoutAt, rowsAt, layoutRows, repeated, times, greens, cycleOffset}
 use Rattle.message.specs.Values.{sizeOf, valuesOf}
-use Rattle.message.specs.Reader.{refusedAs, readAs, partOf, readPartOf}
-use Rattle.message.specs.Promises.{InRange, RightAt, Known, RightLength, PartJudged, unknown, wrongLength, outOfRange, accepted}
+use Rattle.message.specs.Reader.{notRead, readAs, partOf, readPartOf}
+use Rattle.message.specs.Promises.{InRange, RightAt, HasLayout, RightLength, PartJudged, unknown, wrongLength, outOfRange, accepted}
 use Rattle.message.proofs.ReadSo.{parts-read-so}
 use Rattle.diagram.specs.Table.{phasesOf}
 use Rattle.record.specs.Record.{octetAt, wordAt, kOf, timesAt, minimumOf, maximumOf, yellowOf, allRedOf, walkFlashOf, redManOf, Within, TimesFit}
@@ -101,7 +101,7 @@ pub record Read1 (l k : ℕ) (os : List ℕ) : Type 0 where
   pub pass : Pass (rowsAt l k) os
 
 read-in : {l k : ℕ} {os : List ℕ} {r : Read} → PartJudged l k os r → r .refusal ≡ refusal.none → Read1 l k os
-unfolding refusedAs
+unfolding notRead
 read-in (unknown n) e = absurd (omega arith)
 read-in (wrongLength kn n) e = absurd (omega arith)
 read-in (outOfRange n kn r w) e = absurd (omega arith)
@@ -110,7 +110,7 @@ read-in {l} {k} {os} (accepted kn r a) e = record { right = r; pass = pass-all (
 pub read-pass : (l k : ℕ) (os : List ℕ) → readPartOf l k os .refusal ≡ refusal.none → Read1 l k os
 read-pass l k os e = read-in (parts-read-so l k os (readPartOf l k os) .1 refl) e
 
-pub pass-read : {l k : ℕ} {os : List ℕ} → Known l → Read1 l k os → readPartOf l k os .refusal ≡ refusal.none
+pub pass-read : {l k : ℕ} {os : List ℕ} → HasLayout l → Read1 l k os → readPartOf l k os .refusal ≡ refusal.none
 pass-read {l} {k} {os} kn h =
     ap (λ (r : Read). r .refusal)
     (sym (parts-read-so l k os (readAs (partOf l k os)) .0 (accepted kn (h .right) (all-pass (rowsAt l k) os (h .pass)))))

@@ -19,10 +19,10 @@ use Rattle.diagram.specs.Table.{phasesOf}
 use Rattle.message.specs.declared.layout.Field.{Field}
 use Rattle.message.specs.Fields as field
 use Rattle.message.specs.Fields.{valueOf}
-use Rattle.message.specs.Layouts.{layouts, layoutAt, rowsAt, rowsOf, repeated, times, greens, cycleOffset, storedTimes, storedPlan}
+use Rattle.message.specs.Layouts.{layouts, layoutAt, rowsAt, layoutRows, repeated, times, greens, cycleOffset, storedTimes, storedPlan}
 use Rattle.message.specs.Values.{sizeOf}
 use Rattle.message.specs.Reader.{readPartOf}
-use Rattle.message.specs.Promises.{Known, InRange}
+use Rattle.message.specs.Promises.{HasLayout, InRange}
 use Rattle.message.proofs.Values.{size-append, size-repeated}
 use Rattle.record.specs.Record.{recordLen, empty, timesSet, ready, stateOf, kOf, timesAt, timesEnd, readyEnd, greensAt, minimumOf, maximumOf, walkFlashOf, redManOf, directOf, orderOf, greenOf, cycleOf, offsetOf, sumOf, Within, TimesFit, AllTimesFit, ZeroFrom, GreensFit, TimesSet, Ready}
 use Rattle.checks.specs.Standing.{headLen, between, timesFail, timesChecks, timesDisagree, greenFails, planFails, planChecks, planDisagree, ranged, timesStand, planStands, readyStands, allZero, standingOf, Stands, StandsAsItIs}
@@ -141,7 +141,7 @@ module _ (layout from end : ℕ) (rec : List ℕ) where
       let n = readPartOf layout (kOf rec) (between from end rec) .refusal in
       read-pass layout (kOf rec) (between from end rec) (eqb-true n refusal.none (both-right (leb end (length rec)) (eqb n refusal.none) h))
 
-  read-part : Known layout → end ≤ length rec → Read1 layout (kOf rec) (between from end rec) → ranged layout from end rec ≡ true
+  read-part : HasLayout layout → end ≤ length rec → Read1 layout (kOf rec) (between from end rec) → ranged layout from end rec ≡ true
   unfolding ranged
   read-part kn l h =
       let n = readPartOf layout (kOf rec) (between from end rec) .refusal in
@@ -155,7 +155,7 @@ module _ (rec : List ℕ) where
   phases-at i = let e : 2 + i * 7 ≡ timesAt i = omega arith in drop-drop (i * 7) 2 rec ∙ ap (λ (n : ℕ). drop n rec) e
 
   times-size : sizeOf (rowsAt storedTimes k) ≡ 7 * k
-  unfolding rowsAt rowsOf layoutAt layouts
+  unfolding rowsAt layoutRows layoutAt layouts
   times-size = omega (arith, size-append (repeated k times) [], size-repeated times k)
 
   times-read : timesStand rec ≡ true → Read1 storedTimes k (between headLen (timesEnd rec) rec)
@@ -164,7 +164,7 @@ module _ (rec : List ℕ) where
 
   -- each field passes in the record itself
   pub times-pass : timesStand rec ≡ true → Pass (repeated k times ++ []) (drop 2 rec)
-  unfolding rowsAt rowsOf layoutAt layouts
+  unfolding rowsAt layoutRows layoutAt layouts
   times-pass h = pass-whole (repeated k times ++ []) (timesEnd rec - 2) (drop 2 rec) (omega (arith, times-size)) (times-read h .pass)
 
   pub times-fit : timesStand rec ≡ true → AllTimesFit rec
@@ -178,7 +178,7 @@ module _ (rec : List ℕ) where
       }
 
   pub fit-times : length rec ≡ recordLen → AllTimesFit rec → timesStand rec ≡ true
-  unfolding timesStand rowsAt rowsOf layoutAt layouts
+  unfolding timesStand rowsAt layoutRows layoutAt layouts
   fit-times e f =
       let l : timesEnd rec ≤ length rec = omega (arith, f .count .most) in
       let p : Pass (repeated k times ++ []) (drop 2 rec) =
@@ -211,7 +211,7 @@ module _ (rec : List ℕ) where
   -- each field passes at its place in the record
   pub plan-pass : planStands rec ≡ true
       → InRange field.direct (directOf rec) × InRange field.order (orderOf rec) × Pass (repeated k greens ++ cycleOffset) (drop (greensAt rec) rec)
-  unfolding planStands rowsAt rowsOf layoutAt layouts
+  unfolding planStands rowsAt layoutRows layoutAt layouts
   plan-pass h =
       let r = part-read storedPlan (timesEnd rec) (readyEnd rec) rec (both-left (ranged storedPlan (timesEnd rec) (readyEnd rec) rec) (eqb (planDisagree rec) 0) h) in
       let p = pass-whole planRows (readyEnd rec - timesEnd rec) (drop (timesEnd rec) rec) (omega (arith, plan-size)) (r .pass) in
@@ -233,7 +233,7 @@ module _ (rec : List ℕ) where
       }
 
   pub fits-plan : length rec ≡ recordLen → orderOf rec < 256 → AllTimesFit rec → GreensFit rec → planStands rec ≡ true
-  unfolding planStands rowsAt rowsOf layoutAt layouts
+  unfolding planStands rowsAt layoutRows layoutAt layouts
   fits-plan e at-order t f =
       let l : readyEnd rec ≤ length rec = omega (arith, t .count .most) in
       let some : 1 ≤ phasesOf (orderOf rec) = omega (arith, t .count .least, f .count) in

@@ -5,7 +5,7 @@ ghost use Prim.Native.Nat.{_≤_, _<_};
 ghost use lib.ListN.{take};
 ghost use Rattle.octets.specs.ExclusiveOr.{exclusiveOr};
 ghost use Rattle.frame.specs.Frame.{lenFits, infoMost};
-ghost use Rattle.frame.specs.Decoder.{freshDecoder, hasInfo, infoDue, infoWhole, errDue, cksDue, idleDrops, possibleOf, placed, foundAt, moved, ended, opened, refusedBy, idleOctet, afterAa, afterLen, lenJudged, afterInfo, kept, infoOctet, infoAaOctet, closeAaOctet, closeCcOctet, cksIn, soundBy, cksOctet, stepAt, takenOf, idledOf};
+ghost use Rattle.frame.specs.Decoder.{freshDecoder, hasInfo, infoDue, infoWhole, errDue, cksDue, idleDrops, possibleOf, headAt, foundAt, moved, ended, opened, refusedBy, idleOctet, afterAa, afterLen, lenJudged, afterInfo, kept, infoOctet, infoAaOctet, closeAaOctet, closeCcOctet, cksIn, soundBy, cksOctet, stepAt, takenOf, idledOf};
 use crate::AA;
 use crate::ACK_LEN;
 use crate::BB;
@@ -37,7 +37,7 @@ pub fn fresh() -> Decoder
             err: 0,
             addr: 0,
             len: 0,
-            got: 0,
+            filled: 0,
         },
         info: [0u8; INFO_MOST],
     }
@@ -60,7 +60,7 @@ pub fn octet(d: Decoder, b: u8) -> Taken
     let head = t.head;
     let found = t.found;
     if t.keeps {
-        let at = h.got as usize;
+        let at = h.filled as usize;
         info[at] = b;
     }
     Taken {
@@ -117,12 +117,12 @@ pub fn possible(h: Head) -> bool
         Place::AddrLow => h.addr < 256,
         Place::LenHigh => true,
         Place::LenLow => h.len < 256,
-        Place::Info => info_due(k, h.len, h.got),
-        Place::InfoAa => info_due(k, h.len, h.got),
-        Place::CloseAa => info_whole(k, h.len, h.got),
-        Place::CloseCc => info_whole(k, h.len, h.got),
+        Place::Info => info_due(k, h.len, h.filled),
+        Place::InfoAa => info_due(k, h.len, h.filled),
+        Place::CloseAa => info_whole(k, h.len, h.filled),
+        Place::CloseCc => info_whole(k, h.len, h.filled),
         Place::Err => err_due(k, h.len),
-        Place::Cks => cks_due(k, h.len, h.got),
+        Place::Cks => cks_due(k, h.len, h.filled),
     }
 }
 
@@ -138,17 +138,17 @@ fn has_info(k: Kind, len: u16) -> bool
 }
 
 // A message some of whose INFO is still to come.
-fn info_due(k: Kind, len: u16, got: u16) -> bool
-    ensures { λ r. ⌜ r ≡ infoDue k len got ⌝ }
+fn info_due(k: Kind, len: u16, filled: u16) -> bool
+    ensures { λ r. ⌜ r ≡ infoDue k len filled ⌝ }
 {
-    has_info(k, len) && got < len - MESSAGE_LEN
+    has_info(k, len) && filled < len - MESSAGE_LEN
 }
 
 // A message all of whose INFO is in.
-fn info_whole(k: Kind, len: u16, got: u16) -> bool
-    ensures { λ r. ⌜ r ≡ infoWhole k len got ⌝ }
+fn info_whole(k: Kind, len: u16, filled: u16) -> bool
+    ensures { λ r. ⌜ r ≡ infoWhole k len filled ⌝ }
 {
-    has_info(k, len) && got == len - MESSAGE_LEN
+    has_info(k, len) && filled == len - MESSAGE_LEN
 }
 
 // A NAK, whose ERR is still to come.
@@ -163,11 +163,11 @@ fn err_due(k: Kind, len: u16) -> bool
 }
 
 // A frame all of which but CKS is in.
-fn cks_due(k: Kind, len: u16, got: u16) -> bool
-    ensures { λ r. ⌜ r ≡ cksDue k len got ⌝ }
+fn cks_due(k: Kind, len: u16, filled: u16) -> bool
+    ensures { λ r. ⌜ r ≡ cksDue k len filled ⌝ }
 {
     match k {
-        Kind::Message => info_whole(k, len, got),
+        Kind::Message => info_whole(k, len, filled),
         Kind::Ack => len_fits(k, len),
         Kind::Nak => len_fits(k, len),
     }
@@ -188,7 +188,7 @@ fn len_fits(k: Kind, len: u16) -> bool
 
 // The head at another place, of a frame of this kind.
 fn placed(h: Head, p: Place, k: Kind) -> Head
-    ensures { λ r. ⌜ r ≡ placed h p k ⌝ }
+    ensures { λ r. ⌜ r ≡ headAt h p k ⌝ }
 {
     Head {
         place: p,
@@ -282,7 +282,7 @@ fn len_judged(mut h: Head, n: u16) -> Stepped
     let k = h.kind;
     if len_fits(k, n) {
         h.len = n;
-        h.got = 0;
+        h.filled = 0;
         moved(h, after_len(k))
     } else {
         ended(h, refused_by(h, refusal::LEN_WRONG))
@@ -290,11 +290,11 @@ fn len_judged(mut h: Head, n: u16) -> Stepped
 }
 
 // "After n octets of INFO come AA and CC": the place where some of them are in.
-fn after_info(len: u16, got: u16) -> Place
-    requires { ⌜ got ≤ infoMost ⌝ }
-    ensures { λ r. ⌜ r ≡ afterInfo len got ⌝ }
+fn after_info(len: u16, filled: u16) -> Place
+    requires { ⌜ filled ≤ infoMost ⌝ }
+    ensures { λ r. ⌜ r ≡ afterInfo len filled ⌝ }
 {
-    if MESSAGE_LEN + got < len {
+    if MESSAGE_LEN + filled < len {
         Place::Info
     } else {
         Place::CloseAa
@@ -303,11 +303,11 @@ fn after_info(len: u16, got: u16) -> Place
 
 // An octet of INFO is kept.
 fn kept(mut h: Head) -> Stepped
-    requires { ⌜ h .got < infoMost ⌝ }
+    requires { ⌜ h .filled < infoMost ⌝ }
     ensures { λ r. ⌜ r ≡ kept h ⌝ }
 {
-    let g = h.got + 1;
-    h.got = g;
+    let g = h.filled + 1;
+    h.filled = g;
     let mut t = moved(h, after_info(h.len, g));
     t.keeps = true;
     t
@@ -315,7 +315,7 @@ fn kept(mut h: Head) -> Stepped
 
 // An AA of INFO comes twice: the first is not kept.
 fn info_octet(h: Head, b: u8) -> Stepped
-    requires { ⌜ h .got < infoMost ⌝ }
+    requires { ⌜ h .filled < infoMost ⌝ }
     ensures { λ r. ⌜ r ≡ infoOctet h b ⌝ }
 {
     match b {
@@ -327,7 +327,7 @@ fn info_octet(h: Head, b: u8) -> Stepped
 // "In INFO an AA followed by something else .. is refusal 2. The wrong octet after an AA is then judged as if it had
 // followed a lone AA"
 fn info_aa_octet(h: Head, b: u8) -> Stepped
-    requires { ⌜ h .got < infoMost ⌝ }
+    requires { ⌜ h .filled < infoMost ⌝ }
     ensures { λ r. ⌜ r ≡ infoAaOctet h b ⌝ }
 {
     match b {
@@ -378,7 +378,7 @@ fn cks(h: Head, info: &[u8]) -> u8
     let x = octets::exclusive_or(0, &f);
     match k {
         Kind::Message => {
-            let y = info_cks(x, info, h.got);
+            let y = info_cks(x, info, h.filled);
             octets::exclusive_or(y, &[AA, CC])
         }
         Kind::Ack => x,
@@ -392,7 +392,7 @@ fn sound_by(h: Head) -> Found
 {
     let k = h.kind;
     match k {
-        Kind::Message => Found::Message(h.seq, h.addr, h.got),
+        Kind::Message => Found::Message(h.seq, h.addr, h.filled),
         Kind::Ack => Found::Ack(h.seq, h.addr),
         Kind::Nak => Found::Nak(h.seq, h.addr, h.err),
     }

@@ -7,8 +7,8 @@ ghost use lib.ListN.{length};
 ghost use Rattle.octets.specs.Choice.{both};
 ghost use Rattle.octets.specs.Put.{Stored};
 ghost use Rattle.frame.specs.Frame.{message, ack, nak, twice, doubled, infoLeast, infoMost};
-ghost use Rattle.octets.specs.Writing.{Wrote, writtenAs};
-ghost use Rattle.frame.specs.Writer.{writeOf};
+ghost use Rattle.octets.specs.Writing.{WriterLeaves, writtenAs};
+ghost use Rattle.frame.specs.Writer.{writeFrame};
 use crate::AA;
 use crate::ACK_LEN;
 use crate::CC;
@@ -22,7 +22,7 @@ use octets::refusal;
 
 // A message frame. INFO that is not 2 to 256 long is refused before the output is looked at.
 pub fn write_message(seq: u8, addr: u16, info: &[u8], out: &mut [u8], at: usize) -> Written
-    ensures { λ r. ⌜ Wrote (writeOf (message seq addr (now (info .entry))) at (now (out .entry))) r (now (out .exit)) ⌝ }
+    ensures { λ r. ⌜ WriterLeaves (writeFrame (message seq addr (now (info .entry))) at (now (out .entry))) r (now (out .exit)) ⌝ }
 {
     if !info_fits(info.len()) {
         return Written {
@@ -37,7 +37,7 @@ pub fn write_message(seq: u8, addr: u16, info: &[u8], out: &mut [u8], at: usize)
 }
 
 pub fn write_ack(seq: u8, addr: u16, out: &mut [u8], at: usize) -> Written
-    ensures { λ r. ⌜ Wrote (writeOf (ack seq addr) at (now (out .entry))) r (now (out .exit)) ⌝ }
+    ensures { λ r. ⌜ WriterLeaves (writeFrame (ack seq addr) at (now (out .entry))) r (now (out .exit)) ⌝ }
 {
     let f = crate::front(Kind::Ack, seq, addr, ACK_LEN);
     let e = [octets::exclusive_or(0, &f)];
@@ -45,7 +45,7 @@ pub fn write_ack(seq: u8, addr: u16, out: &mut [u8], at: usize) -> Written
 }
 
 pub fn write_nak(seq: u8, addr: u16, err: u8, out: &mut [u8], at: usize) -> Written
-    ensures { λ r. ⌜ Wrote (writeOf (nak seq addr err) at (now (out .entry))) r (now (out .exit)) ⌝ }
+    ensures { λ r. ⌜ WriterLeaves (writeFrame (nak seq addr err) at (now (out .entry))) r (now (out .exit)) ⌝ }
 {
     let f = crate::front(Kind::Nak, seq, addr, NAK_LEN);
     let e = [
@@ -65,7 +65,7 @@ fn info_fits(n: usize) -> bool
 // The front of a frame, its INFO with each AA twice, and its end, where there is room for all of it.
 fn write_parts(front: &[u8], info: &[u8], end: &[u8], out: &mut [u8], at: usize) -> Written
     requires { ⌜ (length (now front) ≤ infoMost) × (length (now info) ≤ infoMost) × (length (now end) ≤ infoMost) ⌝ }
-    ensures { λ r. ⌜ Wrote (writtenAs (now (front .entry) ++ (doubled (now (info .entry)) ++ now (end .entry))) at (now (out .entry))) r (now (out .exit)) ⌝ }
+    ensures { λ r. ⌜ WriterLeaves (writtenAs (now (front .entry) ++ (doubled (now (info .entry)) ++ now (end .entry))) at (now (out .entry))) r (now (out .exit)) ⌝ }
 {
     let n = front.len() + doubled_len(info) + end.len();
     if !octets::room(out.len(), at, n) {

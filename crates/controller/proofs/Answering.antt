@@ -20,7 +20,7 @@ use Rattle.frame.specs.declared.decoder.Found.{Found}
 use Rattle.frame.specs.declared.decoder.Found.the-variants as found
 use Rattle.frame.specs.Frame.{Frame}
 use Rattle.frame.specs.Decoder.{takenOf}
-use Rattle.frame.specs.Run.{told, outcomeOf}
+use Rattle.frame.specs.Run.{foundMeans, outcomeOf}
 use Rattle.frame.proofs.Laws.{idled-done}
 use Rattle.message.specs.declared.Read.{Read}
 use Rattle.message.specs.Reader as reader
@@ -33,7 +33,7 @@ use Rattle.plan.specs.declared.setting.Answered.{Answered}
 use Rattle.record.specs.Record.{bookLen, empty, kOf}
 use Rattle.checks.specs.Standing.{timesDisagree, planDisagree, standingOf, Stands}
 use Rattle.plan.specs.Reading.{recordAt}
-use Rattle.plan.specs.Setting.{Setting, setTimesCode, setPlanCode, planIn, countIn, notMade, readyRecord, timesMade, readyMade, keptAs, otherCode, frontOf, setOf, setTimesOf, setPlanOf}
+use Rattle.plan.specs.Setting.{Setting, setTimesCode, setPlanCode, planIn, countIn, notMade, readyRecord, timesMade, readyMade, keptAs, otherCode, setFront, setOf, setTimesOf, setPlanOf}
 use Rattle.checks.proofs.Stands.{stands-as-it-is}
 use Rattle.controller.specs.declared.Running.{Running}
 use Rattle.controller.specs.declared.State.{State}
@@ -43,7 +43,7 @@ use Rattle.controller.specs.declared.Handled.{Handled}
 use Rattle.controller.specs.State.{all, outputLen, planRecord, readyIn, freshOf, soundOf}
 use Rattle.controller.specs.Handling as handling
 use Rattle.controller.specs.Handling.{setAs, unlessUnread, runAs, queryTimesAs, queryPlanAs, queryRunningAs, handlingOf}
-use Rattle.controller.specs.Replies.{Call, sent, refusedCall, errOf, naks, acks, forUs, isAnswer, repliesOf, CanFind, Bringing, unchanged, leaves, repliedOf, messageOf, eventFor, broughtOf, madeOf, octetOf}
+use Rattle.controller.specs.Replies.{Call, sent, refusedCall, errOf, naks, acks, forUs, isAnswer, repliesOf, CanFind, ResultAndBook, unchanged, leaves, repliedOf, messageOf, eventFor, broughtOf, madeOf, octetOf}
 use Rattle.controller.specs.Seconds.{startedOf, secondOf, noSecond}
 use Rattle.controller.specs.Demand1.{Sound, SoundAsItIs, OctetRefused, InDone, OctetsAnswered, SecondRefused, SecondsAnswered, IdlesAnswered, StartsAnswered, RefusedLeavesBook, OutputsLeft, NumbersAsSaid}
 use Rattle.controller.proofs.Laws.{octet-7, octet-8, octet-9, octet-brings, idle-7, idle-done, second-7, second-8, second-done}
@@ -116,7 +116,7 @@ seconds-answered s book = record { refused = λ n r. refused r; done = λ h n. r
 -- What a message may be refused by
 
 pub read-in-done : (info : List ℕ) → InDone (readOf info .refusal)
-unfolding reader.refusedAs
+unfolding reader.notRead
 read-in-done info = by (read-so info (readOf info) .1 refl)
   where
     by : {r : Read} → Judged info r → InDone (r .refusal)
@@ -129,10 +129,10 @@ read-in-done info = by (read-so info (readOf info) .1 refl)
 -- a set answers by its front, or by what is made, and one that is refused leaves the book
 module _ (code : ℕ) (m : _) (book info : List ℕ) {w : Setting} (e : w ≡ setOf code m book info) where
   set-in-done : length book ≡ bookLen → InDone (m .refusal) → InDone (w .answer .refusal)
-  unfolding setOf frontOf keptAs
+  unfolding setOf setFront keptAs
   set-in-done hb h =
       rw e
-      (pick-by (λ (w : Setting). InDone (w .answer .refusal)) (eqb (frontOf (length book) code info .refusal) refusal.none)
+      (pick-by (λ (w : Setting). InDone (w .answer .refusal)) (eqb (setFront (length book) code info .refusal) refusal.none)
       (λ _. pick-by (λ (w : Setting). InDone (w .answer .refusal)) (eqb (m .refusal) refusal.none) (λ _. inl (omega arith)) (λ _. h))
       (λ _. rw (eq-eqb (length book) bookLen hb)
       (pick-by (λ (a : Answered). InDone (a .refusal)) (otherCode code info) (λ _. inr (omega arith, omega arith)) (λ _. read-in-done info))))
@@ -142,7 +142,7 @@ module _ (code : ℕ) (m : _) (book info : List ℕ) {w : Setting} (e : w ≡ se
   set-refused-leaves =
       let P : Setting → Type 0 = λ w. (w .answer .refusal ≡ refusal.none → ⊥) → w .book ≡ book in
       subst P (sym e)
-      (pick-by P (eqb (frontOf (length book) code info .refusal) refusal.none)
+      (pick-by P (eqb (setFront (length book) code info .refusal) refusal.none)
       (λ _. pick-by P (eqb (m .refusal) refusal.none) (λ _ n. absurd (n refl)) (λ _ _. refl))
       (λ _ _. refl))
 
@@ -184,7 +184,7 @@ module _ (u : Running) (requested : ℕ) (book info : List ℕ) where
   read-or-done h d = pick-by (λ (h : Handled). InDone (h .refusal)) (eqb (readOf info .refusal) refusal.none) (λ _. d) (λ _. read-in-done info)
 
   -- of what holds or is refused 13
-  or-not-ready : (t : Bool) (h : Handled) → InDone (h .refusal) → InDone (pick t h (handling.refusedAs code requested refusal.notReady planAt) .refusal)
+  or-not-ready : (t : Bool) (h : Handled) → InDone (h .refusal) → InDone (pick t h (handling.refusedWith code requested refusal.notReady planAt) .refusal)
   or-not-ready true h d = d
   or-not-ready false h d = inr (omega arith, omega arith)
 
@@ -225,7 +225,7 @@ acks-fit : (own seq addr : ℕ) → FramesFit (acks own seq addr)
 acks-fit own seq addr = pick-by FramesFit (eqb addr own) (λ _. ack-fits seq own) (λ _. none-fit)
 
 -- what is brought names a refusal that a call that is done may name, leaves the book where it names one, and writes what fits
-record Right (book : List ℕ) (w : Bringing) : Type 0 where
+record Right (book : List ℕ) (w : ResultAndBook) : Type 0 where
   names : InDone (w .result .refusal)
   leaves : (w .result .refusal ≡ refusal.none → ⊥) → w .book ≡ book
   fits : FramesFit (w .result .frames)
@@ -250,7 +250,7 @@ module _ (own ours requested : ℕ) (u : Running) (book : List ℕ) where
         frames : FramesFit (pick (eqb addr own) (repliesOf seq ours own reply) [])
         frames = pick-by FramesFit (eqb addr own) (λ _. sent-most seq ours own reply (reply-fits u requested book info (p .checks) (p .plan) hb)) (λ _. none-fit)
 
-    brought-right : (f : Found) (kept : List ℕ) → CanFind f → Right book (broughtOf (told f kept) own ours requested u book)
+    brought-right : (f : Found) (kept : List ℕ) → CanFind f → Right book (broughtOf (foundMeans f kept) own ours requested u book)
     brought-right found.Nothing kept c = unchanged-right refusal.none event.Nothing [] (omega arith) none-fit
     brought-right (found.Refused n k seq addr) kept c = unchanged-right n event.Nothing (naks k own n seq addr) c (naks-fit k own n seq addr)
     brought-right (found.Message seq addr n) kept c = message-right seq addr (take n kept)
@@ -258,7 +258,7 @@ module _ (own ours requested : ℕ) (u : Running) (book : List ℕ) where
     brought-right (found.Nak seq addr err) kept c = unchanged-right refusal.none (eventFor own addr (event.Nak seq err)) [] (omega arith) none-fit
 
 module _ (s : State) (book out : List ℕ) (b : ℕ) where
-  abbrev brought : Bringing
+  abbrev brought : ResultAndBook
   brought = broughtOf (outcomeOf (takenOf (s .decoder) b)) (s .own) (s .seq) (s .requested) (s .running) book
 
   octet-right : soundOf s ≡ true → length book ≡ bookLen → Right book brought
@@ -289,7 +289,7 @@ octets-answered s book out b =
 
 -- what holds of every refused call, and of every call that is done with what is right, holds of every octet call
 octet-by : (P : Call → Type 0) (s : State) (book out : List ℕ) (b : ℕ) → ((n : ℕ) → P (refusedCall s n book out))
-    → (outputLen ≤ length out → (w : Bringing) → Right book w → P (madeOf s (takenOf (s .decoder) b .decoder) w out)) → P (octetOf s book out b)
+    → (outputLen ≤ length out → (w : ResultAndBook) → Right book w → P (madeOf s (takenOf (s .decoder) b .decoder) w out)) → P (octetOf s book out b)
 octet-by P s book out b r d = by (octets-answered s book out b .either)
   where
     by : ((n : ℕ) × OctetRefused s book out n) ⊎ ((soundOf s ≡ true) × (length book ≡ bookLen) × (outputLen ≤ length out)) → P (octetOf s book out b)
@@ -326,7 +326,7 @@ outputs-left s book out b =
     none : {n : ℕ} → Leaves out (refusedCall s n book out)
     none = record { beyond = refl; long = refl; within = omega arith; most = omega arith }
 
-    some : outputLen ≤ length out → (w : Bringing) → FramesFit (w .result .frames) → Leaves out (madeOf s (takenOf (s .decoder) b .decoder) w out)
+    some : outputLen ≤ length out → (w : ResultAndBook) → FramesFit (w .result .frames) → Leaves out (madeOf s (takenOf (s .decoder) b .decoder) w out)
     some ho w f =
         let vs = sent (w .result .frames) in
         let h : length vs ≤ length out = omega arith in

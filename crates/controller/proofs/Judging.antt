@@ -13,7 +13,7 @@ use Rattle.frame.specs.Decoder.{possibleOf}
 use Rattle.record.specs.Record.{recordLen, plansMost, ready, cycleOf}
 use Rattle.checks.specs.Standing.{standingOf}
 use Rattle.plan.specs.BuiltIn.{padded, builtIn}
-use Rattle.plan.specs.Reading.{startOf, same}
+use Rattle.plan.specs.Reading.{recordStart, same}
 use Rattle.plan.proofs.Laws.{same-is, is-same, octets-part}
 use Rattle.controller.specs.declared.Running.{Running}
 use Rattle.controller.specs.declared.State.{State}
@@ -83,4 +83,4 @@ unfolding builtIn padded
 octets-built-in = search arith
 
 pub record-octets : (book : List ℕ) (p : ℕ) → Octets book → Octets (planRecord book p)
-record-octets book p o = pick-by Octets (eqb p 0) (λ _. octets-built-in) (λ _. octets-part recordLen (startOf p) book o)
+record-octets book p o = pick-by Octets (eqb p 0) (λ _. octets-built-in) (λ _. octets-part recordLen (recordStart p) book o)

@@ -32,7 +32,7 @@ use Rattle.controller.specs.declared.State.{State}
 use Rattle.controller.specs.declared.Handled.{Handled}
 use Rattle.controller.specs.State.{all, outputLen, freshOf, soundOf, readyIn, planRecord, startedAt, withDecoder, withRunning}
 use Rattle.controller.specs.Handling.{Handling, unlessUnread, runCode, queryTimesCode, queryPlanCode, queryRunningCode, setAs, runAs, queryTimesAs, queryPlanAs, queryRunningAs, handlingOf}
-use Rattle.controller.specs.Replies.{refusedCall, forUs, isAnswer, Bringing, repliedOf, messageOf, broughtOf, doneOf, octetOf, lineIdleOf}
+use Rattle.controller.specs.Replies.{refusedCall, forUs, isAnswer, ResultAndBook, repliedOf, messageOf, broughtOf, doneOf, octetOf, lineIdleOf}
 use Rattle.controller.specs.Seconds.{pickedOf, movedOn, secondShown, noSecond, secondOf}
 use Rattle.controller.specs.declared.Answer.{Answer}
 use Rattle.controller.specs.declared.Shown.{Shown}
@@ -113,7 +113,7 @@ module _ (own ours requested : ℕ) (u : Running) (book : List ℕ) where
       → messageOf own ours requested u seq addr info book .result .requested ≡ latestAfter own book requested (sound (message seq addr info))
   unfolding messageOf repliedOf
   message-asks seq addr info =
-      let P : Bringing → Type 0 = λ w. w .result .requested ≡ latestAfter own book requested (sound (message seq addr info)) in
+      let P : ResultAndBook → Type 0 = λ w. w .result .requested ≡ latestAfter own book requested (sound (message seq addr info)) in
       pick-by P (forUs own addr)
       (λ f. pick-by P (isAnswer (codeIn info)) (λ a. rw (f, ne-eqb (codeIn info) runCode (answers a))) (λ _. rw f (handled-leaves u requested book info)))
       (λ f. rw f)

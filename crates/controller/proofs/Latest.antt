@@ -15,7 +15,7 @@ use Rattle.controller.specs.declared.Running.{Running}
 use Rattle.controller.specs.declared.State.{State}
 use Rattle.controller.specs.State.{all, freshOf, soundOf}
 use Rattle.controller.specs.Seconds.{movedOn, pickedOf, noSecond}
-use Rattle.controller.specs.Demand3.{Event, octet, lineIdle, second, next, goesOn, run, Heard, hearsOctet, hears, hearsOn, LatestKept}
+use Rattle.controller.specs.Demand3.{HostCall, octet, lineIdle, second, next, goesOn, run, Heard, hearsOctet, hears, hearsOn, LatestKept}
 use Rattle.controller.proofs.Laws.{idle-done, moved-within, moved-ends}
 use Rattle.controller.proofs.Judging.{octets-built-in, record-octets}
 use Rattle.controller.proofs.Keeping.{done-left, by-octet, octet-own, octet-running, idle-left, by-picked, second-left, by-second, sound-kept, fresh-sound}
@@ -43,7 +43,7 @@ pub record Kept (address : ℕ) (s : State) (h : Heard) : Type 0 where
   pub decoder : s .decoder ≡ h .decoder
   pub latest : s .requested ≡ h .latest
 
-kept-next : (own : ℕ) (s : State) (h : Heard) (e : Event) → Kept own s h → Kept own (next s e) (hears own h e)
+kept-next : (own : ℕ) (s : State) (h : Heard) (e : HostCall) → Kept own s h → Kept own (next s e) (hears own h e)
 unfolding noSecond
 kept-next own s h (octet b l book out o) k =
     let d = done-left s (takenOf (s .decoder) b) book out in
@@ -78,11 +78,11 @@ kept-next own s h (second book o) k =
       latest = ap (λ (t : State). t .requested) e ∙ k .latest;
     }
 
-kept-on : (own : ℕ) (s : State) (h : Heard) (es : List Event) → Kept own s h → Kept own (goesOn s es) (hearsOn own h es)
+kept-on : (own : ℕ) (s : State) (h : Heard) (es : List HostCall) → Kept own s h → Kept own (goesOn s es) (hearsOn own h es)
 kept-on own s h [] k = k
 kept-on own s h (e ∷ es) k = kept-on own (next s e) (hears own h e) es (kept-next own s h e k)
 
-pub run-kept : (own : ℕ) → (own ≡ all → ⊥) → (es : List Event) → Kept own (run own es) (hearsOn own (record { decoder = freshDecoder; latest = 0 }) es)
+pub run-kept : (own : ℕ) → (own ≡ all → ⊥) → (es : List HostCall) → Kept own (run own es) (hearsOn own (record { decoder = freshDecoder; latest = 0 }) es)
 unfolding freshOf
 run-kept own n es =
     kept-on own (freshOf own) (record { decoder = freshDecoder; latest = 0 }) es

@@ -23,11 +23,11 @@ use Rattle.frame.proofs.Finding.{finds}
 use Rattle.message.specs.declared.Message as message
 use Rattle.message.specs.declared.layout.Field.{Field}
 use Rattle.message.specs.Fields.{twoOf}
-use Rattle.message.specs.Layouts.{layouts, layoutAt, numberOf, rowsAt, rowsOf}
+use Rattle.message.specs.Layouts.{layouts, layoutAt, numberOf, rowsAt, layoutRows}
 use Rattle.message.specs.Values.{sizeOf, placed}
 use Rattle.message.specs.Names.{planAt}
 use Rattle.message.specs.Reader.{codeIn, bodyIn, readOf}
-use Rattle.message.specs.Writer.{numberIn, kOf, writable, infoAs, infoOf}
+use Rattle.message.specs.Writer.{numberIn, kOfMessage, writable, infoAs, infoOf}
 use Rattle.message.proofs.Layouts.{rows-most}
 use Rattle.message.proofs.Values.{width-most}
 use Rattle.message.proofs.Writing.{info-len, writable-most}
@@ -40,7 +40,7 @@ use Rattle.plan.proofs.Reportable.{report-times-writable, report-plan-writable,
 use Rattle.controller.specs.declared.Running.{Running}
 use Rattle.controller.specs.declared.Handled.{Handled}
 use Rattle.controller.specs.State.{outputLen, planRecord, readyIn}
-use Rattle.controller.specs.Handling.{Handling, accepted, reads, sets, runCode, queryTimesCode, queryPlanCode, queryRunningCode, carriedOutReply, refusedReply, refusedAs, setAs, unlessUnread, runAs, queryTimesAs, queryPlanAs, queryRunningAs, handlingOf}
+use Rattle.controller.specs.Handling.{Handling, accepted, reads, setHandled, runCode, queryTimesCode, queryPlanCode, queryRunningCode, carriedOutReply, refusedReply, refusedWith, setAs, unlessUnread, runAs, queryTimesAs, queryPlanAs, queryRunningAs, handlingOf}
 use Rattle.controller.specs.Replies.{sent, repliesOf, CanFind}
 
 -- What the decoder finds
@@ -59,12 +59,12 @@ can-find =
 -- The replies 0F 80 and 0F 81
 
 pub carried-out-info : (code : ℕ) → infoOf (carriedOutReply code) ≡ 0x0F ∷ 0x80 ∷ highOf code ∷ lowOf code ∷ []
-unfolding carriedOutReply numberOf firstOf layouts layoutAt rowsAt rowsOf placed infoAs
+unfolding carriedOutReply numberOf firstOf layouts layoutAt rowsAt layoutRows placed infoAs
 carried-out-info code = refl
 
 pub refused-info : (code n parameter : ℕ) → n < 256 → parameter < 256
     → infoOf (refusedReply code n parameter) ≡ 0x0F ∷ 0x81 ∷ highOf code ∷ lowOf code ∷ n ∷ parameter ∷ []
-unfolding refusedReply numberOf firstOf layouts layoutAt rowsAt rowsOf placed infoAs
+unfolding refusedReply numberOf firstOf layouts layoutAt rowsAt layoutRows placed infoAs
 refused-info code n parameter hn hp = rw (mod-eq-of-lt hn, mod-eq-of-lt hp)
 
 -- INFO of what is writable
@@ -76,7 +76,7 @@ size-most (f ∷ fs) = omega (arith, width-most (twoOf f), size-most fs)
 pub info-fits : (m : message.Message) → writable m ≡ true → (codeLen ≤ length (infoOf m)) × (length (infoOf m) ≤ infoMost)
 info-fits m w =
     let l = numberIn m in
-    let k = kOf m in
+    let k = kOfMessage m in
     let n = info-len (m .code) (rowsAt l k) (m .values) in
     (omega arith, omega (arith, size-most (rowsAt l k), rows-most l k (writable-most l k (m .fields) (m .values) w)))
 
@@ -104,10 +104,10 @@ by-seven P false false false false false true m n o p q r s = r
 by-seven P false false false false false false m n o p q r s = s
 
 pub handling-by : (P : Handling → Type 0) (u : Running) (requested : ℕ) (book info : List ℕ)
-    → P (sets (codeIn info) requested (setTimesOf book info)) → P (sets (codeIn info) requested (setPlanOf book info))
+    → P (setHandled (codeIn info) requested (setTimesOf book info)) → P (setHandled (codeIn info) requested (setPlanOf book info))
     → P (reads (runAs (codeIn info) requested book info) book) → P (reads (queryTimesAs (codeIn info) requested book info) book)
     → P (reads (queryPlanAs (codeIn info) requested book info) book) → P (reads (queryRunningAs (codeIn info) requested u info) book)
-    → P (reads (refusedAs (codeIn info) requested refusal.codeNotHandled 0) book) → P (handlingOf u requested book info)
+    → P (reads (refusedWith (codeIn info) requested refusal.codeNotHandled 0) book) → P (handlingOf u requested book info)
 unfolding handlingOf
 handling-by P u requested book info =
     let code = codeIn info in
@@ -115,7 +115,7 @@ handling-by P u requested book info =
 
 -- what holds of every 0F 80, of every 0F 81 and of every report that is writable holds of what is handled
 module _ (P : Handled → Type 0) (code requested : ℕ) (book info : List ℕ) (hb : length book ≡ bookLen)
-    (carried : (q : ℕ) → P (accepted q (carriedOutReply code))) (refused : (n m : ℕ) → P (refusedAs code requested n m))
+    (carried : (q : ℕ) → P (accepted q (carriedOutReply code))) (refused : (n m : ℕ) → P (refusedWith code requested n m))
     (report : (m : message.Message) → writable m ≡ true → P (accepted requested m)) where
   abbrev p : ℕ
   p = planIn (bodyIn info)
@@ -156,7 +156,7 @@ module _ (u : Running) (requested : ℕ) (book info : List ℕ) (r : standingOf 
   abbrev code : ℕ
   code = codeIn info
 
-  pub by-reply : (P : Handled → Type 0) → ((q : ℕ) → P (accepted q (carriedOutReply code))) → ((n m : ℕ) → P (refusedAs code requested n m))
+  pub by-reply : (P : Handled → Type 0) → ((q : ℕ) → P (accepted q (carriedOutReply code))) → ((n m : ℕ) → P (refusedWith code requested n m))
       → ((m : message.Message) → writable m ≡ true → P (accepted requested m)) → P (handlingOf u requested book info .handled)
   by-reply P c f w =
       handling-by (λ h. P (h .handled)) u requested book info
@@ -170,7 +170,7 @@ module _ (u : Running) (requested : ℕ) (book info : List ℕ) (r : standingOf 
 
   -- its INFO fits a frame, whatever it names
   pub reply-fits : length (infoOf (handlingOf u requested book info .handled .reply)) ≤ infoMost
-  unfolding carriedOutReply refusedReply numberOf firstOf layouts layoutAt rowsAt rowsOf infoAs
+  unfolding carriedOutReply refusedReply numberOf firstOf layouts layoutAt rowsAt layoutRows infoAs
   reply-fits = by-reply (λ h. length (infoOf (h .reply)) ≤ infoMost) (λ q. omega arith) (λ n m. omega arith) (λ m w. info-fits m w .1)
 
 -- The frames fit

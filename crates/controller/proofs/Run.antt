@@ -13,12 +13,12 @@ use lib.Seq.{drop-cons}
 use Rattle.octets.specs.Octet.{Octets}
 use Rattle.record.specs.Record.{recordLen, bookLen, ready, cycleOf, Ready}
 use Rattle.checks.specs.Standing.{standingOf, Stands}
-use Rattle.plan.specs.Reading.{startOf, recordAt}
+use Rattle.plan.specs.Reading.{recordStart, recordAt}
 use Rattle.plan.proofs.Laws.{octets-part}
 use Rattle.checks.proofs.Stands.{stands-as-it-is}
 use Rattle.lamps.specs.Rows.{rowsOf, rowAt, noRow}
 use Rattle.lamps.proofs.Cycle.{cycle-long, whole-phases}
-use Rattle.cycles.specs.Machine.{told, after, answers}
+use Rattle.cycles.specs.Machine.{rowThen, after, answers}
 use Rattle.cycles.specs.Cycles.{Whole, Cycles, HoldsCycle}
 use Rattle.cycles.specs.Cycles as cycles
 use Rattle.cycles.specs.Ways.{Way, Ways}
@@ -32,7 +32,7 @@ use Rattle.controller.specs.declared.State.{State}
 use Rattle.controller.specs.State.{all, freshOf, soundOf, readyIn}
 use Rattle.controller.specs.Replies.{octetOf, lineIdleOf}
 use Rattle.controller.specs.Seconds.{pickedOf, noSecond, secondOf}
-use Rattle.controller.specs.Demand3.{Event, octet, lineIdle, second, next, goesOn, run, Second, secondOfPlan, accepted, says, saysOn, seconds, latestRun, cycleOfPlan, Chosen, OneChoice, WholeCycles, unfinished, whole, RunsWholeCycles, HoldsWhole, AnyWindow, NoSecond, SetsNeverAlter, leftOf, crossing, CrossingCycles, CrossingHolds}
+use Rattle.controller.specs.Demand3.{HostCall, octet, lineIdle, second, next, goesOn, run, Second, secondOfPlan, secondAccepted, says, saysOn, seconds, latestRun, cycleOfPlan, Chosen, OneChoice, CyclesInRun, unfinished, whole, RunsWholeCycles, HoldsWhole, AnyWindow, NoSecond, SetsNeverAlter, leftOf, crossing, CrossingCycles, CrossingHolds}
 use Rattle.plan.proofs.Cases.{built-in-stands}
 use Rattle.controller.proofs.Laws.{picked-ready, picked-stays, moved-within, moved-ends, second-8, second-done}
 use Rattle.controller.proofs.Judging.{RunningParts, sound-parts}
@@ -47,7 +47,7 @@ same-plan e = (ap (λ (w : Running). w .plan) e, ap (λ (w : Running). w .copy) 
 -- a plan's record in the book, and whether it is ready
 module _ (book : List ℕ) (p : ℕ) (o : Octets book) where
   stands : Stands (recordAt book p)
-  stands = stands-as-it-is (recordAt book p) (octets-part recordLen (startOf p) book o)
+  stands = stands-as-it-is (recordAt book p) (octets-part recordLen (recordStart p) book o)
 
   zero-ready : p ≡ 0 → readyIn book p ≡ true
   zero-ready z = rw (eq-eqb p 0 z, built-in-stands)
@@ -118,50 +118,50 @@ module _ (u : Running) (r : Ready (u .copy)) (l : u .position < cycleOf (u .copy
 
 -- A run in two parts
 
-goes-on-append : (s : State) (xs ys : List Event) → goesOn s (xs ++ ys) ≡ goesOn (goesOn s xs) ys
+goes-on-append : (s : State) (xs ys : List HostCall) → goesOn s (xs ++ ys) ≡ goesOn (goesOn s xs) ys
 goes-on-append s [] ys = refl
 goes-on-append s (e ∷ xs) ys = goes-on-append (next s e) xs ys
 
 module _ (own : ℕ) where
-  run-next : (past : List Event) (e : Event) → run own (past ++ (e ∷ [])) ≡ next (run own past) e
+  run-next : (past : List HostCall) (e : HostCall) → run own (past ++ (e ∷ [])) ≡ next (run own past) e
   run-next past e = goes-on-append (freshOf own) past (e ∷ [])
 
-  after-is : (past es : List Event) → after (crossing own) past es ≡ past ++ es
+  after-is : (past es : List HostCall) → after (crossing own) past es ≡ past ++ es
   after-is past [] = sym (append-nil past)
   after-is past (e ∷ es) = after-is (past ++ (e ∷ [])) es ∙ append-assoc past (e ∷ []) es
 
-  answers-are : (past es : List Event) → answers (crossing own) past es ≡ seconds own past es
+  answers-are : (past es : List HostCall) → answers (crossing own) past es ≡ seconds own past es
   answers-are past [] = refl
-  answers-are past (e ∷ es) = ap (told (says (run own past) e)) (answers-are (past ++ (e ∷ [])) es ∙ ap (λ (s : State). saysOn s es) (run-next past e))
+  answers-are past (e ∷ es) = ap (rowThen (says (run own past) e)) (answers-are (past ++ (e ∷ [])) es ∙ ap (λ (s : State). saysOn s es) (run-next past e))
 
 -- The ways that an event goes
 
 module _ (own : ℕ) (n : own ≡ all → ⊥) where
-  abbrev running : List Event → Running
+  abbrev running : List HostCall → Running
   running past = run own past .running
 
-  sound : (past : List Event) → soundOf (run own past) ≡ true
+  sound : (past : List HostCall) → soundOf (run own past) ≡ true
   sound past = run-kept own n past .sound
 
-  parts : (past : List Event) → RunningParts (running past)
+  parts : (past : List HostCall) → RunningParts (running past)
   parts past = sound-parts (run own past) (sound past) .running
 
-  stands-ready : (past : List Event) → Ready (running past .copy)
+  stands-ready : (past : List HostCall) → Ready (running past .copy)
   stands-ready past = stands-as-it-is (running past .copy) (run-kept own n past .octets) .readyFrom (parts past .checks)
 
   -- nothing is answered and the running plan is as it was; the cycle goes on; or its last second is answered and a plan picked
-  data Turn (past : List Event) : Event → Type 0 where
-    still : {e : Event} → says (run own past) e ≡ none → running (past ++ (e ∷ [])) ≡ running past → Turn past e
-    onward : {e : Event} → says (run own past) e ≡ some (shownBy (running past)) → running past .position + 1 < cycleOf (running past .copy)
+  data Turn (past : List HostCall) : HostCall → Type 0 where
+    still : {e : HostCall} → says (run own past) e ≡ none → running (past ++ (e ∷ [])) ≡ running past → Turn past e
+    onward : {e : HostCall} → says (run own past) e ≡ some (shownBy (running past)) → running past .position + 1 < cycleOf (running past .copy)
         → running (past ++ (e ∷ [])) ≡ record { plan = running past .plan; position = running past .position + 1; copy = running past .copy } → Turn past e
     over : (book : List ℕ) (o : Octets book) → says (run own past) (second book o) ≡ some (shownBy (running past))
         → cycleOf (running past .copy) ≤ running past .position + 1
         → running (past ++ (second book o ∷ [])) ≡ pickedOf (running past) (latestRun own past) book → Turn past (second book o)
 
-  ran : (past : List Event) (e : Event) {u : Running} → next (run own past) e .running ≡ u → running (past ++ (e ∷ [])) ≡ u
+  ran : (past : List HostCall) (e : HostCall) {u : Running} → next (run own past) e .running ≡ u → running (past ++ (e ∷ [])) ≡ u
   ran past e h = ap (λ (s : State). s .running) (run-next own past e) ∙ h
 
-  turn : (past : List Event) (e : Event) → Turn past e
+  turn : (past : List HostCall) (e : HostCall) → Turn past e
   unfolding noSecond
   turn past (octet b l book out o) = still refl (ran past (octet b l book out o) (octet-running (run own past) book out b))
   turn past lineIdle = still refl (ran past lineIdle (ap (λ (s : State). s .running) (idle-left (run own past))))
@@ -172,21 +172,21 @@ module _ (own : ℕ) (n : own ≡ all → ⊥) where
         | yes d ↦ let a = second-done s book (sound past) d in
             let m = ran past (second book o) (ap (λ (w : Shown). w .state .running) a) in
             elim (decLt (u .position + 1) (cycleOf (u .copy))) [
-              | yes l ↦ onward (ap accepted a) l (m ∙ moved-within u (s .requested) book l)
-              | no l ↦ over book o (ap accepted a) (omega arith)
+              | yes l ↦ onward (ap secondAccepted a) l (m ∙ moved-within u (s .requested) book l)
+              | no l ↦ over book o (ap secondAccepted a) (omega arith)
                   (m ∙ moved-ends u (s .requested) book (omega arith) ∙ ap (λ (p : ℕ). pickedOf u p book) (run-kept own n past .latest))
             ]
         | no d ↦ let a = second-8 s book (sound past) d in
-            still (ap accepted a) (ran past (second book o) (ap (λ (w : Shown). w .state .running) a))
+            still (ap secondAccepted a) (ran past (second book o) (ap (λ (w : Shown). w .state .running) a))
       ]
 
-  left-next : (past : List Event) {v : Running} → running past .position + 1 < cycleOf (running past .copy)
+  left-next : (past : List HostCall) {v : Running} → running past .position + 1 < cycleOf (running past .copy)
       → v ≡ record { plan = running past .plan; position = running past .position + 1; copy = running past .copy }
       → leftOf (running past) ≡ shownBy (running past) ∷ leftOf v
   unfolding leftOf
   left-next past l m = let u = running past in left-cons u (stands-ready past) (omega arith) ∙ ap (λ (v : Running). shownBy u ∷ leftOf v) (sym m)
 
-  way-of : (past : List Event) (e : Event) → Turn past e → Way (crossing own) past e
+  way-of : (past : List HostCall) (e : HostCall) → Turn past e → Way (crossing own) past e
   way-of past e (still q m) = way.quiet q (ap leftOf m) (λ z. ap (λ (u : Running). u .position) (sym m) ∙ z)
   way-of past e (onward q l m) =
       way.goesOn (shownBy (running past)) q (left-next past l m) (λ z. omega (arith, ap (λ (v : Running). v .position) m))
@@ -204,16 +204,16 @@ module _ (own : ℕ) (n : own ≡ all → ⊥) where
         more = λ past _. left-some (running past) (stands-ready past) (parts past .position);
       }
 
-  most : (past : List Event) → length (leftOf (running past)) ≤ 900
+  most : (past : List HostCall) → length (leftOf (running past)) ≤ 900
   most past = left-most (running past) (stands-ready past) (parts past .position)
 
   -- until its last second is answered a cycle is of one plan and one record
-  abbrev OnePlan : List Event → List Event → Type 0
+  abbrev OnePlan : List HostCall → List HostCall → Type 0
   OnePlan past es =
       length (answers (crossing own) past es) < length (leftOf (running past))
       → (running (after (crossing own) past es) .plan ≡ running past .plan) × (running (after (crossing own) past es) .copy ≡ running past .copy)
 
-  one-plan-on : (past : List Event) (e : Event) (es : List Event) → Turn past e → OnePlan (past ++ (e ∷ [])) es → OnePlan past (e ∷ es)
+  one-plan-on : (past : List HostCall) (e : HostCall) (es : List HostCall) → Turn past e → OnePlan (past ++ (e ∷ [])) es → OnePlan past (e ∷ es)
   one-plan-on past e es (still q m) i h =
       let j = i (rw m (rw q at h)) in
       let k = same-plan m in
@@ -225,17 +225,17 @@ module _ (own : ℕ) (n : own ≡ all → ⊥) where
   one-plan-on past e es (over book o q l m) i h =
       absurd (omega (arith, ap length (left-last (running past) (stands-ready past) (parts past .position) l), rw q at h))
 
-  one-plan : (past es : List Event) → OnePlan past es
+  one-plan : (past es : List HostCall) → OnePlan past es
   one-plan past [] = λ _. (refl, refl)
   one-plan past (e ∷ es) = one-plan-on past e es (turn past e) (one-plan (past ++ (e ∷ [])) es)
 
   -- Whole cycles
 
-  abbrev Due : List Event → List Event → Type 0
-  Due past es = WholeCycles own (running past .plan) (running past .copy) past es
+  abbrev Due : List HostCall → List HostCall → Type 0
+  Due past es = CyclesInRun own (running past .plan) (running past .copy) past es
 
   -- a whole cycle put before
-  put-before : (past before : List Event) (e : Event) (es : List Event) → Whole (crossing own) past before e → running past .position ≡ 0
+  put-before : (past before : List HostCall) (e : HostCall) (es : List HostCall) → Whole (crossing own) past before e → running past .position ≡ 0
       → Due (after (crossing own) past before ++ (e ∷ [])) es → Due past (before ++ (e ∷ es))
   put-before past before (octet b l book out o) es w z c = absurd (w .picks)
   put-before past before lineIdle es w z c = absurd (w .picks)
@@ -245,17 +245,17 @@ module _ (own : ℕ) (n : own ≡ all → ⊥) where
       let u = running past in
       let v = running later in
       let q = after-is own past before in
-      let r = ap (λ (a : List Event). a ++ (second book o ∷ [])) q ∙ append-assoc past before (second book o ∷ []) in
+      let r = ap (λ (a : List HostCall). a ++ (second book o ∷ [])) q ∙ append-assoc past before (second book o ∷ []) in
       let m = one-plan past before (omega (arith, ap length (w .rows), length-append (answers (crossing own) past before) (w .last ∷ []))) in
       let rule : Chosen (latestRun own now) book (u .plan) (u .copy) (v .plan) (v .copy) = rw (m .0, m .1) at (w .picks) in
       whole before book o (w .last) (v .plan) (v .copy)
-      (subst (λ (a : List Event). says (run own a) (second book o) ≡ some (w .last)) q (w .answered))
+      (subst (λ (a : List HostCall). says (run own a) (second book o) ≡ some (w .last)) q (w .answered))
       (ap (λ (xs : List Second). xs ++ (w .last ∷ [])) (sym (answers-are own past before)) ∙ w .rows ∙ left-starts u z)
-      (subst (λ (a : List Event). Chosen (latestRun own a) book (u .plan) (u .copy) (v .plan) (v .copy)) q rule)
+      (subst (λ (a : List HostCall). Chosen (latestRun own a) book (u .plan) (u .copy) (v .plan) (v .copy)) q rule)
       (stands-ready later)
-      (subst (λ (a : List Event). WholeCycles own (v .plan) (v .copy) a es) r c)
+      (subst (λ (a : List HostCall). CyclesInRun own (v .plan) (v .copy) a es) r c)
 
-  cycles-due : {past es : List Event} → Cycles (crossing own) past es → running past .position ≡ 0 → Due past es
+  cycles-due : {past es : List HostCall} → Cycles (crossing own) past es → running past .position ≡ 0 → Due past es
   cycles-due {past} {es} (cycles.unfinished u) z =
       unfinished (u .rest) (ap (λ (xs : List Second). xs ++ u .rest) (sym (answers-are own past es)) ∙ u .rows ∙ left-starts (running past) z) (u .more)
   cycles-due {past} (cycles.whole {before} {second = e} {es} w c) z = put-before past before e es w z (cycles-due c (w .start))
@@ -274,7 +274,7 @@ pub crossing-holds : CrossingHolds
 unfolding freshOf
 crossing-holds own n es = window 900 (crossing own) (λ past. Unit) (ways own n) (λ past _. most own n past) [] tt refl es
 
-holds-whole : (own : ℕ) → (own ≡ all → ⊥) → (es : List Event) (n : ℕ) → HoldsCycle (crossing own) [] es n 900 1799 → HoldsWhole own es n
+holds-whole : (own : ℕ) → (own ≡ all → ⊥) → (es : List HostCall) (n : ℕ) → HoldsCycle (crossing own) [] es n 900 1799 → HoldsWhole own es n
 holds-whole own a es n h =
     let M = crossing own in
     let start = after M [] (h .before) in
@@ -309,15 +309,15 @@ any-window own a es n l = holds-whole own a es n (crossing-holds own a es n (rw 
 
 -- what a second shows comes of the running plan alone
 same-shown : (s t : State) (book : List ℕ) → soundOf s ≡ true → soundOf t ≡ true → s .running ≡ t .running
-    → accepted (secondOf s book) ≡ accepted (secondOf t book)
+    → secondAccepted (secondOf s book) ≡ secondAccepted (secondOf t book)
 unfolding noSecond
 same-shown s t book h g e =
     elim (ℕ-discrete (length book) bookLen) [
-      | yes n ↦ ap accepted (second-done s book h n) ∙ ap (λ (u : Running). some (shownBy u)) e ∙ sym (ap accepted (second-done t book g n))
-      | no n ↦ ap accepted (second-8 s book h n) ∙ sym (ap accepted (second-8 t book g n))
+      | yes n ↦ ap secondAccepted (second-done s book h n) ∙ ap (λ (u : Running). some (shownBy u)) e ∙ sym (ap secondAccepted (second-done t book g n))
+      | no n ↦ ap secondAccepted (second-8 s book h n) ∙ sym (ap secondAccepted (second-8 t book g n))
     ]
 
-between-running : (s : State) (es : List Event) → NoSecond es → goesOn s es .running ≡ s .running
+between-running : (s : State) (es : List HostCall) → NoSecond es → goesOn s es .running ≡ s .running
 between-running s [] q = refl
 between-running s (octet b l book out o ∷ es) q = between-running (octetOf s book out b .answer .state) es q ∙ octet-running s book out b
 between-running s (lineIdle ∷ es) q = between-running (lineIdleOf s .state) es q ∙ ap (λ (t : State). t .running) (idle-left s)

@@ -25,15 +25,15 @@ use Rattle.message.specs.declared.Read.{Read}
 use Rattle.message.specs.Names.{planAt}
 use Rattle.message.specs.Reader as reader
 use Rattle.message.specs.Reader.{codeIn, bodyIn, readOf}
-use Rattle.message.specs.Writer.{infoOf, writeOf}
-use Rattle.message.specs.Promises.{Judged, short, body, unknown, wrongLength, outOfRange, accepted, WriteJudged, fieldWrong, outputShort, written}
+use Rattle.message.specs.Writer.{infoOf, writeMessage}
+use Rattle.message.specs.Promises.{Judged, short, body, unknown, wrongLength, outOfRange, accepted, MessageWriteJudged, fieldWrong, outputShort, written}
 use Rattle.message.proofs.Layouts.{rows-most}
 use Rattle.message.proofs.ReadSo.{read-so}
 use Rattle.message.proofs.WrittenSo.{written-so}
 use Rattle.message.proofs.RoundTrips.{writing-undoes-reading}
 use Rattle.record.specs.Record.{recordLen, bookLen, plansMost, empty, ready, kOf, timesEnd, greensAt, readyEnd, Ready}
 use Rattle.checks.specs.Standing.{standingOf, Stands}
-use Rattle.plan.specs.Reading.{startOf, recordAt}
+use Rattle.plan.specs.Reading.{recordStart, recordAt}
 use Rattle.plan.specs.Setting.{Setting, setTimesCode, setPlanCode, planIn, countIn, setTimesOf, setPlanOf}
 use Rattle.plan.specs.Reporting.{reportPlanCode, reportRunningCode, timesInfo, planInfo, reportTimesOf, reportPlanOf}
 use Rattle.plan.specs.Promises.{HasTimes, Disagrees14, Disagrees15, TimesJudged, PlanJudged}
@@ -52,7 +52,7 @@ use Rattle.controller.specs.declared.Event.the-variants as event
 use Rattle.controller.specs.State.{all, outputLen, planRecord, soundOf}
 use Rattle.controller.specs.Handling as handling
 use Rattle.controller.specs.Handling.{Handling, carriedOutCode, refusedCode, runCode, queryTimesCode, queryPlanCode, queryRunningCode, carriedOutReply, setAs, runAs, queryTimesAs, queryPlanAs, queryRunningAs, handlingOf}
-use Rattle.controller.specs.Replies.{Call, sent, errOf, naks, forUs, isAnswer, repliesOf, Bringing, repliedOf, handledOf, messageOf, broughtOf, madeOf, octetOf}
+use Rattle.controller.specs.Replies.{Call, sent, errOf, naks, forUs, isAnswer, repliesOf, ResultAndBook, repliedOf, handledOf, messageOf, broughtOf, madeOf, octetOf}
 use Rattle.controller.specs.Demand1.{InDone}
 use Rattle.controller.specs.Demand2.{Wrote, Err, IsAnswer, RepliesSo, Replies, Answers, CarriedOut, Reported, Refused, HandledSo, Handles, SecondsShow}
 use Rattle.controller.proofs.Judging.{RunningParts, sound-parts, record-octets}
@@ -76,7 +76,7 @@ message-event : (own ours requested : ℕ) (u : Running) (seq addr : ℕ) (info 
     → messageOf own ours requested u seq addr info book .result .event ≡ event.Nothing
 unfolding messageOf repliedOf
 message-event own ours requested u seq addr info book =
-    let P : Bringing → Type 0 = λ w. w .result .event ≡ event.Nothing in
+    let P : ResultAndBook → Type 0 = λ w. w .result .event ≡ event.Nothing in
     pick-by P (forUs own addr) (λ _. pick-by P (isAnswer (codeIn info)) (λ _. refl) (λ _. refl)) (λ _. refl)
 
 -- 0F 80 and 0F 81
@@ -209,7 +209,7 @@ seconds-show s book h hb o =
 -- what is read with nothing refused is written as the octets that it was read from
 info-read : (info : List ℕ) → Octets info → readOf info .refusal ≡ refusal.none → infoOf (readOf info .message) ≡ info
 info-read info o e =
-    back (written-so (readOf info .message) 0 room (writeOf (readOf info .message) 0 room) .1 refl)
+    back (written-so (readOf info .message) 0 room (writeMessage (readOf info .message) 0 room) .1 refl)
     (writing-undoes-reading info 0 room o e (omega (arith, length-replicate {A = ℕ} (length info) 0)))
   where
     room : List ℕ
@@ -218,7 +218,7 @@ info-read info o e =
     due : Writing
     due = record { answer = record { refusal = refusal.none; count = length info }; out = take 0 room ++ (info ++ drop (0 + length info) room) }
 
-    back : {w : Writing} → WriteJudged (readOf info .message) 0 room w → w ≡ due → infoOf (readOf info .message) ≡ info
+    back : {w : Writing} → MessageWriteJudged (readOf info .message) 0 room w → w ≡ due → infoOf (readOf info .message) ≡ info
     back (fieldWrong n) e = absurd (omega (arith, ap (λ (w : Writing). w .answer .refusal) e))
     back (outputShort w h) e = absurd (omega (arith, ap (λ (w : Writing). w .answer .refusal) e))
     back (written w h) e =
@@ -251,7 +251,7 @@ read-octet info = by (read-in-done info)
     by (inr h) = omega (arith, h .1)
 
 read-field : (info : List ℕ) → readOf info .field < 256
-unfolding reader.refusedAs
+unfolding reader.notRead
 read-field info = by (read-so info (readOf info) .1 refl)
   where
     by : {r : Read} → Judged info r → r .field < 256
@@ -294,7 +294,7 @@ module _ (book info : List ℕ) (hb : length book ≡ bookLen) where
       j = plan-stored-exactly-when book info hb o c
 
       oo : Octets old
-      oo = octets-part recordLen (startOf (planIn (bodyIn info))) book o
+      oo = octets-part recordLen (recordStart (planIn (bodyIn info))) book o
 
       by : Dec (readOf info .refusal ≡ refusal.none) → Dec (standingOf old ≡ empty) → (setPlanOf book info .answer .refusal < 256) × (setPlanOf book info .answer .field < 256)
       by (no r) d = (omega (arith, j .unread r .0, read-octet info), omega (arith, j .unread r .1, read-field info))
@@ -317,21 +317,21 @@ module _ (u : Running) (requested : ℕ) (book info : List ℕ) where
   carried q l = handling.reads (handling.accepted q (carriedOutReply c)) l
 
   abbrev declined : ℕ → ℕ → List ℕ → Handling
-  declined n m l = handling.reads (handling.refusedAs c requested n m) l
+  declined n m l = handling.reads (handling.refusedWith c requested n m) l
 
-  set-carried : (w : Setting) → w .answer .refusal ≡ refusal.none → handling.sets c requested w ≡ carried requested (w .book)
+  set-carried : (w : Setting) → w .answer .refusal ≡ refusal.none → handling.setHandled c requested w ≡ carried requested (w .book)
   unfolding setAs
   set-carried w e = rw (eq-eqb (w .answer .refusal) refusal.none e)
 
-  set-declined : (w : Setting) → (w .answer .refusal ≡ refusal.none → ⊥) → handling.sets c requested w ≡ declined (w .answer .refusal) (w .answer .field) (w .book)
+  set-declined : (w : Setting) → (w .answer .refusal ≡ refusal.none → ⊥) → handling.setHandled c requested w ≡ declined (w .answer .refusal) (w .answer .field) (w .book)
   unfolding setAs
   set-declined w n = rw (ne-eqb (w .answer .refusal) refusal.none n)
 
-  at-times : c ≡ setTimesCode → H ≡ handling.sets c requested (setTimesOf book info)
+  at-times : c ≡ setTimesCode → H ≡ handling.setHandled c requested (setTimesOf book info)
   unfolding handlingOf
   at-times e = rw e
 
-  at-plan : c ≡ setPlanCode → H ≡ handling.sets c requested (setPlanOf book info)
+  at-plan : c ≡ setPlanCode → H ≡ handling.setHandled c requested (setPlanOf book info)
   unfolding handlingOf
   at-plan e = rw e
 

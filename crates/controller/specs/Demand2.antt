@@ -22,7 +22,7 @@ use Rattle.plan.specs.Promises.{HasTimes, Fit14, Fit15}
 use Rattle.plan.specs.Reading.{recordAt}
 use Rattle.plan.specs.Setting.{setTimesCode, setPlanCode, setTimesOf, setPlanOf, planIn}
 use Rattle.plan.specs.Reporting.{reportPlanCode, reportRunningCode, timesInfo, planInfo}
-use Rattle.lamps.specs.Rows.{secondsOf, stepsOf}
+use Rattle.lamps.specs.Rows.{secondsOf, stepsOfPlan}
 use Rattle.lamps.specs.Promises.{Due}
 use Rattle.controller.specs.declared.State.{State}
 use Rattle.controller.specs.declared.Event.{Event}
@@ -187,7 +187,7 @@ Handles =
 -- of the running copy; nothing but the running plan moves
 pub record ShowsStep (s : State) (book : List ℕ) : Type 0 where
   pub plan : secondOf s book .plan ≡ s .running .plan
-  pub row : Due (secondsOf (s .running .copy)) (orderOf (s .running .copy)) (stepsOf (s .running .copy)) (s .running .position) (secondOf s book .row)
+  pub row : Due (secondsOf (s .running .copy)) (orderOf (s .running .copy)) (stepsOfPlan (s .running .copy)) (s .running .position) (secondOf s book .row)
   pub rest : secondOf s book .state ≡ withRunning s (secondOf s book .state .running)
 
 abbrev pub SecondsShow : Type 0

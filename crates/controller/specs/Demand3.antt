@@ -1,7 +1,7 @@
--- Demand 3: "From a fresh start, states handed back as given, octets and seconds mixed at will: the accepted seconds are whole
+-- Demand 3: "From a fresh start, states handed back as given, octets and seconds mixed at will: the secondAccepted seconds are whole
 -- cycles one after another, the last perhaps unfinished. The first is plan 0; each later one is chosen as the last second of the
 -- cycle before it is answered: the plan of the latest run message carried out (0 if none) if it is plan 0 or ready in the book,
--- else the plan just run. So any 1,799 accepted seconds in a row hold a whole cycle, every phase with its full green, yellow and
+-- else the plan just run. So any 1,799 secondAccepted seconds in a row hold a whole cycle, every phase with its full green, yellow and
 -- all-red."
 use Prim.Native.Nat.{ℕ, _+_, _≤_, _<_}
 use mathlib.Core.Path.{_≡_}
@@ -26,7 +26,7 @@ use Rattle.plan.specs.Setting.{planIn}
 use Rattle.lamps.specs.declared.Row.{Row}
 use Rattle.lamps.specs.Rows.{rowsOf}
 use Rattle.lamps.specs.Promises.{PhaseWhole}
-use Rattle.cycles.specs.Machine.{Machine, told, answers}
+use Rattle.cycles.specs.Machine.{Machine, rowThen, answers}
 use Rattle.cycles.specs.Cycles.{Cycles, HoldsCycle}
 use Rattle.controller.specs.declared.Running.{Running}
 use Rattle.controller.specs.declared.State.{State}
@@ -39,25 +39,25 @@ use Rattle.controller.specs.Seconds.{secondOf}
 -- A run
 
 -- a call with all that is lent to it, of octets
-pub data Event : Type 0 where
-  octet : (b : ℕ) → b < 256 → (book out : List ℕ) → Octets book → Event
-  lineIdle : Event
-  second : (book : List ℕ) → Octets book → Event
+pub data HostCall : Type 0 where
+  octet : (b : ℕ) → b < 256 → (book out : List ℕ) → Octets book → HostCall
+  lineIdle : HostCall
+  second : (book : List ℕ) → Octets book → HostCall
 
 -- "states handed back as given": the state after the events, from a fresh start
-abbrev pub next : State → Event → State
+abbrev pub next : State → HostCall → State
 next s (octet b _ book out _) = octetOf s book out b .answer .state
 next s lineIdle = lineIdleOf s .state
 next s (second book _) = secondOf s book .state
 
-abbrev pub goesOn : State → List Event → State
+abbrev pub goesOn : State → List HostCall → State
 goesOn s [] = s
 goesOn s (e ∷ es) = goesOn (next s e) es
 
-abbrev pub run : ℕ → List Event → State
+abbrev pub run : ℕ → List HostCall → State
 run own es = goesOn (freshOf own) es
 
--- what an accepted second shows: the plan, the step, the seconds left and both words
+-- what an secondAccepted second shows: the plan, the step, the seconds left and both words
 pub record Second : Type 0 where
   pub plan : ℕ
   pub row : Row
@@ -65,23 +65,23 @@ pub record Second : Type 0 where
 abbrev pub secondOfPlan : ℕ → Row → Second
 secondOfPlan p r = record { plan = p; row = r }
 
-abbrev pub accepted : Shown → Option Second
-accepted a = pick (eqb (a .refusal) refusal.none) (some (secondOfPlan (a .plan) (a .row))) none
+abbrev pub secondAccepted : Shown → Option Second
+secondAccepted a = pick (eqb (a .refusal) refusal.none) (some (secondOfPlan (a .plan) (a .row))) none
 
-abbrev pub says : State → Event → Option Second
+abbrev pub says : State → HostCall → Option Second
 says s (octet b _ book out _) = none
 says s lineIdle = none
-says s (second book _) = accepted (secondOf s book)
+says s (second book _) = secondAccepted (secondOf s book)
 
-abbrev pub saysOn : State → List Event → List Second
+abbrev pub saysOn : State → List HostCall → List Second
 saysOn s [] = []
-saysOn s (e ∷ es) = told (says s e) (saysOn (next s e) es)
+saysOn s (e ∷ es) = rowThen (says s e) (saysOn (next s e) es)
 
--- the accepted seconds of the events es, after those of `past`
-abbrev pub seconds : ℕ → List Event → List Event → List Second
+-- the secondAccepted seconds of the events es, after those of `past`
+abbrev pub seconds : ℕ → List HostCall → List HostCall → List Second
 seconds own past es = saysOn (run own past) es
 
--- "The latest run message carried out", told from the octets handed in
+-- "The latest run message carried out", rowThen from the octets handed in
 
 -- what was heard so far: where the decoder is, and the plan of the latest run message carried out, 0 if none
 pub record Heard : Type 0 where
@@ -107,22 +107,22 @@ abbrev pub hearsOctet : ℕ → List ℕ → Heard → Taken → Heard
 hearsOctet own book h t = record { decoder = t .decoder; latest = latestAfter own book (h .latest) (outcomeOf t) }
 
 -- an octet is taken where book and output are long enough; a line-idle call returns the decoder to idle
-abbrev pub hears : ℕ → Heard → Event → Heard
+abbrev pub hears : ℕ → Heard → HostCall → Heard
 hears own h (octet b _ book out _) =
     pick (both (eqb (length book) bookLen) (leb outputLen (length out))) (hearsOctet own book h (takenOf (h .decoder) b)) h
 hears own h lineIdle = record { decoder = idledOf (h .decoder) .decoder; latest = h .latest }
 hears own h (second book _) = h
 
-abbrev pub hearsOn : ℕ → Heard → List Event → Heard
+abbrev pub hearsOn : ℕ → Heard → List HostCall → Heard
 hearsOn own h [] = h
 hearsOn own h (e ∷ es) = hearsOn own (hears own h e) es
 
-abbrev pub latestRun : ℕ → List Event → ℕ
+abbrev pub latestRun : ℕ → List HostCall → ℕ
 latestRun own es = hearsOn own (record { decoder = freshDecoder; latest = 0 }) es .latest
 
 -- it is what the state keeps
 abbrev pub LatestKept : Type 0
-LatestKept = (own : ℕ) → (own ≡ all → ⊥) → (es : List Event) → run own es .requested ≡ latestRun own es
+LatestKept = (own : ℕ) → (own ≡ all → ⊥) → (es : List HostCall) → run own es .requested ≡ latestRun own es
 
 -- Whole cycles
 
@@ -143,29 +143,29 @@ OneChoice =
     (latest : ℕ) (book : List ℕ) (p : ℕ) (rec : List ℕ) (p₁ p₂ : ℕ) (rec₁ rec₂ : List ℕ) → Octets book
     → Chosen latest book p rec p₁ rec₁ → Chosen latest book p rec p₂ rec₂ → (p₁ ≡ p₂) × (rec₁ ≡ rec₂)
 
--- After the events `past` a cycle of plan p with record rec is due; the accepted seconds of the events es are that cycle and
+-- After the events `past` a cycle of plan p with record rec is due; the secondAccepted seconds of the events es are that cycle and
 -- others after it, one by one.
-pub data WholeCycles (own : ℕ) : ℕ → List ℕ → List Event → List Event → Type 0 where
+pub data CyclesInRun (own : ℕ) : ℕ → List ℕ → List HostCall → List HostCall → Type 0 where
   -- "the last perhaps unfinished": rows of it are still to come
-  unfinished : {p : ℕ} {rec : List ℕ} {past es : List Event} (rest : List Second) → seconds own past es ++ rest ≡ cycleOfPlan p rec → 0 < length rest
-      → WholeCycles own p rec past es
+  unfinished : {p : ℕ} {rec : List ℕ} {past es : List HostCall} (rest : List Second) → seconds own past es ++ rest ≡ cycleOfPlan p rec → 0 < length rest
+      → CyclesInRun own p rec past es
   -- `before` and then the second call with `book` answer the whole cycle, that call its last second; it chooses the next
-  whole : {p : ℕ} {rec : List ℕ} {past es : List Event} (before : List Event) (book : List ℕ) (o : Octets book) (last : Second) (p′ : ℕ) (rec′ : List ℕ)
+  whole : {p : ℕ} {rec : List ℕ} {past es : List HostCall} (before : List HostCall) (book : List ℕ) (o : Octets book) (last : Second) (p′ : ℕ) (rec′ : List ℕ)
       → says (run own (past ++ before)) (second book o) ≡ some last
       → seconds own past before ++ (last ∷ []) ≡ cycleOfPlan p rec
       → Chosen (latestRun own (past ++ before)) book p rec p′ rec′ → Ready rec′
-      → WholeCycles own p′ rec′ (past ++ (before ++ (second book o ∷ []))) es
-      → WholeCycles own p rec past (before ++ (second book o ∷ es))
+      → CyclesInRun own p′ rec′ (past ++ (before ++ (second book o ∷ []))) es
+      → CyclesInRun own p rec past (before ++ (second book o ∷ es))
 
 -- "The first is plan 0"
 abbrev pub RunsWholeCycles : Type 0
-RunsWholeCycles = (own : ℕ) → (own ≡ all → ⊥) → (es : List Event) → WholeCycles own 0 builtIn [] es
+RunsWholeCycles = (own : ℕ) → (own ≡ all → ⊥) → (es : List HostCall) → CyclesInRun own 0 builtIn [] es
 
 -- Any 1,799
 
--- of the accepted seconds of the run, counted from 0, those from number n on hold a whole cycle, which begins within the first
+-- of the secondAccepted seconds of the run, counted from 0, those from number n on hold a whole cycle, which begins within the first
 -- 900 and ends within the first 1,799; each of its phases stands whole in it
-pub record HoldsWhole (own : ℕ) (es : List Event) (n : ℕ) : Type 0 where
+pub record HoldsWhole (own : ℕ) (es : List HostCall) (n : ℕ) : Type 0 where
   pub plan : ℕ
   pub rec : List ℕ
   pub before : List Second
@@ -178,12 +178,12 @@ pub record HoldsWhole (own : ℕ) (es : List Event) (n : ℕ) : Type 0 where
   pub phases : (i : ℕ) → i < kOf rec → PhaseWhole rec i
 
 abbrev pub AnyWindow : Type 0
-AnyWindow = (own : ℕ) → (own ≡ all → ⊥) → (es : List Event) (n : ℕ) → n + 1799 ≤ length (seconds own [] es) → HoldsWhole own es n
+AnyWindow = (own : ℕ) → (own ≡ all → ⊥) → (es : List HostCall) (n : ℕ) → n + 1799 ≤ length (seconds own [] es) → HoldsWhole own es n
 
 -- Sets
 
 -- no second among the events
-abbrev pub NoSecond : List Event → Type 0
+abbrev pub NoSecond : List HostCall → Type 0
 NoSecond [] = Unit
 NoSecond (octet b _ book out _ ∷ es) = NoSecond es
 NoSecond (lineIdle ∷ es) = NoSecond es
@@ -193,7 +193,7 @@ NoSecond (second book _ ∷ es) = ⊥
 -- without them
 abbrev pub SetsNeverAlter : Type 0
 SetsNeverAlter =
-    (own : ℕ) → (own ≡ all → ⊥) → (past between : List Event) (book : List ℕ) (o : Octets book) → NoSecond between
+    (own : ℕ) → (own ≡ all → ⊥) → (past between : List HostCall) (book : List ℕ) (o : Octets book) → NoSecond between
     → says (run own (past ++ between)) (second book o) ≡ says (run own past) (second book o)
 
 -- The controller as a machine of the crate `cycles`, from whose theorems whole cycles and the window follow
@@ -203,7 +203,7 @@ unfoldable pub leftOf : Running → List Second
 leftOf u = map (secondOfPlan (u .plan)) (drop (u .position) (rowsOf (u .copy)))
 
 -- the rule at the call that answers a cycle's last second, after the events `past`; `later` are these and that call
-abbrev pub Picks : ℕ → List Event → Event → List Event → Type 0
+abbrev pub Picks : ℕ → List HostCall → HostCall → List HostCall → Type 0
 Picks own past (octet b _ book out _) later = ⊥
 Picks own past lineIdle later = ⊥
 Picks own past (second book _) later =
@@ -214,8 +214,8 @@ Picks own past (second book _) later =
 -- its states are the events so far; no event alters a cycle under way
 abbrev pub crossing : ℕ → Machine
 crossing own = record {
-  State = List Event;
-  Event = Event;
+  State = List HostCall;
+  Event = HostCall;
   Row = Second;
   next = λ past e. past ++ (e ∷ []);
   says = λ past e. says (run own past) e;
@@ -226,9 +226,9 @@ crossing own = record {
 }
 
 abbrev pub CrossingCycles : Type 0
-CrossingCycles = (own : ℕ) → (own ≡ all → ⊥) → (es : List Event) → Cycles (crossing own) [] es
+CrossingCycles = (own : ℕ) → (own ≡ all → ⊥) → (es : List HostCall) → Cycles (crossing own) [] es
 
 abbrev pub CrossingHolds : Type 0
 CrossingHolds =
-    (own : ℕ) → (own ≡ all → ⊥) → (es : List Event) (n : ℕ) → n + 1799 ≤ length (answers (crossing own) [] es)
+    (own : ℕ) → (own ≡ all → ⊥) → (es : List HostCall) (n : ℕ) → n + 1799 ≤ length (answers (crossing own) [] es)
     → HoldsCycle (crossing own) [] es n 900 1799

@@ -54,20 +54,20 @@ pub record Handling : Type 0 where
 abbrev pub accepted : ℕ → Message → Handled
 accepted requested reply = record { refusal = refusal.none; parameter = 0; requested = requested; reply = reply }
 
-abbrev pub refusedAs : ℕ → ℕ → ℕ → ℕ → Handled
-refusedAs code requested n parameter = record { refusal = n; parameter = parameter; requested = requested; reply = refusedReply code n parameter }
+abbrev pub refusedWith : ℕ → ℕ → ℕ → ℕ → Handled
+refusedWith code requested n parameter = record { refusal = n; parameter = parameter; requested = requested; reply = refusedReply code n parameter }
 
 -- 5F 14 and 5F 15: what the set answered
 unfoldable pub setAs : ℕ → ℕ → Answered → Handled
 setAs code requested a =
     pick (eqb (a .refusal) refusal.none) (accepted requested (carriedOutReply code))
-    (refusedAs code requested (a .refusal) (a .field))
+    (refusedWith code requested (a .refusal) (a .field))
 
 -- what the message reader refuses is refused so; else h
 abbrev pub unlessUnread : ℕ → ℕ → List ℕ → Handled → Handled
 unlessUnread code requested info h =
     pick (eqb (readOf info .refusal) refusal.none) h
-    (refusedAs code requested (readOf info .refusal) (readOf info .field))
+    (refusedWith code requested (readOf info .refusal) (readOf info .field))
 
 -- "5F 18 notes the requested plan. Refused 13: .. 5F 18 of one not ready."
 unfoldable pub runAs : ℕ → ℕ → List ℕ → List ℕ → Handled
@@ -75,14 +75,14 @@ runAs code requested book info =
     let p = planIn (bodyIn info) in
     unlessUnread code requested info
     (pick (readyIn book p) (accepted p (carriedOutReply code))
-    (refusedAs code requested refusal.notReady planAt))
+    (refusedWith code requested refusal.notReady planAt))
 
 -- "Refused 13: 5F 44 of an empty plan"
 unfoldable pub queryTimesAs : ℕ → ℕ → List ℕ → List ℕ → Handled
 queryTimesAs code requested book info =
     let p = planIn (bodyIn info) in
     unlessUnread code requested info
-    (pick (eqb (standingOf (planRecord book p)) empty) (refusedAs code requested refusal.notReady planAt)
+    (pick (eqb (standingOf (planRecord book p)) empty) (refusedWith code requested refusal.notReady planAt)
     (accepted requested (reportTimesOf (planRecord book p) p)))
 
 -- "5F 45 .. of one not ready"
@@ -91,7 +91,7 @@ queryPlanAs code requested book info =
     let p = planIn (bodyIn info) in
     unlessUnread code requested info
     (pick (readyIn book p) (accepted requested (reportPlanOf (planRecord book p) p reportPlanCode))
-    (refusedAs code requested refusal.notReady planAt))
+    (refusedWith code requested refusal.notReady planAt))
 
 -- "5F 48 query running plan": the copy that runs
 unfoldable pub queryRunningAs : ℕ → ℕ → Running → List ℕ → Handled
@@ -103,17 +103,17 @@ queryRunningAs code requested u info =
 abbrev pub reads : Handled → List ℕ → Handling
 reads h book = record { handled = h; book = book }
 
-abbrev pub sets : ℕ → ℕ → Setting → Handling
-sets code requested w = record { handled = setAs code requested (w .answer); book = w .book }
+abbrev pub setHandled : ℕ → ℕ → Setting → Handling
+setHandled code requested w = record { handled = setAs code requested (w .answer); book = w .book }
 
 -- by the code; "code not handled" is refusal 10
 unfoldable pub handlingOf : Running → ℕ → List ℕ → List ℕ → Handling
 handlingOf u requested book info =
     let code = codeIn info in
-    pick (eqb code setTimesCode) (sets code requested (setTimesOf book info))
-    (pick (eqb code setPlanCode) (sets code requested (setPlanOf book info))
+    pick (eqb code setTimesCode) (setHandled code requested (setTimesOf book info))
+    (pick (eqb code setPlanCode) (setHandled code requested (setPlanOf book info))
     (pick (eqb code runCode) (reads (runAs code requested book info) book)
     (pick (eqb code queryTimesCode) (reads (queryTimesAs code requested book info) book)
     (pick (eqb code queryPlanCode) (reads (queryPlanAs code requested book info) book)
     (pick (eqb code queryRunningCode) (reads (queryRunningAs code requested u info) book)
-    (reads (refusedAs code requested refusal.codeNotHandled 0) book))))))
+    (reads (refusedWith code requested refusal.codeNotHandled 0) book))))))

@@ -39,7 +39,7 @@ pub record Call : Type 0 where
   pub out : List ℕ
 
 -- the call answered r and left b in the book and o in the output, as it should
-pub record Did (w : Call) (r : Answer) (b o : List ℕ) : Type 0 where
+pub record CallLeaves (w : Call) (r : Answer) (b o : List ℕ) : Type 0 where
   pub answer : r ≡ w .answer
   pub book : b ≡ w .book
   pub out : o ≡ w .out
@@ -109,7 +109,7 @@ pub record Result : Type 0 where
   pub requested : ℕ
 
 -- and the book then
-pub record Bringing : Type 0 where
+pub record ResultAndBook : Type 0 where
   pub result : Result
   pub book : List ℕ
 
@@ -117,7 +117,7 @@ pub record Bringing : Type 0 where
 abbrev pub unchanged : ℕ → Event → List Frame → ℕ → ℕ → Result
 unchanged n e fs ours requested = record { refusal = n; parameter = 0; event = e; frames = fs; seq = ours; requested = requested }
 
-abbrev pub leaves : List ℕ → Result → Bringing
+abbrev pub leaves : List ℕ → Result → ResultAndBook
 leaves book w = record { result = w; book = book }
 
 -- "Our SEQ .. grows by one per message frame written, and after 255 comes 0."
@@ -133,11 +133,11 @@ repliedOf own ours seq addr h =
     }
 
 -- a message carried out and replied to
-abbrev pub handledOf : ℕ → ℕ → ℕ → ℕ → Handling → Bringing
+abbrev pub handledOf : ℕ → ℕ → ℕ → ℕ → Handling → ResultAndBook
 handledOf own ours seq addr h = record { result = repliedOf own ours seq addr (h .handled); book = h .book }
 
 -- a sound message frame; "A sound frame for another address is dropped silently."
-unfoldable pub messageOf : ℕ → ℕ → ℕ → Running → ℕ → ℕ → List ℕ → List ℕ → Bringing
+unfoldable pub messageOf : ℕ → ℕ → ℕ → Running → ℕ → ℕ → List ℕ → List ℕ → ResultAndBook
 messageOf own ours requested u seq addr info book =
     pick (forUs own addr)
     (pick (isAnswer (codeIn info)) (leaves book (unchanged refusal.none event.Nothing (acks own seq addr) ours requested))
@@ -149,7 +149,7 @@ abbrev pub eventFor : ℕ → ℕ → Event → Event
 eventFor own addr e = pick (eqb addr own) e event.Nothing
 
 -- by what the octet ended, at this own address, with our SEQ, the requested and the running plan so
-abbrev pub broughtOf : Outcome → ℕ → ℕ → ℕ → Running → List ℕ → Bringing
+abbrev pub broughtOf : Outcome → ℕ → ℕ → ℕ → Running → List ℕ → ResultAndBook
 broughtOf nothing own ours requested u book = leaves book (unchanged refusal.none event.Nothing [] ours requested)
 broughtOf (refused n k seq addr) own ours requested u book = leaves book (unchanged n event.Nothing (naks k own n seq addr) ours requested)
 broughtOf (sound (message seq addr info)) own ours requested u book = messageOf own ours requested u seq addr info book
@@ -157,7 +157,7 @@ broughtOf (sound (ack seq addr)) own ours requested u book = leaves book (unchan
 broughtOf (sound (nak seq addr err)) own ours requested u book = leaves book (unchanged refusal.none (eventFor own addr (event.Nak seq err)) [] ours requested)
 
 -- the call that the state s makes of it, whose decoder is then d
-abbrev pub madeOf : State → Decoder → Bringing → List ℕ → Call
+abbrev pub madeOf : State → Decoder → ResultAndBook → List ℕ → Call
 madeOf s d w out =
     let r = w .result in
     let t : State = record { own = s .own; seq = r .seq; requested = r .requested; decoder = d; running = s .running } in

@@ -4,7 +4,7 @@ use mathlib.Core.Path.{_≡_}
 use mathlib.Core.List.{List, [], _∷_, _++_}
 use lib.ListN.{take, replicate}
 use Rattle.diagram.specs.Table.{steadyOf, flashingOf}
-use Rattle.record.specs.Record.{bookLen}
+use Rattle.record.specs.Record.{emptyBook}
 use Rattle.plan.specs.BuiltIn.{builtIn}
 use Rattle.lamps.specs.Rows.{secondsOf}
 use Rattle.controller.specs.declared.State.{State}
@@ -12,18 +12,15 @@ use Rattle.controller.specs.State.{outputLen, freshOf}
 use Rattle.controller.specs.Replies.{Call, octetOf}
 
 -- octets go in one by one, each with an empty book and an output of zeros; what comes out of each call, one after another
-abbrev pub emptyBook : List ℕ
-emptyBook = replicate bookLen 0
-
 abbrev pub emptyOut : List ℕ
 emptyOut = replicate outputLen 0
 
-abbrev pub written : Call → List ℕ
-written w = take (w .answer .count) (w .out)
+abbrev pub writtenBy : Call → List ℕ
+writtenBy w = take (w .answer .count) (w .out)
 
 unfoldable pub cameOut : State → List ℕ → List ℕ
 cameOut s [] = []
-cameOut s (b ∷ bs) = let w = octetOf s emptyBook emptyOut b in written w ++ cameOut (w .answer .state) bs
+cameOut s (b ∷ bs) = let w = octetOf s emptyBook emptyOut b in writtenBy w ++ cameOut (w .answer .state) bs
 
 unfoldable pub stateAfter : State → List ℕ → State
 stateAfter s [] = s

@@ -1,7 +1,7 @@
 -- Whole cycles one after another: by induction on the run, an event put before it.
 use mathlib.Core.Path.{_≡_, refl, ap, _∙_}
 use mathlib.Core.List.{List, [], _∷_}
-use Rattle.cycles.specs.Machine.{Machine, told, after}
+use Rattle.cycles.specs.Machine.{Machine, rowThen, after}
 use Rattle.cycles.specs.Cycles.{Altered, Cycles, unfinished, whole, altered}
 use Rattle.cycles.specs.Ways.{Way, quiet, goesOn, ends, alters, Ways}
 use Rattle.cycles.specs.Promises.{WholeCycles}
@@ -11,19 +11,19 @@ module _ (M : Machine) where
   open Machine M using (State, Event, next, says, left)
 
   -- an event that does not end the cycle: what it answers comes off what is left
-  put-before : {s : State} (e : Event) {es : List Event} → told (says s e) (left (next s e)) ≡ left s
+  put-before : {s : State} (e : Event) {es : List Event} → rowThen (says s e) (left (next s e)) ≡ left s
       → ((xs : List Event) (x : Event) → Altered M (next s e) xs x → Altered M s (e ∷ xs) x)
       → Cycles M (next s e) es → Cycles M s (e ∷ es)
   put-before {s} e {es} l a (unfinished u) =
       unfinished {s = s} {es = e ∷ es} (record {
         rest = u .rest;
-        rows = told-append (says s e) _ _ ∙ ap (told (says s e)) (u .rows) ∙ l;
+        rows = told-append (says s e) _ _ ∙ ap (rowThen (says s e)) (u .rows) ∙ l;
         more = u .more;
       })
   put-before {s} e l a (whole {before} w c) =
       whole {s = s} {before = e ∷ before} (record {
         last = w .last;
-        rows = told-append (says s e) _ _ ∙ ap (told (says s e)) (w .rows) ∙ l;
+        rows = told-append (says s e) _ _ ∙ ap (rowThen (says s e)) (w .rows) ∙ l;
         answered = w .answered;
         picks = w .picks;
         start = w .start;

@@ -22,9 +22,9 @@ pub record Machine : Type 1 where
   pub Alters : State → Event → State → Type 0
 
 -- the row that was answered, if one was, before the others
-abbrev pub told {ℓ} : {Row : Type ℓ} → Option Row → List Row → List Row
-told none rows = rows
-told (some row) rows = row ∷ rows
+abbrev pub rowThen {ℓ} : {Row : Type ℓ} → Option Row → List Row → List Row
+rowThen none rows = rows
+rowThen (some row) rows = row ∷ rows
 
 module _ (M : Machine) where
   open Machine M using (State, Event, Row, next, says)
@@ -37,4 +37,4 @@ module _ (M : Machine) where
   -- the rows of the accepted seconds of a run
   abbrev pub answers : State → List Event → List Row
   answers s [] = []
-  answers s (e ∷ es) = told (says s e) (answers (next s e) es)
+  answers s (e ∷ es) = rowThen (says s e) (answers (next s e) es)

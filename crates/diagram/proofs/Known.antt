@@ -11,8 +11,8 @@ use lib.ListN.{length, getD}
 use Rattle.octets.specs.Choice.{pick, both}
 use Rattle.octets.proofs.Every.{every, every-at, below, below-at, all, all-at}
 use Rattle.diagram.specs.declared.Diagram.{Diagram}
-use Rattle.diagram.specs.Row.{Row, diagram}
-use Rattle.diagram.specs.Rows.{rows, directory}
+use Rattle.diagram.specs.Row.{LampRow, diagram}
+use Rattle.diagram.specs.Rows.{lampRows, directory}
 use Rattle.diagram.specs.Table.{unknown, find, diagramOf, phasesOf, stepsIn, stepsOf, rowNumber}
 use Rattle.diagram.specs.Known.{noLine, lineAt, Known, phasesDue, SupportedCodes, phasesMost, EachFound, KnownPhases, EachUsed, AllDark, OutsideDark, Absent, UnknownDark}
 use Rattle.diagram.proofs.Laws.{number-none, number-past, row-past}
@@ -22,8 +22,8 @@ use Rattle.diagram.proofs.Laws.{number-none, number-past, row-past}
 pub outside-dark : OutsideDark
 outside-dark order step out = by (ℕ-discrete step 0) (decLt (stepsOf order) step)
   where
-    dark : length rows ≤ rowNumber order step → AllDark order step
-    dark h = record { steady = ap (λ (r : Row). r .steady) (row-past order step h); flashing = ap (λ (r : Row). r .flashing) (row-past order step h) }
+    dark : length lampRows ≤ rowNumber order step → AllDark order step
+    dark h = record { steady = ap (λ (r : LampRow). r .steady) (row-past order step h); flashing = ap (λ (r : LampRow). r .flashing) (row-past order step h) }
 
     by : Dec (step ≡ 0) → Dec (stepsOf order < step) → AllDark order step
     by (yes z) l = dark (omega (arith, number-none order step z))
@@ -124,9 +124,9 @@ phases-least order k =
 pub known-phases : KnownPhases
 known-phases order k = (phases-least order k, phases-most order)
 
--- The rows of the table
+-- The lampRows of the table
 
--- the line whose rows hold this one, and the row's step there
+-- the line whose lampRows hold this one, and the row's step there
 owner : List Diagram → ℕ → Diagram
 owner [] n = noLine
 owner (d ∷ ds) n = pick (both (leb (d .first) n) (ltb n (d .first + stepsIn d))) d (owner ds n)
@@ -140,14 +140,14 @@ stepOf n = n - owner directory n .first + 1
 rowTests : ℕ → List Bool
 rowTests n = leb 1 (stepOf n) ∷ leb (stepOf n) (stepsOf (orderOf n)) ∷ eqb (rowNumber (orderOf n) (stepOf n)) n ∷ []
 
-rows-pass : below (λ n. all (rowTests n)) (length rows) ≡ true
-unfolding below every all owner orderOf stepOf rowTests directory diagramOf find rowNumber rows
+rows-pass : below (λ n. all (rowTests n)) (length lampRows) ≡ true
+unfolding below every all owner orderOf stepOf rowTests directory diagramOf find rowNumber lampRows
 rows-pass = refl
 
 pub each-used : EachUsed
 unfolding rowTests
 each-used n h =
-    let t : (k : ℕ) → getD (rowTests n) k true ≡ true = λ k. all-at (rowTests n) k (below-at (λ m. all (rowTests m)) (length rows) n rows-pass h) in
+    let t : (k : ℕ) → getD (rowTests n) k true ≡ true = λ k. all-at (rowTests n) k (below-at (λ m. all (rowTests m)) (length lampRows) n rows-pass h) in
     record {
       order = orderOf n;
       step = stepOf n;

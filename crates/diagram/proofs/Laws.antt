@@ -7,9 +7,9 @@ use native.Mathlib.Omega.{arith}
 use borrow.Author.Tests.{eq-eqb, ne-eqb, le-leb, lt-leb}
 use lib.ListN.{length, getD, List·getD-map, List·getD-eq-default}
 use Rattle.diagram.specs.declared.Diagram.{Diagram}
-use Rattle.diagram.specs.Row.{Row, diagram}
-use Rattle.diagram.specs.Rows.{rows, directory}
-use Rattle.diagram.specs.Table.{darkRow, find, diagramOf, phasesOf, approachesOf, stepsOf, rowNumber, rowOf}
+use Rattle.diagram.specs.Row.{LampRow, diagram}
+use Rattle.diagram.specs.Rows.{lampRows, directory}
+use Rattle.diagram.specs.Table.{darkRow, find, diagramOf, phasesOf, approachesOf, stepsOf, rowNumber, lampRowOf}
 
 -- The columns, by which the code holds the directory
 
@@ -57,26 +57,26 @@ module _ (order step : ℕ) where
   unfolding rowNumber
   number-there h l = rw (le-leb 1 step h, le-leb step (stepsOf order) l)
 
-  pub number-none : step ≡ 0 → rowNumber order step ≡ length rows
+  pub number-none : step ≡ 0 → rowNumber order step ≡ length lampRows
   unfolding rowNumber
   number-none z = rw z
 
-  pub number-past : stepsOf order < step → rowNumber order step ≡ length rows
+  pub number-past : stepsOf order < step → rowNumber order step ≡ length lampRows
   unfolding rowNumber
   number-past h = rw (le-leb 1 step (omega arith), lt-leb step (stepsOf order) h)
 
-  pub row-there : 1 ≤ step → step ≤ stepsOf order → rowOf order step ≡ getD rows (diagramOf order .first + (step - 1)) darkRow
-  unfolding rowOf
+  pub row-there : 1 ≤ step → step ≤ stepsOf order → lampRowOf order step ≡ getD lampRows (diagramOf order .first + (step - 1)) darkRow
+  unfolding lampRowOf
   row-there h l = rw (number-there h l)
 
-  pub row-past : length rows ≤ rowNumber order step → rowOf order step ≡ darkRow
-  unfolding rowOf
-  row-past h = List·getD-eq-default rows darkRow {n = rowNumber order step} h
+  pub row-past : length lampRows ≤ rowNumber order step → lampRowOf order step ≡ darkRow
+  unfolding lampRowOf
+  row-past h = List·getD-eq-default lampRows darkRow {n = rowNumber order step} h
 
   -- a word of the row, by the column that the code holds
-  pub word-there : (f : Row → ℕ) {n : ℕ} → n ≡ rowNumber order step → getD (map f rows) n (f darkRow) ≡ f (rowOf order step)
-  unfolding rowOf
-  word-there f {n} e = List·getD-map f rows n darkRow ∙ ap (λ (m : ℕ). f (getD rows m darkRow)) e
+  pub word-there : (f : LampRow → ℕ) {n : ℕ} → n ≡ rowNumber order step → getD (map f lampRows) n (f darkRow) ≡ f (lampRowOf order step)
+  unfolding lampRowOf
+  word-there f {n} e = List·getD-map f lampRows n darkRow ∙ ap (λ (m : ℕ). f (getD lampRows m darkRow)) e
 
-  pub word-past : (f : Row → ℕ) {n : ℕ} → n ≡ rowNumber order step → length rows ≤ n → f darkRow ≡ f (rowOf order step)
+  pub word-past : (f : LampRow → ℕ) {n : ℕ} → n ≡ rowNumber order step → length lampRows ≤ n → f darkRow ≡ f (lampRowOf order step)
   word-past f e h = ap f (sym (row-past (omega (arith, e))))

@@ -1,4 +1,4 @@
--- What specs/Named.antt promises, by computed tests over each diagram's rows; the witnesses are searched for.
+-- What specs/Named.antt promises, by computed tests over each diagram's lampRows; the witnesses are searched for.
 use Prim.Native.Nat.{ℕ, zero, suc, _+_, _*_, _-_, _%_, _≤_, _<_}
 use mathlib.Core.Path.{_≡_, refl, sym, ap, subst, _∙_}
 use mathlib.Core.Bool.{Bool, true, false, not, _||_}
@@ -12,12 +12,12 @@ use Rattle.octets.specs.Choice.{pick, both}
 use Rattle.octets.proofs.Laws.{both-left, both-right, clash}
 use Rattle.octets.proofs.Every.{every, all, all-at, below, below-at}
 use Rattle.diagram.specs.declared.Diagram.{Diagram}
-use Rattle.diagram.specs.Row.{Row}
-use Rattle.diagram.specs.Rows.{rows, directory}
-use Rattle.diagram.specs.Table.{diagramOf, stepsAPhase, stepsIn, rowOf, flashingOf}
+use Rattle.diagram.specs.Row.{LampRow}
+use Rattle.diagram.specs.Rows.{lampRows, directory}
+use Rattle.diagram.specs.Table.{diagramOf, stepsAPhase, stepsIn, lampRowOf, flashingOf}
 use Rattle.diagram.specs.Known.{Step, inRange}
 use Rattle.diagram.specs.Lamps.{bit, lit, lampIn, lampsAnApproach, vehicleLamps, greenManOf, lastLamp, approachesInWord, redLit, yellowLit, greenLit, roundLit, straightLit, greenManLit}
-use Rattle.diagram.specs.Named.{placeOf, greenPlace, walkFlashPlace, redManPlace, yellowPlace, Shown, VehiclesAlike, AsNamed, StepsAsNamed, Follows, StepsFollow, EndsRed, EachServed}
+use Rattle.diagram.specs.Named.{placeOf, greenPlace, walkFlashPlace, redManPlace, yellowPlace, SomeApproach, VehiclesAlike, AsNamed, StepsAsNamed, Follows, StepsFollow, EndsRed, EachServed}
 use Rattle.diagram.proofs.Laws.{row-there}
 use Rattle.diagram.proofs.Known.{found-passes, outside-dark}
 use Rattle.diagram.proofs.Rule.{rowIn}
@@ -51,19 +51,19 @@ search-below test (suc n) = pick (test n) n (search-below test n)
 abbrev place : ℕ → ℕ
 place i = i % stepsAPhase + 1
 
-flashFits : Row → ℕ → Bool
+flashFits : LampRow → ℕ → Bool
 flashFits r j = implies (bit (r .flashing) j) (eqb ((j + 1) % lampsAnApproach) 0)
 
-quietFits : Row → ℕ → Bool
+quietFits : LampRow → ℕ → Bool
 quietFits r i = implies (not (eqb (place i) walkFlashPlace)) (eqb (r .flashing) 0)
 
-manFits : Row → ℕ → ℕ → Bool
+manFits : LampRow → ℕ → ℕ → Bool
 manFits r i a = implies (leb redManPlace (place i)) (not (greenManLit r a))
 
-yellowFits : Row → ℕ → ℕ → Bool
+yellowFits : LampRow → ℕ → ℕ → Bool
 yellowFits r i a = implies (yellowLit r a) (eqb (place i) yellowPlace)
 
-module _ (lamp : Row → ℕ → Bool) (at : ℕ) (r : Row) where
+module _ (lamp : LampRow → ℕ → Bool) (at : ℕ) (r : LampRow) where
   -- an approach that shows it
   shower : ℕ
   shower = search-below (lamp r) approachesInWord
@@ -73,17 +73,17 @@ module _ (lamp : Row → ℕ → Bool) (at : ℕ) (r : Row) where
 
 -- of a row and its next, number n
 
-abbrev alike : Row → Row → ℕ → ℕ → Bool
+abbrev alike : LampRow → LampRow → ℕ → ℕ → Bool
 alike r s a j = same (lit r (lampsAnApproach * a + (j + 1))) (lit s (lampsAnApproach * a + (j + 1)))
 
-followTests : Row → Row → ℕ → ℕ → List Bool
+followTests : LampRow → LampRow → ℕ → ℕ → List Bool
 followTests r s n a =
     implies (greenLit r a) (greenLit s a || yellowLit s a) ∷ implies (yellowLit r a) (redLit s a) ∷ implies (yellowLit s a) (greenLit r a)
     ∷ implies (inRange walkFlashPlace (place n) redManPlace) (below (alike r s a) vehicleLamps)
     ∷ implies (eqb (place n) walkFlashPlace) (same (lampIn (s .flashing) (greenManOf a)) (greenManLit r a))
     ∷ []
 
-follows : Row → Row → ℕ → ℕ → Bool
+follows : LampRow → LampRow → ℕ → ℕ → Bool
 follows r s n a = all (followTests r s n a)
 
 rowTests : Diagram → ℕ → List Bool
@@ -95,7 +95,7 @@ rowTests d i =
     ∷ shownFits greenLit greenPlace r i
     ∷ []
 
-straight : Row → ℕ → Bool
+straight : LampRow → ℕ → Bool
 straight r a = roundLit r a || straightLit r a
 
 -- the row that lets the approach go straight on
@@ -118,7 +118,7 @@ diagramTests : Diagram → List Bool
 diagramTests d = below (λ i. all (rowTests d i)) (stepsIn d) ∷ below (endsRed d) approachesInWord ∷ below (served d) approachesInWord ∷ []
 
 diagrams-pass : every (λ d. all (diagramTests d)) directory ≡ true
-unfolding every below all same search-below diagramTests rowTests flashFits quietFits manFits yellowFits shower shownFits followTests follows endsRed straight goes servedTests served lit greenLit directory rows
+unfolding every below all same search-below diagramTests rowTests flashFits quietFits manFits yellowFits shower shownFits followTests follows endsRed straight goes servedTests served lit greenLit directory lampRows
 diagrams-pass = refl
 
 diagram-passes : (order k : ℕ) → getD (diagramTests (diagramOf order)) k true ≡ true
@@ -126,7 +126,7 @@ unfolding every all diagramTests below endsRed served
 diagram-passes order k = all-at (diagramTests (diagramOf order)) k (found-passes (λ d. all (diagramTests d)) diagrams-pass (λ _. refl) order)
 
 -- the row of the step after i steps
-row-after : (order i : ℕ) → i < stepsIn (diagramOf order) → rowOf order (i + 1) ≡ rowIn (diagramOf order) i
+row-after : (order i : ℕ) → i < stepsIn (diagramOf order) → lampRowOf order (i + 1) ≡ rowIn (diagramOf order) i
 row-after order i h =
     let e : i + 1 - 1 ≡ i = omega arith in
     row-there order (i + 1) (omega arith) (omega arith) ∙ ap (rowIn (diagramOf order)) e
@@ -140,10 +140,10 @@ module _ (order step : ℕ) (s : Step order step) where
   abbrev i : ℕ
   i = step - 1
 
-  abbrev r : Row
+  abbrev r : LampRow
   r = rowIn d i
 
-  there : rowOf order step ≡ r
+  there : lampRowOf order step ≡ r
   there = row-there order step (s .first) (s .last)
 
   passes : (k : ℕ) → getD (rowTests d i) k true ≡ true
@@ -164,7 +164,7 @@ module _ (order step : ℕ) (s : Step order step) where
 
       by : Dec (m - 1 < lastLamp) → m % lampsAnApproach ≡ 0
       by (yes l) = flashing-at m t l
-      by (no g) = absurd (clash (subst (λ (w : Row). lampIn (w .flashing) m ≡ false) there (past (omega arith))) t)
+      by (no g) = absurd (clash (subst (λ (w : LampRow). lampIn (w .flashing) m ≡ false) there (past (omega arith))) t)
 
   quiet : (placeOf step ≡ walkFlashPlace → ⊥) → r .flashing ≡ 0
   unfolding rowTests quietFits
@@ -184,7 +184,7 @@ module _ (order step : ℕ) (s : Step order step) where
       let t = below-at (yellowFits r i) approachesInWord a (passes 2) h in
       eqb-true (placeOf step) yellowPlace (implied (yellowLit r a) (eqb (placeOf step) yellowPlace) t y)
 
-  shown : (lamp : Row → ℕ → Bool) (at : ℕ) → shownFits lamp at r i ≡ true → placeOf step ≡ at → Shown lamp order step
+  shown : (lamp : LampRow → ℕ → Bool) (at : ℕ) → shownFits lamp at r i ≡ true → placeOf step ≡ at → SomeApproach lamp order step
   unfolding shownFits
   shown lamp at t e =
       let a = shower lamp at r in
@@ -207,10 +207,10 @@ module _ (order step : ℕ) (s : Step order step) where
   }
 
   module _ (a : ℕ) (n : Step order (step + 1)) (h : a < approachesInWord) where
-    abbrev next : Row
+    abbrev next : LampRow
     next = rowIn d step
 
-    next-there : rowOf order (step + 1) ≡ next
+    next-there : lampRowOf order (step + 1) ≡ next
     next-there = row-after order step (omega (arith, n .last))
 
     follow : (k : ℕ) → getD (followTests r next step a) k true ≡ true

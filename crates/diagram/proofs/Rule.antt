@@ -11,8 +11,8 @@ use Rattle.octets.specs.Choice.{both}
 use Rattle.octets.proofs.Laws.{both-left, both-right, clash}
 use Rattle.octets.proofs.Every.{every, every-at, below, below-at}
 use Rattle.diagram.specs.declared.Diagram.{Diagram}
-use Rattle.diagram.specs.Row.{Row}
-use Rattle.diagram.specs.Rows.{rows, directory}
+use Rattle.diagram.specs.Row.{LampRow}
+use Rattle.diagram.specs.Rows.{lampRows, directory}
 use Rattle.diagram.specs.Table.{darkRow, diagramOf, stepsIn}
 use Rattle.diagram.specs.Lamps.{bit, lit, redLit, yellowLit, greenLit, redManLit, greenManLit, approachesInWord, Shows, Dark, LampRule}
 use Rattle.diagram.proofs.Laws.{row-there}
@@ -29,7 +29,7 @@ abbrev oneOf3 : Bool → Bool → Bool → Bool
 oneOf3 true y z = both (not y) (not z)
 oneOf3 false y z = oneOf2 y z
 
-module _ (r : Row) (a : ℕ) where
+module _ (r : LampRow) (a : ℕ) where
   abbrev lamps : List Bool
   lamps = redLit r a ∷ yellowLit r a ∷ greenLit r a ∷ redManLit r a ∷ greenManLit r a ∷ []
 
@@ -38,17 +38,17 @@ module _ (r : Row) (a : ℕ) where
   fits true = both (oneOf3 (redLit r a) (yellowLit r a) (greenLit r a)) (oneOf2 (redManLit r a) (greenManLit r a))
   fits false = every not lamps
 
-abbrev rowFits : Diagram → Row → Bool
+abbrev rowFits : Diagram → LampRow → Bool
 rowFits d r = below (λ a. fits r a (bit (d .approaches) a)) approachesInWord
 
-abbrev pub rowIn : Diagram → ℕ → Row
-rowIn d i = getD rows (d .first + i) darkRow
+abbrev pub rowIn : Diagram → ℕ → LampRow
+rowIn d i = getD lampRows (d .first + i) darkRow
 
 diagramFits : Diagram → Bool
 diagramFits d = below (λ i. rowFits d (rowIn d i)) (stepsIn d)
 
 table-fits : every diagramFits directory ≡ true
-unfolding every below diagramFits fits lit greenLit directory rows
+unfolding every below diagramFits fits lit greenLit directory lampRows
 table-fits = refl
 
 -- The law
@@ -62,7 +62,7 @@ three : {P : Type 0} (x y z : Bool) → oneOf3 x y z ≡ true → (x ≡ true �
 three true y z t f g h = f refl (not-true y (both-left (not y) (not z) t)) (not-true z (both-right (not y) (not z) t))
 three false y z t f g h = two y z t (g refl) (h refl)
 
-module _ (r : Row) (a : ℕ) where
+module _ (r : LampRow) (a : ℕ) where
   shows : fits r a true ≡ true → Shows r a
   unfolding fits
   shows t =

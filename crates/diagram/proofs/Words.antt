@@ -1,4 +1,4 @@
--- The words of the table, by one computed test over its rows; a row that is not there is dark, and passes it too.
+-- The words of the table, by one computed test over its lampRows; a row that is not there is dark, and passes it too.
 use Prim.Native.Nat.{ℕ, _-_, _^_, _≤_, _<_}
 use mathlib.Core.Path.{_≡_, refl, sym, subst}
 use mathlib.Core.Bool.{Bool, true, false, not}
@@ -14,25 +14,25 @@ use lib.ListN.{getD}
 use Rattle.octets.specs.Choice.{both}
 use Rattle.octets.proofs.Laws.{clash}
 use Rattle.octets.proofs.Every.{every, every-at, all, all-at, below, below-at}
-use Rattle.diagram.specs.Row.{Row}
-use Rattle.diagram.specs.Rows.{rows}
-use Rattle.diagram.specs.Table.{darkRow, rowNumber, rowOf, steadyOf, flashingOf}
+use Rattle.diagram.specs.Row.{LampRow}
+use Rattle.diagram.specs.Rows.{lampRows}
+use Rattle.diagram.specs.Table.{darkRow, rowNumber, lampRowOf, steadyOf, flashingOf}
 use Rattle.diagram.specs.Lamps.{bit, lampIn, lastLamp, SteadyOrFlashing, WordsFit}
 use Rattle.diagram.proofs.Laws.{word-there}
 
-abbrev notBoth : Row → ℕ → Bool
+abbrev notBoth : LampRow → ℕ → Bool
 notBoth r i = not (both (bit (r .steady) i) (bit (r .flashing) i))
 
-wordTests : Row → List Bool
+wordTests : LampRow → List Bool
 wordTests r = ltb (r .steady) (2 ^ lastLamp) ∷ ltb (r .flashing) (2 ^ lastLamp) ∷ below (notBoth r) lastLamp ∷ []
 
-rows-pass : every (λ r. all (wordTests r)) rows ≡ true
-unfolding every all below wordTests rows
+rows-pass : every (λ r. all (wordTests r)) lampRows ≡ true
+unfolding every all below wordTests lampRows
 rows-pass = refl
 
-row-passes : (order step k : ℕ) → getD (wordTests (rowOf order step)) k true ≡ true
-unfolding rowOf every all below wordTests
-row-passes order step k = all-at (wordTests (rowOf order step)) k (every-at (λ r. all (wordTests r)) rows (rowNumber order step) darkRow rows-pass (λ _. refl))
+row-passes : (order step k : ℕ) → getD (wordTests (lampRowOf order step)) k true ≡ true
+unfolding lampRowOf every all below wordTests
+row-passes order step k = all-at (wordTests (lampRowOf order step)) k (every-at (λ r. all (wordTests r)) lampRows (rowNumber order step) darkRow rows-pass (λ _. refl))
 
 pub steady-fits : (order step : ℕ) → steadyOf order step < 2 ^ lastLamp
 unfolding wordTests
@@ -43,7 +43,7 @@ unfolding wordTests
 flashing-fits order step = ltb-true (flashingOf order step) (2 ^ lastLamp) (row-passes order step 1)
 
 -- a word that the code's column has, widened to 64 bits
-pub word-widens : (order step : ℕ) (f : Row → ℕ) {n : ℕ} → f (rowOf order step) < 2 ^ lastLamp → n ≡ rowNumber order step → Fits w64 (getD (map f rows) n (f darkRow))
+pub word-widens : (order step : ℕ) (f : LampRow → ℕ) {n : ℕ} → f (lampRowOf order step) < 2 ^ lastLamp → n ≡ rowNumber order step → Fits w64 (getD (map f lampRows) n (f darkRow))
 word-widens order step f h e = subst (λ (v : ℕ). Fits w64 v) (sym (word-there order step f e)) (omega (arith, h))
 
 pub words-fit : WordsFit
@@ -63,6 +63,6 @@ steady-or-flashing order step m t = by (decLt (m - 1) lastLamp)
   where
     by : Dec (m - 1 < lastLamp) → lampIn (flashingOf order step) m ≡ false
     by (yes l) =
-        let s = below-at (notBoth (rowOf order step)) lastLamp (m - 1) (row-passes order step 2) l in
+        let s = below-at (notBoth (lampRowOf order step)) lastLamp (m - 1) (row-passes order step 2) l in
         apart (lampIn (steadyOf order step) m) (lampIn (flashingOf order step) m) s t
     by (no g) = bit-past (flashingOf order step) lastLamp (m - 1) (flashing-fits order step) (omega arith)

@@ -7,7 +7,7 @@ use lib.ListN.{length, getD}
 use Rattle.octets.specs.Choice.{pick, both}
 use Rattle.diagram.specs.declared.Diagram.{Diagram}
 use Rattle.diagram.specs.Row.{diagram}
-use Rattle.diagram.specs.Rows.{rows, directory}
+use Rattle.diagram.specs.Rows.{lampRows, directory}
 use Rattle.diagram.specs.Table.{diagramOf, phasesOf, approachesOf, stepsOf, rowNumber, steadyOf, flashingOf}
 
 abbrev pub noLine : Diagram
@@ -64,7 +64,7 @@ pub record Used (number : ℕ) : Type 0 where
 
 -- No row is idle: what is promised at each step of each order is promised over the whole table.
 abbrev pub EachUsed : Type 0
-EachUsed = (number : ℕ) → number < length rows → Used number
+EachUsed = (number : ℕ) → number < length lampRows → Used number
 
 -- neither a steady nor a flashing lamp
 pub record AllDark (order step : ℕ) : Type 0 where

@@ -4,8 +4,8 @@ use mathlib.Core.Path.{_≡_}
 use mathlib.Core.Bool.{Bool, true, false, _||_}
 use mathlib.Core.Logic.{_⊎_}
 use lib.Dec.{eqb}
-use Rattle.diagram.specs.Row.{Row}
-use Rattle.diagram.specs.Table.{approachesOf, rowOf, steadyOf, flashingOf}
+use Rattle.diagram.specs.Row.{LampRow}
+use Rattle.diagram.specs.Table.{approachesOf, lampRowOf, steadyOf, flashingOf}
 use Rattle.diagram.specs.Known.{Step}
 
 -- Lamps
@@ -18,7 +18,7 @@ abbrev pub lampIn : ℕ → ℕ → Bool
 lampIn word m = bit word (m - 1)
 
 -- a lamp is lit where it is steady or flashing
-unfoldable pub lit : Row → ℕ → Bool
+unfoldable pub lit : LampRow → ℕ → Bool
 lit r m = lampIn (r .steady) m || lampIn (r .flashing) m
 
 -- "Per approach A to D the lamps are red, yellow, left, round, straight, right green, red man, green man: 1 to 8 for A, 9 to 16 for B, on to 32."
@@ -33,69 +33,69 @@ lampsAnApproach = 8
 abbrev pub vehicleLamps : ℕ
 vehicleLamps = 6
 
-abbrev pub redLit : Row → ℕ → Bool
+abbrev pub redLit : LampRow → ℕ → Bool
 redLit r a = lit r (lampsAnApproach * a + 1)
 
-abbrev pub yellowLit : Row → ℕ → Bool
+abbrev pub yellowLit : LampRow → ℕ → Bool
 yellowLit r a = lit r (lampsAnApproach * a + 2)
 
-abbrev pub leftLit : Row → ℕ → Bool
+abbrev pub leftLit : LampRow → ℕ → Bool
 leftLit r a = lit r (lampsAnApproach * a + 3)
 
-abbrev pub roundLit : Row → ℕ → Bool
+abbrev pub roundLit : LampRow → ℕ → Bool
 roundLit r a = lit r (lampsAnApproach * a + 4)
 
-abbrev pub straightLit : Row → ℕ → Bool
+abbrev pub straightLit : LampRow → ℕ → Bool
 straightLit r a = lit r (lampsAnApproach * a + 5)
 
-abbrev pub rightLit : Row → ℕ → Bool
+abbrev pub rightLit : LampRow → ℕ → Bool
 rightLit r a = lit r (lampsAnApproach * a + 6)
 
-abbrev pub redManLit : Row → ℕ → Bool
+abbrev pub redManLit : LampRow → ℕ → Bool
 redManLit r a = lit r (lampsAnApproach * a + 7)
 
 abbrev pub greenManOf : ℕ → ℕ
 greenManOf a = lampsAnApproach * a + 8
 
-abbrev pub greenManLit : Row → ℕ → Bool
+abbrev pub greenManLit : LampRow → ℕ → Bool
 greenManLit r a = lit r (greenManOf a)
 
 -- any of the four greens
-unfoldable pub greenLit : Row → ℕ → Bool
+unfoldable pub greenLit : LampRow → ℕ → Bool
 greenLit r a = leftLit r a || (roundLit r a || (straightLit r a || rightLit r a))
 
 -- The lamp rule
 
-pub record RedAlone (r : Row) (a : ℕ) : Type 0 where
+pub record RedAlone (r : LampRow) (a : ℕ) : Type 0 where
   pub red : redLit r a ≡ true
   pub yellow : yellowLit r a ≡ false
   pub green : greenLit r a ≡ false
 
-pub record YellowAlone (r : Row) (a : ℕ) : Type 0 where
+pub record YellowAlone (r : LampRow) (a : ℕ) : Type 0 where
   pub red : redLit r a ≡ false
   pub yellow : yellowLit r a ≡ true
   pub green : greenLit r a ≡ false
 
-pub record GreenAlone (r : Row) (a : ℕ) : Type 0 where
+pub record GreenAlone (r : LampRow) (a : ℕ) : Type 0 where
   pub red : redLit r a ≡ false
   pub yellow : yellowLit r a ≡ false
   pub green : greenLit r a ≡ true
 
-pub record RedManAlone (r : Row) (a : ℕ) : Type 0 where
+pub record RedManAlone (r : LampRow) (a : ℕ) : Type 0 where
   pub redMan : redManLit r a ≡ true
   pub greenMan : greenManLit r a ≡ false
 
-pub record GreenManAlone (r : Row) (a : ℕ) : Type 0 where
+pub record GreenManAlone (r : LampRow) (a : ℕ) : Type 0 where
   pub redMan : redManLit r a ≡ false
   pub greenMan : greenManLit r a ≡ true
 
 -- 02, E2: "each approach it uses shows red alone, yellow alone or green alone, and exactly one of its two men"
-pub record Shows (r : Row) (a : ℕ) : Type 0 where
+pub record Shows (r : LampRow) (a : ℕ) : Type 0 where
   pub vehicles : RedAlone r a ⊎ (YellowAlone r a ⊎ GreenAlone r a)
   pub men : RedManAlone r a ⊎ GreenManAlone r a
 
 -- 02, E2: "An approach not used is dark."
-pub record Dark (r : Row) (a : ℕ) : Type 0 where
+pub record Dark (r : LampRow) (a : ℕ) : Type 0 where
   pub red : redLit r a ≡ false
   pub yellow : yellowLit r a ≡ false
   pub green : greenLit r a ≡ false
@@ -107,8 +107,8 @@ abbrev pub uses : ℕ → ℕ → Bool
 uses order a = bit (approachesOf order) a
 
 pub record Ruled (order step a : ℕ) : Type 0 where
-  pub used : uses order a ≡ true → Shows (rowOf order step) a
-  pub unused : uses order a ≡ false → Dark (rowOf order step) a
+  pub used : uses order a ≡ true → Shows (lampRowOf order step) a
+  pub unused : uses order a ≡ false → Dark (lampRowOf order step) a
 
 -- At each step of each order, for each approach.
 abbrev pub LampRule : Type 0

@@ -3,11 +3,11 @@ use Prim.Native.Nat.{ℕ}
 use Rattle.diagram.specs.declared.Diagram.{Diagram}
 
 -- "a 64-bit steady word and a flashing word"
-pub record Row : Type 0 where
+pub record LampRow : Type 0 where
   pub steady : ℕ
   pub flashing : ℕ
 
-abbrev pub row : ℕ → ℕ → Row
+abbrev pub row : ℕ → ℕ → LampRow
 row s f = record { steady = s; flashing = f }
 
 -- a phase order, its first row (from 0), its phases, and the approaches it uses (bit 0 for A, on to bit 7 for H)

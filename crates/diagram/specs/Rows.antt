@@ -2,11 +2,11 @@
 -- lists the diagrams and every mend.
 use mathlib.Core.List.{List, [], _∷_}
 use Rattle.diagram.specs.declared.Diagram.{Diagram}
-use Rattle.diagram.specs.Row.{Row, row, diagram}
+use Rattle.diagram.specs.Row.{LampRow, row, diagram}
 
 -- each step's steady and flashing word, the diagrams one after another
-unfoldable pub rows : List Row
-rows =
+unfoldable pub lampRows : List LampRow
+lampRows =
     row 0x41418888 0  -- 00, step 1
     ∷ row 0x41410808 0x00008080  -- 00, step 2
     ∷ row 0x41414848 0  -- 00, step 3

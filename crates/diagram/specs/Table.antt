@@ -1,12 +1,12 @@
--- 01, "Lamps and seconds": the step table, and the directory that says which of its rows are a phase order's.
+-- 01, "Lamps and seconds": the step table, and the directory that says which of its lampRows are a phase order's.
 use Prim.Native.Nat.{ℕ, _+_, _*_, _-_}
 use mathlib.Core.List.{List, [], _∷_}
 use lib.Dec.{eqb, leb}
 use lib.ListN.{length, getD}
 use Rattle.octets.specs.Choice.{pick, both}
 use Rattle.diagram.specs.declared.Diagram.{Diagram}
-use Rattle.diagram.specs.Row.{Row, row, diagram}
-use Rattle.diagram.specs.Rows.{rows, directory}
+use Rattle.diagram.specs.Row.{LampRow, row, diagram}
+use Rattle.diagram.specs.Rows.{lampRows, directory}
 
 -- an order that is not there has no phases and no approaches
 abbrev pub unknown : ℕ → Diagram
@@ -40,17 +40,17 @@ stepsOf order = stepsIn (diagramOf order)
 
 -- the row of a step, from 0, the first step being 1; past the table's end where there is no such step
 unfoldable pub rowNumber : ℕ → ℕ → ℕ
-rowNumber order step = pick (both (leb 1 step) (leb step (stepsOf order))) (diagramOf order .first + (step - 1)) (length rows)
+rowNumber order step = pick (both (leb 1 step) (leb step (stepsOf order))) (diagramOf order .first + (step - 1)) (length lampRows)
 
 -- a row that is not there is dark
-abbrev pub darkRow : Row
+abbrev pub darkRow : LampRow
 darkRow = row 0 0
 
-unfoldable pub rowOf : ℕ → ℕ → Row
-rowOf order step = getD rows (rowNumber order step) darkRow
+unfoldable pub lampRowOf : ℕ → ℕ → LampRow
+lampRowOf order step = getD lampRows (rowNumber order step) darkRow
 
 abbrev pub steadyOf : ℕ → ℕ → ℕ
-steadyOf order step = rowOf order step .steady
+steadyOf order step = lampRowOf order step .steady
 
 abbrev pub flashingOf : ℕ → ℕ → ℕ
-flashingOf order step = rowOf order step .flashing
+flashingOf order step = lampRowOf order step .flashing

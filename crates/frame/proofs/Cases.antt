@@ -4,8 +4,8 @@ use Rattle.octets.specs.ExclusiveOr.{xor, exclusiveOr}
 use Rattle.frame.specs.Frame.{frontOf, bodyOf, sentOf, cksOf, twice, doubled, written}
 use Rattle.frame.specs.Decoder.{freshDecoder, possibleOf, frontIn, cksIn, stepOf, takenOf}
 use Rattle.frame.specs.Run.{outcomes}
-use Rattle.frame.specs.Cases.{read, dueRead, wrote, dueWritten, FrameCases}
+use Rattle.frame.specs.Cases.{framesRead, dueFramesRead, framesWritten, dueFramesWritten, FrameCases}
 
 pub frame-cases : FrameCases
-unfolding read dueRead wrote dueWritten outcomes written frontOf bodyOf sentOf cksOf twice doubled exclusiveOr xor freshDecoder possibleOf frontIn cksIn stepOf takenOf
+unfolding framesRead dueFramesRead framesWritten dueFramesWritten outcomes written frontOf bodyOf sentOf cksOf twice doubled exclusiveOr xor freshDecoder possibleOf frontIn cksIn stepOf takenOf
 frame-cases = (refl, refl)

@@ -72,4 +72,4 @@ module _ {P : Found → Type 0} (w : Findable P) where
   unfolding stepOf
   finds d b h =
       let q = d .head in
-      rw (taken-done d b h) (found-at (q .seq) (q .err) (q .addr) (q .len) (q .got) (d .info) b (q .place) (q .kind) h)
+      rw (taken-done d b h) (found-at (q .seq) (q .err) (q .addr) (q .len) (q .filled) (d .info) b (q .place) (q .kind) h)

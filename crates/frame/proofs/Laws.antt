@@ -9,7 +9,7 @@ use lib.Dec.{leb, ltb, eqb}
 use lib.ListN.{length, take, drop, getD, length-append}
 use Rattle.octets.specs.ExclusiveOr.{exclusiveOr}
 use Rattle.octets.specs.Choice.{both}
-use Rattle.octets.specs.Writing.{Wrote, writtenAs, refusedAs}
+use Rattle.octets.specs.Writing.{WriterLeaves, writtenAs, nothingWritten}
 use Rattle.octets.specs.declared.Written.{Written}
 use Rattle.octets.specs.Word.{lowOf, wordOf}
 use Rattle.octets.proofs.Laws.{pick-by, exclusive-or-append, both-left, both-right, clash, drop-next}
@@ -19,8 +19,8 @@ use Rattle.frame.specs.declared.decoder.Place.{Place}
 use Rattle.frame.specs.declared.decoder.Head.{Head}
 use Rattle.frame.specs.declared.decoder.Decoder.{Decoder}
 use Rattle.frame.specs.Frame.{Frame, message, ack, nak, infoLeast, infoMost, messageLen, ackLen, nakLen, lenFits, infoFits, front, frontOf, bodyOf, sentOf, cksOf, twice, doubled, written}
-use Rattle.frame.specs.Writer.{writeOf}
-use Rattle.frame.specs.Decoder.{hasInfo, infoDue, idleDrops, possibleOf, possibleAt, stepped, placed, ended, afterAa, stepOf, stepAt, cksIn, frontIn, taken, infoThen, takenAs, takenOf, idledOf, unsound, headOf, lenJudged, afterLen, refusedBy}
+use Rattle.frame.specs.Writer.{writeFrame}
+use Rattle.frame.specs.Decoder.{hasInfo, infoDue, idleDrops, possibleOf, possibleAt, stepped, headAt, ended, afterAa, stepOf, stepAt, cksIn, frontIn, taken, infoThen, takenAs, takenOf, idledOf, unsound, headOf, lenJudged, afterLen, refusedBy}
 use Rattle.frame.specs.declared.decoder.Place.the-variants.{Idle, LoneAa, Seq, AddrHigh, AddrLow, LenHigh, LenLow, Info, InfoAa, CloseAa, CloseCc, Err, Cks}
 use Rattle.frame.specs.declared.decoder.Stepped.{Stepped}
 use Rattle.frame.specs.declared.decoder.Found.{Found}
@@ -69,12 +69,12 @@ pub info-most : (n : ℕ) → both (leb infoLeast n) (leb n infoMost) ≡ true �
 info-most n h = leb-true n infoMost (both-right (leb infoLeast n) (leb n infoMost) h)
 
 module _ (f : Frame) (out : List ℕ) (at : ℕ) where
-  pub write-4 : infoFits f ≡ false → writeOf f at out ≡ refusedAs infoWrong out
-  unfolding writeOf
+  pub write-4 : infoFits f ≡ false → writeFrame f at out ≡ nothingWritten infoWrong out
+  unfolding writeFrame
   write-4 h = rw h
 
-  pub write-as : {vs o : List ℕ} {r : Written} → infoFits f ≡ true → vs ≡ written f → Wrote (writtenAs vs at out) r o → Wrote (writeOf f at out) r o
-  unfolding writeOf
+  pub write-as : {vs o : List ℕ} {r : Written} → infoFits f ≡ true → vs ≡ written f → WriterLeaves (writtenAs vs at out) r o → WriterLeaves (writeFrame f at out) r o
+  unfolding writeFrame
   write-as h e w = rw (h, ← e) w
 
 -- Decoder
@@ -87,13 +87,13 @@ info-len Message n h = (message-len n h, leb-true n 266 (both-right (leb 12 n) (
 info-len Ack n h = absurd (clash refl h)
 info-len Nak n h = absurd (clash refl h)
 
-pub possible-at : (h : Head) {p : Place} → h .place ≡ p → possibleOf h ≡ possibleAt p (h .kind) (h .addr) (h .len) (h .got)
+pub possible-at : (h : Head) {p : Place} → h .place ≡ p → possibleOf h ≡ possibleAt p (h .kind) (h .addr) (h .len) (h .filled)
 unfolding possibleOf
-possible-at h e = ap (λ (p : Place). possibleAt p (h .kind) (h .addr) (h .len) (h .got)) e
+possible-at h e = ap (λ (p : Place). possibleAt p (h .kind) (h .addr) (h .len) (h .filled)) e
 
 module _ (h : Head) (i : List ℕ) where
   pub cks-message : h .kind ≡ Message
-      → cksIn h i ≡ exclusiveOr (exclusiveOr (exclusiveOr 0 (frontIn h)) (take (h .got) i)) (0xAA ∷ 0xCC ∷ [])
+      → cksIn h i ≡ exclusiveOr (exclusiveOr (exclusiveOr 0 (frontIn h)) (take (h .filled) i)) (0xAA ∷ 0xCC ∷ [])
   unfolding cksIn
   cks-message e = rw (e, exclusive-or-append, exclusive-or-append)
 
@@ -124,17 +124,17 @@ info-room k n g h =
     omega arith
 
 module _ (h : Head) where
-  pub room-info : h .place ≡ Info → possibleOf h ≡ true → h .got < infoMost
-  room-info e q = info-room (h .kind) (h .len) (h .got) (sym (possible-at h e) ∙ q)
+  pub room-info : h .place ≡ Info → possibleOf h ≡ true → h .filled < infoMost
+  room-info e q = info-room (h .kind) (h .len) (h .filled) (sym (possible-at h e) ∙ q)
 
-  pub room-info-aa : h .place ≡ InfoAa → possibleOf h ≡ true → h .got < infoMost
-  room-info-aa e q = info-room (h .kind) (h .len) (h .got) (sym (possible-at h e) ∙ q)
+  pub room-info-aa : h .place ≡ InfoAa → possibleOf h ≡ true → h .filled < infoMost
+  room-info-aa e q = info-room (h .kind) (h .len) (h .filled) (sym (possible-at h e) ∙ q)
 
   module _ (i : List ℕ) (b : ℕ) where
     abbrev Room : Stepped → Type 0
-    Room t = t .keeps ≡ true → h .got < infoMost
+    Room t = t .keeps ≡ true → h .filled < infoMost
 
-    none : false ≡ true → h .got < infoMost
+    none : false ≡ true → h .filled < infoMost
     none q = absurd (clash refl q)
 
     aa-room : (f : Found) → Room (afterAa h b f)
@@ -144,7 +144,7 @@ module _ (h : Head) where
         (λ _. pick-by Room (eqb b 0xDD) (λ _. none)
         (λ _. pick-by Room (eqb b 0xEE) (λ _. none) (λ _. none))))
 
-    room-at : (p : Place) → possibleAt p (h .kind) (h .addr) (h .len) (h .got) ≡ true → Room (stepAt p h i b)
+    room-at : (p : Place) → possibleAt p (h .kind) (h .addr) (h .len) (h .filled) ≡ true → Room (stepAt p h i b)
     room-at Idle q = pick-by Room (eqb b 0xAA) (λ _. none) (λ _. none)
     room-at LoneAa q = aa-room Nothing
     room-at Seq q = none
@@ -152,15 +152,15 @@ module _ (h : Head) where
     room-at AddrLow q = none
     room-at LenHigh q = none
     room-at LenLow q = pick-by Room (lenFits (h .kind) (wordOf (lowOf (h .len)) b)) (λ _. none) (λ _. none)
-    room-at Info q = λ _. info-room (h .kind) (h .len) (h .got) q
-    room-at InfoAa q = λ _. info-room (h .kind) (h .len) (h .got) q
+    room-at Info q = λ _. info-room (h .kind) (h .len) (h .filled) q
+    room-at InfoAa q = λ _. info-room (h .kind) (h .len) (h .filled) q
     room-at CloseAa q = pick-by Room (eqb b 0xAA) (λ _. none) (λ _. none)
     room-at CloseCc q = pick-by Room (eqb b 0xCC) (λ _. none) (λ _. aa-room (refusedBy h closingWrong))
     room-at Err q = none
     room-at Cks q = pick-by Room (eqb (cksIn h i) b) (λ _. none) (λ _. none)
 
     -- an octet that is kept has its place in the array
-    pub keeps-room : possibleOf h ≡ true → stepAt (h .place) h i b .keeps ≡ true → h .got < infoMost
+    pub keeps-room : possibleOf h ≡ true → stepAt (h .place) h i b .keeps ≡ true → h .filled < infoMost
     unfolding possibleOf
     keeps-room q = room-at (h .place) q
 
@@ -169,7 +169,7 @@ module _ (d : Decoder) where
   unfolding idledOf
   idled-7 h = rw h
 
-  pub idled-done : possibleOf (d .head) ≡ true → idledOf d ≡ taken (placed (d .head) Idle (d .head .kind)) (d .info) Nothing
+  pub idled-done : possibleOf (d .head) ≡ true → idledOf d ≡ taken (headAt (d .head) Idle (d .head .kind)) (d .info) Nothing
   unfolding idledOf
   idled-done h = rw h
 
@@ -185,7 +185,7 @@ module _ (d : Decoder) where
     -- an octet that is dropped leaves the decoder as it is
     pub taken-dropped : idleDrops (d .head .place) b ≡ true → takenOf d b ≡ taken (d .head) (d .info) Nothing
     unfolding takenOf stepOf possibleOf
-    taken-dropped h = let q = d .head in by (q .place) (q .kind) (q .seq) (q .err) (q .addr) (q .len) (q .got) (d .info) h
+    taken-dropped h = let q = d .head in by (q .place) (q .kind) (q .seq) (q .err) (q .addr) (q .len) (q .filled) (d .info) h
       where
         by : (p : Place) (k : Kind) (s e a n g : ℕ) (i : List ℕ) → idleDrops p b ≡ true → takenOf (record { head = headOf p k s e a n g; info = i }) b ≡ taken (headOf p k s e a n g) i Nothing
         by Idle k s e a n g i h = rw (not-true (eqb b 0xAA) h)

@@ -87,7 +87,7 @@ module _ (s e a n g : ℕ) (l : List ℕ) (b : ℕ) (octet : b < 256) where
 pub step-possible : (d : Decoder) (b : ℕ) → b < 256 → possibleOf (d .head) ≡ true → possibleOf (stepOf d b .decoder .head) ≡ true
 unfolding stepOf
 step-possible d b o h =
-    let q = d .head in step-at-place (q .seq) (q .err) (q .addr) (q .len) (q .got) (d .info) b o (q .place) (q .kind) h
+    let q = d .head in step-at-place (q .seq) (q .err) (q .addr) (q .len) (q .filled) (d .info) b o (q .place) (q .kind) h
 
 pub calls-answered : CallsAnswered
 unfolding stepOf

@@ -24,8 +24,8 @@ use Rattle.frame.specs.declared.decoder.Found.the-variants as found
 use Rattle.frame.specs.declared.decoder.Taken.{Taken}
 use Rattle.frame.specs.Frame.{Frame, message, ack, nak, InOctets, ackLen, nakLen, infoLeast, kindOf, seqOf, addrOf, lenOf, messageLen, infoMost, lenFits, infoFits, opener, front, frontOf, bodyOf, sentOf, cksOf, twice, doubled, written}
 use Rattle.frame.specs.Decoder.{headOf, possibleOf, possibleAt, afterLen, afterInfo, opened, stepOf, takenOf, cksIn, frontIn, taken, takenAs}
-use Rattle.frame.specs.Run.{Outcome, nothing, refused, sound, outcomeOf, outcomes, after, AtRest}
-use Rattle.frame.specs.Promises.{ReadBack, ReadingUndoesWriting}
+use Rattle.frame.specs.Run.{Outcome, nothing, refused, sound, outcomeOf, outcomes, decoderAfter, AtRest}
+use Rattle.frame.specs.Promises.{ReadBack, ReadingFramesUndoesWriting}
 use Rattle.frame.proofs.Laws.{message-len, twice-aa, twice-other, taken-done}
 use Rattle.frame.proofs.Possible.{at, step-possible}
 
@@ -83,7 +83,7 @@ module _ (s e a n : ℕ) where
 pub word : (a : ℕ) → a < 65536 → wordOf (lowOf (highOf a)) (lowOf a) ≡ a
 word a h = omega arith
 
--- the octet after AA opens its kind
+-- the octet decoderAfter AA opens its kind
 open-run : (k : Kind) (d : Decoder) → d .head .place ≡ LoneAa → stepOf d (opener k) ≡ takenAs d (opener k) (opened (d .head) k found.Nothing)
 unfolding stepOf
 open-run Message d h = rw h
@@ -170,14 +170,14 @@ quiet-outcomes {d} ys (more {e = e} {x = x} {xs = xs} q r) p o =
     ap (λ (t : Taken). outcomeOf t ∷ outcomes (t .decoder) (xs ++ ys)) t ∙ ap (λ (l : List Outcome). nothing ∷ l) (quiet-outcomes ys r p₁ (o .1))
 
 pub quiet-after : {d e : Decoder} {xs : List ℕ} (ys : List ℕ) → Quiet d xs e → possibleOf (d .head) ≡ true → Octets xs
-    → (after d (xs ++ ys) ≡ after e ys) × (possibleOf (e .head) ≡ true)
-unfolding after
+    → (decoderAfter d (xs ++ ys) ≡ decoderAfter e ys) × (possibleOf (e .head) ≡ true)
+unfolding decoderAfter
 quiet-after ys done p o = (refl, p)
 quiet-after {d} ys (more {e = e} {x = x} {xs = xs} q r) p o =
     let t : takenOf d x ≡ taken (e .head) (e .info) found.Nothing = taken-done d x p ∙ q in
     let p₁ : possibleOf (e .head) ≡ true = rw q at (step-possible d x (o .0) p) in
     let w = quiet-after ys r p₁ (o .1) in
-    (ap (λ (t : Taken). after (t .decoder) (xs ++ ys)) t ∙ w .0, w .1)
+    (ap (λ (t : Taken). decoderAfter (t .decoder) (xs ++ ys)) t ∙ w .0, w .1)
 
 -- all octets of a frame but CKS are octets
 doubled-octets : (i : List ℕ) → Octets i → Octets (doubled i)
@@ -230,8 +230,8 @@ module _ {d e : Decoder} {xs : List ℕ} (x : ℕ) (q : Quiet d xs e) (p : possi
       let t = taken-done e x (quiet-after [] q p o .1) in
       rw n (quiet-outcomes (x ∷ []) q p o ∙ ap (λ (u : Outcome). replicate (length xs) nothing ++ (u ∷ [])) (ap outcomeOf t ∙ h))
 
-  pub end-after : after d (xs ++ (x ∷ [])) ≡ stepOf e x .decoder
-  unfolding after
+  pub end-after : decoderAfter d (xs ++ (x ∷ [])) ≡ stepOf e x .decoder
+  unfolding decoderAfter
   end-after = quiet-after (x ∷ []) q p o .0 ∙ ap (λ (t : Taken). t .decoder) (taken-done e x (quiet-after [] q p o .1))
 
 read-back : (k₀ : Kind) (s₀ e a₀ n₀ g₀ : ℕ) (l : List ℕ) (f : Frame) → length l ≡ infoMost → InOctets f → infoFits f ≡ true → ReadBack (at Idle k₀ s₀ e a₀ n₀ g₀ l) f
@@ -242,8 +242,8 @@ read-back k₀ s₀ e a₀ n₀ g₀ l f hl o h =
     let y = sound-step f e l h hl in
     record { outcome = rw (whole f) (end-outcome (cksOf f) q refl v (y .0)); rest = rw (whole f, end-after (cksOf f) q refl v) (y .1) }
 
-pub reading-undoes-writing : ReadingUndoesWriting
+pub reading-undoes-writing : ReadingFramesUndoesWriting
 reading-undoes-writing d f r o h =
     let q = d .head in
-    subst (λ (p : Place). ReadBack (at p (q .kind) (q .seq) (q .err) (q .addr) (q .len) (q .got) (d .info)) f) (sym (r .idle))
-    (read-back (q .kind) (q .seq) (q .err) (q .addr) (q .len) (q .got) (d .info) f (r .long) o h)
+    subst (λ (p : Place). ReadBack (at p (q .kind) (q .seq) (q .err) (q .addr) (q .len) (q .filled) (d .info)) f) (sym (r .idle))
+    (read-back (q .kind) (q .seq) (q .err) (q .addr) (q .len) (q .filled) (d .info) f (r .long) o h)

@@ -23,16 +23,16 @@ use Rattle.frame.specs.declared.decoder.Found.the-variants as found
 use Rattle.frame.specs.declared.decoder.Stepped.{Stepped}
 use Rattle.frame.specs.Frame.{Frame, message, ack, nak, kindOf, seqOf, addrOf, lenOf, messageLen, infoLeast, infoMost, lenFits, infoFits, opener, front, frontOf, sentOf, cksOf, doubled}
 use Rattle.frame.specs.Decoder.{possibleOf, afterAa, stepOf, takenAs}
-use Rattle.frame.specs.Run.{Outcome, nothing, refused, told, outcomeOf, outcomes, AtRest}
+use Rattle.frame.specs.Run.{Outcome, nothing, refused, foundMeans, outcomeOf, outcomes, AtRest}
 use Rattle.frame.specs.Promises.{Refusable, len, doubling, closingAa, closingCc, cks, RefusedWhen}
 use Rattle.frame.proofs.Laws.{message-len}
 use Rattle.frame.proofs.Possible.{at}
 use Rattle.frame.proofs.Reading.{Quiet, done, more, once, quiet-then, word, info-part, info-run, front-six, front-run, ready, most-run, cks-ready, end-outcome}
 
 -- what an octet after AA finds is what was found before it
-pub after-aa-outcome : (d : Decoder) (b : ℕ) (f : Found) → outcomeOf (takenAs d b (afterAa (d .head) b f)) ≡ told f (d .info)
+pub after-aa-outcome : (d : Decoder) (b : ℕ) (f : Found) → outcomeOf (takenAs d b (afterAa (d .head) b f)) ≡ foundMeans f (d .info)
 after-aa-outcome d b f =
-    let P : Stepped → Type 0 = λ t. outcomeOf (takenAs d b t) ≡ told f (d .info) in
+    let P : Stepped → Type 0 = λ t. outcomeOf (takenAs d b t) ≡ foundMeans f (d .info) in
     pick-by P (eqb b 0xAA) (λ _. refl)
     (λ _. pick-by P (eqb b 0xBB) (λ _. refl)
     (λ _. pick-by P (eqb b 0xDD) (λ _. refl)
@@ -119,5 +119,5 @@ module _ (k₀ : Kind) (s₀ e a₀ n₀ g₀ : ℕ) (l : List ℕ) (hl : length
 pub refused-when : RefusedWhen
 refused-when d n k s a os r o w =
     let q = d .head in
-    subst (λ (p : Place). outcomes (at p (q .kind) (q .seq) (q .err) (q .addr) (q .len) (q .got) (d .info)) os ≡ replicate (length os - 1) nothing ++ (refused n k s a ∷ [])) (sym (r .idle))
-    (refuses (q .kind) (q .seq) (q .err) (q .addr) (q .len) (q .got) (d .info) (r .long) o w)
+    subst (λ (p : Place). outcomes (at p (q .kind) (q .seq) (q .err) (q .addr) (q .len) (q .filled) (d .info)) os ≡ replicate (length os - 1) nothing ++ (refused n k s a ∷ [])) (sym (r .idle))
+    (refuses (q .kind) (q .seq) (q .err) (q .addr) (q .len) (q .filled) (d .info) (r .long) o w)

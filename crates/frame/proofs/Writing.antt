@@ -27,8 +27,8 @@ use Rattle.frame.specs.declared.decoder.Stepped.{Stepped}
 use Rattle.frame.specs.Frame.{Frame, message, ack, nak, kindOf, seqOf, addrOf, lenOf, messageLen, ackLen, nakLen, infoLeast, infoMost, lenFits, infoFits, opener, front, frontOf, bodyOf, sentOf, cksOf, twice, doubled, written}
 use Rattle.frame.specs.Decoder.{headOf, possibleOf, possibleAt, infoDue, infoWhole, afterAa, afterLen, cksDue, soundBy, stepOf, stepAt, takenAs, takenOf, cksIn, frontIn}
 use Rattle.frame.specs.Decoder as decoder
-use Rattle.frame.specs.Run.{Outcome, nothing, refused, sound, outcomeOf, outcomes, after, AtRest, drops, NothingDropped}
-use Rattle.frame.specs.Promises.{WrittenBack, WritingUndoesReading, Refusable, len, doubling, closingAa, closingCc, cks, RefusedFor, RefusedOnlyThen}
+use Rattle.frame.specs.Run.{Outcome, nothing, refused, sound, outcomeOf, outcomes, decoderAfter, AtRest, drops, NothingDropped}
+use Rattle.frame.specs.Promises.{WrittenBack, WritingFramesUndoesReading, Refusable, len, doubling, closingAa, closingCc, cks, RefusedFor, RefusedOnlyThen}
 use Rattle.frame.proofs.Laws.{message-len, twice-aa, twice-other, possible-at, taken-done}
 use Rattle.frame.proofs.Possible.{at, step-possible}
 use Rattle.frame.proofs.Refusing.{after-aa-outcome}
@@ -56,7 +56,7 @@ heldAt Err k s e a n i = front k s a n
 heldAt Cks k s e a n i = front k s a n ++ sentBy k e i
 
 held : Decoder → List ℕ
-held d = let h = d .head in heldAt (h .place) (h .kind) (h .seq) (h .err) (h .addr) (h .len) (take (h .got) (d .info))
+held d = let h = d .head in heldAt (h .place) (h .kind) (h .seq) (h .err) (h .addr) (h .len) (take (h .filled) (d .info))
 
 -- what has become of the octets h that were held, and of b, once b is taken: all are held on; or some are dropped; or the
 -- frame is refused, for them; or they are a frame as written
@@ -77,7 +77,7 @@ doubled-more : (l : List ℕ) (g b : ℕ) → g < length l → doubled (take (g 
 unfolding doubled
 doubled-more l g b h = rw (add-one g, take-suc-set l g b h, doubled-append (take g l) (b ∷ []), append-nil (twice b))
 
--- after an AA: what stood before it is lost, and the AA too unless the octet goes with it
+-- decoderAfter an AA: what stood before it is lost, and the AA too unless the octet goes with it
 after-aa-held : (d : Decoder) (b : ℕ) (f : Found) (y : List ℕ) → (pre : List ℕ) × ((y ++ (0xAA ∷ [])) ++ (b ∷ []) ≡ pre ++ held (takenAs d b (afterAa (d .head) b f) .decoder))
 unfolding held
 after-aa-held d b f y =
@@ -262,7 +262,7 @@ module _ (d : Decoder) (b : ℕ) (hl : length (d .info) ≡ infoMost) where
   unfolding stepOf
   step-long =
       pick-by (λ (i : List ℕ). length i ≡ infoMost) (stepAt (d .head .place) (d .head) (d .info) b .keeps)
-      (λ _. length-set (d .info) (d .head .got) b ∙ hl) (λ _. hl)
+      (λ _. length-set (d .info) (d .head .filled) b ∙ hl) (λ _. hl)
 
 -- a decoder that a run can be in
 record Runs (d : Decoder) : Type 0 where
@@ -277,7 +277,7 @@ unfolding stepOf
 went d b o r =
     let h = d .head in
     rw (taken-done d b (r .possible))
-    (went-at (h .seq) (h .err) (h .addr) (h .len) (h .got) (d .info) (r .long) b o (h .place) (h .kind) (r .possible))
+    (went-at (h .seq) (h .err) (h .addr) (h .len) (h .filled) (d .info) (r .long) b o (h .place) (h .kind) (r .possible))
 
 -- nothing, a refusal and a sound frame are three things
 nothing-refused : {n s a : ℕ} {k : Kind} → nothing ≡ refused n k s a → ⊥
@@ -300,12 +300,12 @@ lost (ended f o e z w) = (written f, (e ∙ rw z (sym (append-nil (written f))),
 -- what a run leaves of the octets held and taken: those held at its end, with what is held no longer before them
 record Left (d : Decoder) (xs : List ℕ) : Type 0 where
   pub pre : List ℕ
-  pub octets : held d ++ xs ≡ pre ++ held (after d xs)
+  pub octets : held d ++ xs ≡ pre ++ held (decoderAfter d xs)
   pub clean : NothingDropped d xs → pre ≡ []
-  pub runs : Runs (after d xs)
+  pub runs : Runs (decoderAfter d xs)
 
 left : (d : Decoder) (xs : List ℕ) → Octets xs → Runs d → Left d xs
-unfolding after NothingDropped
+unfolding decoderAfter NothingDropped
 left d [] o r = record { pre = []; octets = append-nil (held d); clean = λ _. refl; runs = r }
 left d (x ∷ xs) o r =
     let w = lost (went d x (o .0) r) in
@@ -314,7 +314,7 @@ left d (x ∷ xs) o r =
     record {
       pre = w .0 ++ v .pre;
       octets = sym (append-snoc (held d) x xs) ∙ ap (λ (u : List ℕ). u ++ xs) (w .1 .0) ∙ append-assoc (w .0) (held e) xs
-          ∙ ap (λ (u : List ℕ). w .0 ++ u) (v .octets) ∙ sym (append-assoc (w .0) (v .pre) (held (after e xs)));
+          ∙ ap (λ (u : List ℕ). w .0 ++ u) (v .octets) ∙ sym (append-assoc (w .0) (v .pre) (held (decoderAfter e xs)));
       clean = λ n. rw (w .1 .1 (n .0) (n .1), v .clean (n .2));
       runs = v .runs;
     }
@@ -329,7 +329,7 @@ module _ (d : Decoder) (xs : List ℕ) (x : ℕ) (r : AtRest d) (o : Octets (xs 
   run = left d xs (octets-left xs (x ∷ []) o) (at-rest .1)
 
   abbrev last : Decoder
-  last = after d xs
+  last = decoderAfter d xs
 
   ends-in : {ys : List ℕ} → held last ++ (x ∷ []) ≡ ys → xs ++ (x ∷ []) ≡ run .pre ++ ys
   ends-in {ys} q =
@@ -358,7 +358,7 @@ module _ (d : Decoder) (xs : List ℕ) (x : ℕ) (r : AtRest d) (o : Octets (xs 
       record { before = run .pre; octets = held last ++ (x ∷ []); ends = ends-in refl; why = rw (← en, ← ek, ← es, ← ea) w }
   refused-for h (ended f p q z w) = absurd (refused-sound (sym h ∙ p))
 
-pub writing-undoes-reading : WritingUndoesReading
+pub writing-undoes-reading : WritingFramesUndoesReading
 writing-undoes-reading d xs x f r o h = written-back d xs x r o h (last-went d xs x r o)
 
 pub refused-only-then : RefusedOnlyThen

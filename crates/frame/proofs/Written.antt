@@ -13,8 +13,8 @@ use Rattle.octets.specs.Writing.{Writing, writtenAs}
 use Rattle.octets.specs.Word.{highOf, lowOf, wordOf}
 use Rattle.octets.proofs.Laws.{pick-by, both-left, both-right, clash, exclusive-or-closed, word-back}
 use Rattle.frame.specs.Frame.{Frame, message, ack, nak, lenOf, messageLen, infoFits, frontOf, bodyOf, sentOf, cksOf, undoubled, written}
-use Rattle.frame.specs.Writer.{writeOf}
-use Rattle.frame.specs.Promises.{LenCounts, CksCovers, InfoFits, WriteJudged, infoWrong, outputShort, stored, WrittenSo}
+use Rattle.frame.specs.Writer.{writeFrame}
+use Rattle.frame.specs.Promises.{LenCounts, CksCovers, InfoFits, FrameWriteJudged, infoWrong, outputShort, stored, FramesWrittenSo}
 use Rattle.frame.proofs.Reading.{whole}
 
 undoubled-length : (f : Frame) → length (undoubled f) ≡ lenOf f
@@ -58,20 +58,20 @@ module _ (f : Frame) (at : ℕ) (out : List ℕ) where
   abbrev vs : List ℕ
   vs = written f
 
-  when : {w : Writing} → WriteJudged f at out w → w ≡ writeOf f at out
-  unfolding writeOf writtenAs
+  when : {w : Writing} → FrameWriteJudged f at out w → w ≡ writeFrame f at out
+  unfolding writeFrame writtenAs
   when (infoWrong n) = rw (not-in f n)
   when (outputShort p h) = rw (in-fits f p, lt-leb (at + length vs) (length out) h)
   when (stored p h) = rw (in-fits f p, le-leb (at + length vs) (length out) h, sets-eq vs out at h, append-assoc)
 
-  then′ : WriteJudged f at out (writeOf f at out)
-  unfolding writeOf writtenAs
+  then′ : FrameWriteJudged f at out (writeFrame f at out)
+  unfolding writeFrame writtenAs
   then′ =
-      pick-by (WriteJudged f at out) (infoFits f)
-      (λ t. pick-by (WriteJudged f at out) (leb (at + length vs) (length out))
+      pick-by (FrameWriteJudged f at out) (infoFits f)
+      (λ t. pick-by (FrameWriteJudged f at out) (leb (at + length vs) (length out))
       (λ r. let h = leb-true (at + length vs) (length out) r in rw (sets-eq vs out at h, append-assoc) (stored (fits-in f t) h))
       (λ r. outputShort (fits-in f t) (leb-false (at + length vs) (length out) r)))
       (λ t. infoWrong (λ p. clash t (in-fits f p)))
 
-pub written-so : WrittenSo
+pub written-so : FramesWrittenSo
 written-so f at out w = (when f at out, λ e. rw e (then′ f at out))

@@ -13,9 +13,9 @@ use Rattle.frame.specs.Run.{Outcome, nothing, refused, sound, outcomes}
 abbrev upTo : ℕ → ℕ → List ℕ
 upTo high low = 0xAA ∷ 0xBB ∷ 0x07 ∷ 0x00 ∷ 0x01 ∷ high ∷ low ∷ []
 
--- P1, read; then LEN 11, 12, 266 and 267
-unfoldable pub read : List (List Outcome)
-read =
+-- P1, framesRead; then LEN 11, 12, 266 and 267
+unfoldable pub framesRead : List (List Outcome)
+framesRead =
     outcomes freshDecoder (0xAA ∷ 0xBB ∷ 0x07 ∷ 0x00 ∷ 0x01 ∷ 0x00 ∷ 0x0C ∷ 0x5F ∷ 0x48 ∷ 0xAA ∷ 0xCC ∷ 0x6A ∷ [])
     ∷ outcomes freshDecoder (upTo 0x00 0x0B)
     ∷ outcomes freshDecoder (upTo 0x00 0x0C)
@@ -23,8 +23,8 @@ read =
     ∷ outcomes freshDecoder (upTo 0x01 0x0B)
     ∷ []
 
-unfoldable pub dueRead : List (List Outcome)
-dueRead =
+unfoldable pub dueFramesRead : List (List Outcome)
+dueFramesRead =
     (replicate 11 nothing ++ (sound (message 0x07 0x0001 (0x5F ∷ 0x48 ∷ [])) ∷ []))
     ∷ (replicate 6 nothing ++ (refused refusal.lenWrong Message 0x07 0x0001 ∷ []))
     ∷ replicate 7 nothing
@@ -33,19 +33,19 @@ dueRead =
     ∷ []
 
 -- P2, P3 and P5, written
-unfoldable pub wrote : List (List ℕ)
-wrote =
+unfoldable pub framesWritten : List (List ℕ)
+framesWritten =
     written (ack 0x07 0x0001)
     ∷ written (message 0x00 0x0001 (0x5F ∷ 0xC8 ∷ 0x00 ∷ 0x00 ∷ 0x00 ∷ 0x02 ∷ 0x00 ∷ 0x19 ∷ 0x00 ∷ 0x19 ∷ 0x00 ∷ 0x3C ∷ 0x00 ∷ 0x00 ∷ []))
     ∷ written (message 0x01 0x0001 (0x0F ∷ 0x81 ∷ 0x5F ∷ 0x18 ∷ 0x0D ∷ 0x01 ∷ []))
     ∷ []
 
-unfoldable pub dueWritten : List (List ℕ)
-dueWritten =
+unfoldable pub dueFramesWritten : List (List ℕ)
+dueFramesWritten =
     (0xAA ∷ 0xDD ∷ 0x07 ∷ 0x00 ∷ 0x01 ∷ 0x00 ∷ 0x08 ∷ 0x79 ∷ [])
     ∷ (0xAA ∷ 0xBB ∷ 0x00 ∷ 0x00 ∷ 0x01 ∷ 0x00 ∷ 0x18 ∷ 0x5F ∷ 0xC8 ∷ 0x00 ∷ 0x00 ∷ 0x00 ∷ 0x02 ∷ 0x00 ∷ 0x19 ∷ 0x00 ∷ 0x19 ∷ 0x00 ∷ 0x3C ∷ 0x00 ∷ 0x00 ∷ 0xAA ∷ 0xCC ∷ 0xC7 ∷ [])
     ∷ (0xAA ∷ 0xBB ∷ 0x01 ∷ 0x00 ∷ 0x01 ∷ 0x00 ∷ 0x10 ∷ 0x0F ∷ 0x81 ∷ 0x5F ∷ 0x18 ∷ 0x0D ∷ 0x01 ∷ 0xAA ∷ 0xCC ∷ 0xA2 ∷ [])
     ∷ []
 
 abbrev pub FrameCases : Type 0
-FrameCases = (read ≡ dueRead) × (wrote ≡ dueWritten)
+FrameCases = (framesRead ≡ dueFramesRead) × (framesWritten ≡ dueFramesWritten)

@@ -22,7 +22,7 @@ use Rattle.frame.specs.Frame.{lenFits, infoMost, messageLen, front}
 
 -- A head with all its fields given
 abbrev pub headOf : Place → Kind → ℕ → ℕ → ℕ → ℕ → ℕ → Head
-headOf p k s e a n g = record { place = p; kind = k; seq = s; err = e; addr = a; len = n; got = g }
+headOf p k s e a n g = record { place = p; kind = k; seq = s; err = e; addr = a; len = n; filled = g }
 
 -- a decoder at rest, with nothing kept
 unfoldable pub freshDecoder : Decoder
@@ -73,7 +73,7 @@ possibleAt Err k a n g = errDue k n
 possibleAt Cks k a n g = cksDue k n g
 
 unfoldable pub possibleOf : Head → Bool
-possibleOf h = possibleAt (h .place) (h .kind) (h .addr) (h .len) (h .got)
+possibleOf h = possibleAt (h .place) (h .kind) (h .addr) (h .len) (h .filled)
 
 -- What an octet does to the head, what it finds, and whether it is kept as one of INFO
 
@@ -81,12 +81,12 @@ abbrev pub stepped : Head → Found → Stepped
 stepped h f = record { head = h; found = f; keeps = false }
 
 -- the head at another place, of a frame of this kind
-abbrev pub placed : Head → Place → Kind → Head
-placed h p k = headOf p k (h .seq) (h .err) (h .addr) (h .len) (h .got)
+abbrev pub headAt : Head → Place → Kind → Head
+headAt h p k = headOf p k (h .seq) (h .err) (h .addr) (h .len) (h .filled)
 
 -- the same, and what was found
 abbrev pub foundAt : Head → Place → Kind → Found → Stepped
-foundAt h p k f = stepped (placed h p k) f
+foundAt h p k f = stepped (headAt h p k) f
 
 -- another place, and nothing found
 abbrev pub moved : Head → Place → Stepped
@@ -135,19 +135,19 @@ afterAa h b f =
 
 -- SEQ, ADDR and LEN come in octet by octet, high octet first; ERR is one
 abbrev pub withSeq : Head → ℕ → Stepped
-withSeq h b = stepped (headOf AddrHigh (h .kind) b (h .err) (h .addr) (h .len) (h .got)) found.Nothing
+withSeq h b = stepped (headOf AddrHigh (h .kind) b (h .err) (h .addr) (h .len) (h .filled)) found.Nothing
 
 abbrev pub withAddrHigh : Head → ℕ → Stepped
-withAddrHigh h b = stepped (headOf AddrLow (h .kind) (h .seq) (h .err) b (h .len) (h .got)) found.Nothing
+withAddrHigh h b = stepped (headOf AddrLow (h .kind) (h .seq) (h .err) b (h .len) (h .filled)) found.Nothing
 
 abbrev pub withAddr : Head → ℕ → Stepped
-withAddr h addr = stepped (headOf LenHigh (h .kind) (h .seq) (h .err) addr (h .len) (h .got)) found.Nothing
+withAddr h addr = stepped (headOf LenHigh (h .kind) (h .seq) (h .err) addr (h .len) (h .filled)) found.Nothing
 
 abbrev pub withLenHigh : Head → ℕ → Stepped
-withLenHigh h b = stepped (headOf LenLow (h .kind) (h .seq) (h .err) (h .addr) b (h .got)) found.Nothing
+withLenHigh h b = stepped (headOf LenLow (h .kind) (h .seq) (h .err) (h .addr) b (h .filled)) found.Nothing
 
 abbrev pub withErr : Head → ℕ → Stepped
-withErr h b = stepped (headOf Cks (h .kind) (h .seq) b (h .addr) (h .len) (h .got)) found.Nothing
+withErr h b = stepped (headOf Cks (h .kind) (h .seq) b (h .addr) (h .len) (h .filled)) found.Nothing
 
 -- what follows LEN
 abbrev pub afterLen : Kind → Place
@@ -169,7 +169,7 @@ afterInfo n g = pick (ltb (messageLen + g) n) Info CloseAa
 -- an octet of INFO is kept
 abbrev pub kept : Head → Stepped
 kept h =
-    let g = h .got + 1 in
+    let g = h .filled + 1 in
     record { head = headOf (afterInfo (h .len) g) (h .kind) (h .seq) (h .err) (h .addr) (h .len) g; found = found.Nothing; keeps = true }
 
 -- an AA of INFO comes twice: the first is not kept
@@ -201,11 +201,11 @@ bodyBy Nak e i = e ∷ []
 
 -- CKS as it should come, i being the octets kept for INFO
 unfoldable pub cksIn : Head → List ℕ → ℕ
-cksIn h i = exclusiveOr 0 (frontIn h ++ bodyBy (h .kind) (h .err) (take (h .got) i))
+cksIn h i = exclusiveOr 0 (frontIn h ++ bodyBy (h .kind) (h .err) (take (h .filled) i))
 
 -- the sound frame that has ended
 abbrev pub soundAs : Kind → Head → Found
-soundAs Message h = found.Message (h .seq) (h .addr) (h .got)
+soundAs Message h = found.Message (h .seq) (h .addr) (h .filled)
 soundAs Ack h = found.Ack (h .seq) (h .addr)
 soundAs Nak h = found.Nak (h .seq) (h .addr) (h .err)
 
@@ -236,7 +236,7 @@ taken h i f = record { refusal = refusal.none; decoder = record { head = h; info
 
 -- INFO once the octet b is kept, or not
 abbrev pub infoThen : Decoder → ℕ → Bool → List ℕ
-infoThen d b keeps = pick keeps (set (d .info) (d .head .got) b) (d .info)
+infoThen d b keeps = pick keeps (set (d .info) (d .head .filled) b) (d .info)
 
 abbrev pub takenAs : Decoder → ℕ → Stepped → Taken
 takenAs d b t = taken (t .head) (infoThen d b (t .keeps)) (t .found)
@@ -255,4 +255,4 @@ takenOf d b = pick (possibleOf (d .head)) (stepOf d b) (unsound d)
 
 -- "A line-idle call, made by the host, returns the decoder to idle and changes nothing else."
 unfoldable pub idledOf : Decoder → Taken
-idledOf d = pick (possibleOf (d .head)) (taken (placed (d .head) Idle (d .head .kind)) (d .info) found.Nothing) (unsound d)
+idledOf d = pick (possibleOf (d .head)) (taken (headAt (d .head) Idle (d .head .kind)) (d .info) found.Nothing) (unsound d)

@@ -8,7 +8,7 @@ use Rattle.octets.specs.ExclusiveOr.{exclusiveOr}
 use Rattle.octets.specs.Octet.{Octets}
 use Rattle.octets.specs.Refusal as refusal
 use Rattle.octets.specs.Word.{wordOf}
-use Rattle.octets.specs.Writing.{Writing, refusedAs}
+use Rattle.octets.specs.Writing.{Writing, nothingWritten}
 use Rattle.frame.specs.declared.Kind.{Kind}
 use Rattle.frame.specs.declared.Kind.the-variants.{Message, Ack, Nak}
 use Rattle.frame.specs.declared.decoder.Place.{Place}
@@ -18,31 +18,31 @@ use Rattle.frame.specs.declared.decoder.Found.the-variants as found
 use Rattle.frame.specs.declared.decoder.Taken.{Taken}
 use Rattle.frame.specs.Frame.{Frame, message, ack, nak, messageLen, InOctets, kindOf, seqOf, addrOf, lenFits, lenOf, infoFits, front, frontOf, sentOf, doubled, cksOf, undoubled, written}
 use Rattle.frame.specs.Decoder.{headOf, possibleOf, freshDecoder, takenOf, idledOf}
-use Rattle.frame.specs.Writer.{writeOf}
-use Rattle.frame.specs.Run.{Outcome, nothing, refused, sound, outcomeOf, outcomes, after, AtRest, NothingDropped}
+use Rattle.frame.specs.Writer.{writeFrame}
+use Rattle.frame.specs.Run.{Outcome, nothing, refused, sound, outcomeOf, outcomes, decoderAfter, AtRest, NothingDropped}
 
 -- d at another place, or of another kind too: nothing else of it changes
 abbrev pub placedAs : Place → Kind → Decoder → Decoder
-placedAs p k d = let h = d .head in record { head = headOf p k (h .seq) (h .err) (h .addr) (h .len) (h .got); info = d .info }
+placedAs p k d = let h = d .head in record { head = headOf p k (h .seq) (h .err) (h .addr) (h .len) (h .filled); info = d .info }
 
 abbrev pub placedAt : Place → Decoder → Decoder
 placedAt p d = placedAs p (d .head .kind) d
 
 -- a call that gives d back and brings nothing: done, or refused 7
-abbrev pub quiet : Decoder → Taken
-quiet d = record { refusal = refusal.none; decoder = d; found = found.Nothing }
+abbrev pub broughtNothing : Decoder → Taken
+broughtNothing d = record { refusal = refusal.none; decoder = d; found = found.Nothing }
 
-abbrev pub refusedCall : Decoder → Taken
-refusedCall d = record { refusal = refusal.stateUnsound; decoder = d; found = found.Nothing }
+abbrev pub refusedDecoder : Decoder → Taken
+refusedDecoder d = record { refusal = refusal.stateUnsound; decoder = d; found = found.Nothing }
 
 -- Refusal 7 of the decoder's calls, "When, and only then": "state handed in is unsound (.. impossible decoder place)",
 -- "same state"
 pub record CallsOf (d : Decoder) : Type 0 where
-  pub octetRefused : (b : ℕ) → possibleOf (d .head) ≡ false → takenOf d b ≡ refusedCall d
+  pub octetRefused : (b : ℕ) → possibleOf (d .head) ≡ false → takenOf d b ≡ refusedDecoder d
   pub octetDone : (b : ℕ) → possibleOf (d .head) ≡ true → takenOf d b .refusal ≡ refusal.none
-  pub idleRefused : possibleOf (d .head) ≡ false → idledOf d ≡ refusedCall d
+  pub idleRefused : possibleOf (d .head) ≡ false → idledOf d ≡ refusedDecoder d
   -- "A line-idle call, made by the host, returns the decoder to idle and changes nothing else."
-  pub idleDone : possibleOf (d .head) ≡ true → idledOf d ≡ quiet (placedAt Idle d)
+  pub idleDone : possibleOf (d .head) ≡ true → idledOf d ≡ broughtNothing (placedAt Idle d)
 
 abbrev pub CallsAnswered : Type 0
 CallsAnswered = (d : Decoder) → CallsOf d
@@ -57,7 +57,7 @@ abbrev pub PossibleKept : Type 0
 PossibleKept = (possibleOf (freshDecoder .head) ≡ true) × ((d : Decoder) → PossibleFrom d)
 
 -- "LEN counts the whole frame before doubling": it is as many as the frame has octets then, and it is what stands in
--- the two octets after ADDR.
+-- the two octets decoderAfter ADDR.
 abbrev pub LenCounts : Type 0
 LenCounts = (f : Frame) → (length (undoubled f) ≡ lenOf f) × (wordOf (getD (written f) 5 0) (getD (written f) 6 0) ≡ lenOf f)
 
@@ -73,32 +73,32 @@ InfoFits (ack s a) = Unit
 InfoFits (nak s a e) = Unit
 
 -- What writing comes to, and why: "4 or 5 before 9 in a writer"
-pub data WriteJudged (f : Frame) (at : ℕ) (out : List ℕ) : Writing → Type 0 where
+pub data FrameWriteJudged (f : Frame) (at : ℕ) (out : List ℕ) : Writing → Type 0 where
   -- "frame writer given INFO not 2 to 256 long": "nothing written"
-  infoWrong : (InfoFits f → ⊥) → WriteJudged f at out (refusedAs refusal.infoWrong out)
+  infoWrong : (InfoFits f → ⊥) → FrameWriteJudged f at out (nothingWritten refusal.infoWrong out)
   -- "output too short: .. exact need for a writer"
-  outputShort : InfoFits f → length out < at + length (written f) → WriteJudged f at out (refusedAs refusal.outputShort out)
+  outputShort : InfoFits f → length out < at + length (written f) → FrameWriteJudged f at out (nothingWritten refusal.outputShort out)
   -- "A call writes only the octets that its result counts; the output beyond them stays."
   stored : InfoFits f → at + length (written f) ≤ length out
-      → WriteJudged f at out (record {
+      → FrameWriteJudged f at out (record {
         answer = record { refusal = refusal.none; count = length (written f) };
         out = take at out ++ (written f ++ drop (at + length (written f)) out);
       })
 
 -- "When, and only then": refusals 4 and 9.
-abbrev pub WrittenSo : Type 0
-WrittenSo = (f : Frame) (at : ℕ) (out : List ℕ) (w : Writing) → (WriteJudged f at out w → w ≡ writeOf f at out) × (w ≡ writeOf f at out → WriteJudged f at out w)
+abbrev pub FramesWrittenSo : Type 0
+FramesWrittenSo = (f : Frame) (at : ℕ) (out : List ℕ) (w : Writing) → (FrameWriteJudged f at out w → w ≡ writeFrame f at out) × (w ≡ writeFrame f at out → FrameWriteJudged f at out w)
 
 -- "Idle: AA is remembered, all else is dropped. After a lone AA: BB, DD or EE opens a frame, AA stays remembered, all else
 -- returns to idle." Of an opened frame SEQ is due; nothing else of the decoder changes.
 pub record WaitsFrom (d : Decoder) : Type 0 where
-  pub remembered : takenOf (placedAt Idle d) 0xAA ≡ quiet (placedAt LoneAa d)
-  pub dropped : (b : ℕ) → (b ≡ 0xAA → ⊥) → takenOf (placedAt Idle d) b ≡ quiet (placedAt Idle d)
-  pub opensMessage : takenOf (placedAt LoneAa d) 0xBB ≡ quiet (placedAs Seq Message d)
-  pub opensAck : takenOf (placedAt LoneAa d) 0xDD ≡ quiet (placedAs Seq Ack d)
-  pub opensNak : takenOf (placedAt LoneAa d) 0xEE ≡ quiet (placedAs Seq Nak d)
-  pub stays : takenOf (placedAt LoneAa d) 0xAA ≡ quiet (placedAt LoneAa d)
-  pub returns : (b : ℕ) → (b ≡ 0xBB → ⊥) → (b ≡ 0xDD → ⊥) → (b ≡ 0xEE → ⊥) → (b ≡ 0xAA → ⊥) → takenOf (placedAt LoneAa d) b ≡ quiet (placedAt Idle d)
+  pub remembered : takenOf (placedAt Idle d) 0xAA ≡ broughtNothing (placedAt LoneAa d)
+  pub dropped : (b : ℕ) → (b ≡ 0xAA → ⊥) → takenOf (placedAt Idle d) b ≡ broughtNothing (placedAt Idle d)
+  pub opensMessage : takenOf (placedAt LoneAa d) 0xBB ≡ broughtNothing (placedAs Seq Message d)
+  pub opensAck : takenOf (placedAt LoneAa d) 0xDD ≡ broughtNothing (placedAs Seq Ack d)
+  pub opensNak : takenOf (placedAt LoneAa d) 0xEE ≡ broughtNothing (placedAs Seq Nak d)
+  pub stays : takenOf (placedAt LoneAa d) 0xAA ≡ broughtNothing (placedAt LoneAa d)
+  pub returns : (b : ℕ) → (b ≡ 0xBB → ⊥) → (b ≡ 0xDD → ⊥) → (b ≡ 0xEE → ⊥) → (b ≡ 0xAA → ⊥) → takenOf (placedAt LoneAa d) b ≡ broughtNothing (placedAt Idle d)
 
 abbrev pub Waits : Type 0
 Waits = (d : Decoder) → WaitsFrom d
@@ -107,10 +107,10 @@ Waits = (d : Decoder) → WaitsFrom d
 -- frame itself with it; "the end of a sound frame" leaves it idle, "with no AA remembered".
 pub record ReadBack (d : Decoder) (f : Frame) : Type 0 where
   pub outcome : outcomes d (written f) ≡ replicate (length (written f) - 1) nothing ++ (sound f ∷ [])
-  pub rest : AtRest (after d (written f))
+  pub rest : AtRest (decoderAfter d (written f))
 
-abbrev pub ReadingUndoesWriting : Type 0
-ReadingUndoesWriting = (d : Decoder) (f : Frame) → AtRest d → InOctets f → infoFits f ≡ true → ReadBack d f
+abbrev pub ReadingFramesUndoesWriting : Type 0
+ReadingFramesUndoesWriting = (d : Decoder) (f : Frame) → AtRest d → InOctets f → infoFits f ≡ true → ReadBack d f
 
 -- Writing undoes reading: whatever octets bring a sound frame out of idle end in the octets that writing it gives; and
 -- where nothing was dropped before it, they are those octets.
@@ -120,10 +120,10 @@ pub record WrittenBack (d : Decoder) (xs : List ℕ) (x : ℕ) (f : Frame) : Typ
   pub clean : NothingDropped d xs → before ≡ []
   pub fits : infoFits f ≡ true
 
-abbrev pub WritingUndoesReading : Type 0
-WritingUndoesReading =
+abbrev pub WritingFramesUndoesReading : Type 0
+WritingFramesUndoesReading =
     (d : Decoder) (xs : List ℕ) (x : ℕ) (f : Frame) → AtRest d → Octets (xs ++ (x ∷ []))
-    → outcomeOf (takenOf (after d xs) x) ≡ sound f
+    → outcomeOf (takenOf (decoderAfter d xs) x) ≡ sound f
     → WrittenBack d xs x f
 
 -- Refusals 1 to 3: "When, and only then", "3, 2, 1 as octets arrive". The octets of a frame that is refused, up to the one
@@ -159,7 +159,7 @@ pub record RefusedFor (xs : List ℕ) (x n : ℕ) (k : Kind) (s a : ℕ) : Type 
 abbrev pub RefusedOnlyThen : Type 0
 RefusedOnlyThen =
     (d : Decoder) (xs : List ℕ) (x n : ℕ) (k : Kind) (s a : ℕ) → AtRest d → Octets (xs ++ (x ∷ []))
-    → outcomeOf (takenOf (after d xs) x) ≡ refused n k s a
+    → outcomeOf (takenOf (decoderAfter d xs) x) ≡ refused n k s a
     → RefusedFor xs x n k s a
 
 -- where the octet b leaves d when it brings a refusal or a sound frame at this place
@@ -178,7 +178,7 @@ resumedAt CloseCc d b = takenOf (placedAt LoneAa d) b .decoder
 resumedAt Err d b = placedAt Idle d
 resumedAt Cks d b = placedAt Idle d
 
--- "The wrong octet after an AA is then judged as if it had followed a lone AA; a wrong octet where the closing AA was due
+-- "The wrong octet decoderAfter an AA is then judged as if it had followed a lone AA; a wrong octet where the closing AA was due
 -- returns to idle. Refusals 1 and 3 and the end of a sound frame also leave it idle, with no AA remembered."
 abbrev pub Resumes : Type 0
 Resumes =

@@ -1,4 +1,4 @@
--- Octets taken one after another: what each brings, and where the decoder then is.
+-- Octets taken one decoderAfter another: what each brings, and where the decoder then is.
 use Prim.Native.Nat.{ℕ}
 use mathlib.Core.Path.{_≡_}
 use mathlib.Core.Bool.{Bool, true, false, not}
@@ -24,24 +24,24 @@ pub data Outcome : Type 0 where
   sound : Frame → Outcome
 
 -- the outcome that each answer of the decoder stands for, i being the octets it keeps for INFO
-abbrev pub told : Found → List ℕ → Outcome
-told found.Nothing i = nothing
-told (found.Refused n k s a) i = refused n k s a
-told (found.Message s a n) i = sound (message s a (take n i))
-told (found.Ack s a) i = sound (ack s a)
-told (found.Nak s a e) i = sound (nak s a e)
+abbrev pub foundMeans : Found → List ℕ → Outcome
+foundMeans found.Nothing i = nothing
+foundMeans (found.Refused n k s a) i = refused n k s a
+foundMeans (found.Message s a n) i = sound (message s a (take n i))
+foundMeans (found.Ack s a) i = sound (ack s a)
+foundMeans (found.Nak s a e) i = sound (nak s a e)
 
 abbrev pub outcomeOf : Taken → Outcome
-outcomeOf t = told (t .found) (t .decoder .info)
+outcomeOf t = foundMeans (t .found) (t .decoder .info)
 
--- the outcome of each octet, and the decoder after the last
+-- the outcome of each octet, and the decoder decoderAfter the last
 unfoldable pub outcomes : Decoder → List ℕ → List Outcome
 outcomes d [] = []
 outcomes d (x ∷ xs) = outcomeOf (takenOf d x) ∷ outcomes (takenOf d x .decoder) xs
 
-unfoldable pub after : Decoder → List ℕ → Decoder
-after d [] = d
-after d (x ∷ xs) = after (takenOf d x .decoder) xs
+unfoldable pub decoderAfter : Decoder → List ℕ → Decoder
+decoderAfter d [] = d
+decoderAfter d (x ∷ xs) = decoderAfter (takenOf d x .decoder) xs
 
 -- "Demand 2's round trip starts from idle.": a decoder that waits for a frame; its `info` is an array, so as long as
 -- every one

@@ -3,9 +3,9 @@ use Prim.Native.Nat.{ℕ}
 use mathlib.Core.List.{List}
 use Rattle.octets.specs.Choice.{pick}
 use Rattle.octets.specs.Refusal as refusal
-use Rattle.octets.specs.Writing.{Writing, refusedAs, writtenAs}
+use Rattle.octets.specs.Writing.{Writing, nothingWritten, writtenAs}
 use Rattle.frame.specs.Frame.{Frame, infoFits, written}
 
 -- "frame writer given INFO not 2 to 256 long": "nothing written"; "4 or 5 before 9 in a writer"
-unfoldable pub writeOf : Frame → ℕ → List ℕ → Writing
-writeOf f at out = pick (infoFits f) (writtenAs (written f) at out) (refusedAs refusal.infoWrong out)
+unfoldable pub writeFrame : Frame → ℕ → List ℕ → Writing
+writeFrame f at out = pick (infoFits f) (writtenAs (written f) at out) (nothingWritten refusal.infoWrong out)

@@ -28,7 +28,7 @@ pub struct Head {
     pub addr: u16,
     pub len: u16,
     // Octets of INFO that are in.
-    pub got: u16,
+    pub filled: u16,
 }
 
 // CKS is worked out at the end from what is kept, so that no two fields can disagree.

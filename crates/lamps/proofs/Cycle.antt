@@ -7,7 +7,7 @@ use lib.ListN.{getD}
 use Rattle.diagram.specs.Table.{stepsAPhase}
 use Rattle.record.specs.Record.{Ready, kOf, orderOf, greenOf, yellowOf, allRedOf, walkFlashOf, redManOf, phaseSeconds, sumOf}
 use Rattle.lamps.specs.declared.Row.{Row}
-use Rattle.lamps.specs.Rows.{phaseTable, stepsOf, secondsOf, rowsFrom, rowsOf, rowAt}
+use Rattle.lamps.specs.Rows.{phaseTable, stepsOfPlan, secondsOf, rowsFrom, rowsOf, rowAt}
 use Rattle.lamps.specs.Promises.{secondsTo, stepIn, Stretch, GreenWhole, CycleLong, GreenShown, WholePhases}
 use Rattle.lamps.proofs.Laws.{seconds-in, seconds-next, rows-all, rows-part, row-first, rows-stretch}
 
@@ -46,7 +46,7 @@ module _ (rec : List ℕ) (r : Ready rec) (i : ℕ) (h : i < kOf rec) where
   unfolding phaseTable
   green-whole =
       record {
-        greenMan = after rec (stepIn i 0) 1;
+        beforeFlash = after rec (stepIn i 0) 1;
         walkFlash = after rec (stepIn i 1) 1;
         redMan = after rec (stepIn i 2) 1;
         whole =
@@ -54,7 +54,7 @@ module _ (rec : List ℕ) (r : Ready rec) (i : ℕ) (h : i < kOf rec) where
               rows-part (secondsOf rec) (orderOf rec) (stepIn i 0) 1 2 (stepIn i 1) (omega arith),
               rows-part (secondsOf rec) (orderOf rec) (stepIn i 1) 1 1 (stepIn i 2) (omega arith),
             );
-        fullGreenMan = step-stretch 0 (greenOf rec i - walkFlashOf rec i - redManOf rec i) (omega arith) refl;
+        fullBeforeFlash = step-stretch 0 (greenOf rec i - walkFlashOf rec i - redManOf rec i) (omega arith) refl;
         fullWalkFlash = step-stretch 1 (walkFlashOf rec i) (omega arith) refl;
         fullRedMan = step-stretch 2 (redManOf rec i) (omega arith) refl;
       }
@@ -69,9 +69,9 @@ phases-end rec r (suc i) h =
 pub cycle-long : CycleLong
 unfolding rowsOf
 cycle-long rec r =
-    let e : stepsOf rec ≡ stepIn (kOf rec) 0 = omega arith in
+    let e : stepsOfPlan rec ≡ stepIn (kOf rec) 0 = omega arith in
     record {
-      rows = rows-all (secondsOf rec) (orderOf rec) (stepsOf rec) ∙ ap (upTo rec) e ∙ phases-end rec r (kOf rec) (omega arith) ∙ sym (r .greens .cycle);
+      rows = rows-all (secondsOf rec) (orderOf rec) (stepsOfPlan rec) ∙ ap (upTo rec) e ∙ phases-end rec r (kOf rec) (omega arith) ∙ sym (r .greens .cycle);
       least = omega (arith, r .greens .offset);
       most = r .greens .most;
     }
@@ -84,7 +84,7 @@ green-shown rec i r h =
       some = s;
       begins =
           ap (rowAt rec) (sym (phases-end rec r i (omega arith)))
-          ∙ row-first (secondsOf rec) (orderOf rec) (stepIn i 0) (stepIn i 1) (stepsOf rec) (omega arith) (omega arith) s;
+          ∙ row-first (secondsOf rec) (orderOf rec) (stepIn i 0) (stepIn i 1) (stepsOfPlan rec) (omega arith) (omega arith) s;
     }
 
 pub whole-phases : WholePhases
@@ -92,8 +92,8 @@ unfolding rowsOf phaseTable
 whole-phases rec i r h =
     let sec = secondsOf rec in
     let o = orderOf rec in
-    let n = stepsOf rec - stepIn i 5 in
-    let e : stepsOf rec ≡ stepIn i 0 + (3 + (1 + (1 + n))) = omega arith in
+    let n = stepsOfPlan rec - stepIn i 5 in
+    let e : stepsOfPlan rec ≡ stepIn i 0 + (3 + (1 + (1 + n))) = omega arith in
     record {
       before = after rec 0 (stepIn i 0);
       green = after rec (stepIn i 0) 3;

@@ -10,8 +10,8 @@ use lib.ListN.{length, getD, length-append, List·getD-append}
 use lib.Seq.{getD-append-add}
 use Rattle.record.specs.Record.{orderOf}
 use Rattle.lamps.specs.declared.Row.{Row}
-use Rattle.lamps.specs.Rows.{phaseTable, stepsOf, phaseOf, lineOf, secondsOf, rowOf, counted, rowsFrom, rowsOf, noRow, rowAt}
-use Rattle.lamps.specs.Promises.{secondsTo, Due, Shows, Each, Stretch}
+use Rattle.lamps.specs.Rows.{phaseTable, stepsOfPlan, phaseOf, lineOf, secondsOf, rowOf, countedDown, rowsFrom, rowsOf, noRow, rowAt}
+use Rattle.lamps.specs.Promises.{secondsTo, Due, WithinSteps, Each, Stretch}
 
 -- Seconds
 
@@ -20,13 +20,13 @@ module _ (rec : List ℕ) (step : ℕ) where
   unfolding secondsOf
   seconds-none z = rw z
 
-  pub seconds-past : stepsOf rec < step → 0 ≡ secondsOf rec step
+  pub seconds-past : stepsOfPlan rec < step → 0 ≡ secondsOf rec step
   unfolding secondsOf
-  seconds-past h = rw (le-leb 1 step (omega arith), lt-leb step (stepsOf rec) h)
+  seconds-past h = rw (le-leb 1 step (omega arith), lt-leb step (stepsOfPlan rec) h)
 
-  pub seconds-in : (i j : ℕ) → 1 ≤ step → step ≤ stepsOf rec → i ≡ phaseOf step → j ≡ lineOf step → getD (phaseTable rec i) j 0 ≡ secondsOf rec step
+  pub seconds-in : (i j : ℕ) → 1 ≤ step → step ≤ stepsOfPlan rec → i ≡ phaseOf step → j ≡ lineOf step → getD (phaseTable rec i) j 0 ≡ secondsOf rec step
   unfolding secondsOf
-  seconds-in i j h l ei ej = rw (le-leb 1 step h, le-leb step (stepsOf rec) l, ei, ej)
+  seconds-in i j h l ei ej = rw (le-leb 1 step h, le-leb step (stepsOfPlan rec) l, ei, ej)
 
 module _ (sec : ℕ → ℕ) where
   pub seconds-next : (n m : ℕ) → m ≡ n + 1 → secondsTo sec m ≡ secondsTo sec n + sec m
@@ -44,13 +44,13 @@ module _ (sec : ℕ → ℕ) where
 
 -- Rows
 
-counted-length : (order step n : ℕ) → length (counted order step n) ≡ n
-unfolding counted
+counted-length : (order step n : ℕ) → length (countedDown order step n) ≡ n
+unfolding countedDown
 counted-length order step zero = refl
 counted-length order step (suc n) = ap suc (counted-length order step n)
 
-counted-at : (order step n p : ℕ) → p < n → getD (counted order step n) p noRow ≡ rowOf order step (n - p)
-unfolding counted
+counted-at : (order step n p : ℕ) → p < n → getD (countedDown order step n) p noRow ≡ rowOf order step (n - p)
+unfolding countedDown
 counted-at order step zero p h = absurd (omega arith)
 counted-at order step (suc n) zero h = let e : suc n ≡ suc n - 0 = omega arith in ap (rowOf order step) e
 counted-at order step (suc n) (suc p) h = let e : n - p ≡ suc n - suc p = omega arith in counted-at order step n p (omega arith) ∙ ap (rowOf order step) e
@@ -60,15 +60,15 @@ module _ (sec : ℕ → ℕ) (order : ℕ) where
   pub row-here : (step n p : ℕ) → p < sec step → getD (rowsFrom sec order step (suc n)) p noRow ≡ rowOf order step (sec step - p)
   unfolding rowsFrom
   row-here step n p h =
-      List·getD-append (counted order step (sec step)) (rowsFrom sec order (step + 1) n) noRow p (omega (arith, counted-length order step (sec step)))
+      List·getD-append (countedDown order step (sec step)) (rowsFrom sec order (step + 1) n) noRow p (omega (arith, counted-length order step (sec step)))
       ∙ counted-at order step (sec step) p h
 
   pub row-on : (step n p : ℕ) → sec step ≤ p → getD (rowsFrom sec order step (suc n)) p noRow ≡ getD (rowsFrom sec order (step + 1) n) (p - sec step) noRow
   unfolding rowsFrom
   row-on step n p h =
-      let e : p ≡ length (counted order step (sec step)) + (p - sec step) = omega (arith, counted-length order step (sec step)) in
-      ap (λ (x : ℕ). getD (counted order step (sec step) ++ rowsFrom sec order (step + 1) n) x noRow) e
-      ∙ getD-append-add (counted order step (sec step)) (rowsFrom sec order (step + 1) n) (p - sec step) noRow
+      let e : p ≡ length (countedDown order step (sec step)) + (p - sec step) = omega (arith, counted-length order step (sec step)) in
+      ap (λ (x : ℕ). getD (countedDown order step (sec step) ++ rowsFrom sec order (step + 1) n) x noRow) e
+      ∙ getD-append-add (countedDown order step (sec step)) (rowsFrom sec order (step + 1) n) (p - sec step) noRow
 
   -- the rows of n steps after t are as many as the steps have seconds
   pub rows-long : (t n u : ℕ) → u ≡ t + n → secondsTo sec t + length (rowsFrom sec order (t + 1) n) ≡ secondsTo sec u
@@ -77,7 +77,7 @@ module _ (sec : ℕ → ℕ) (order : ℕ) where
   rows-long t (suc n) u e =
       omega (
         arith,
-        length-append (counted order (t + 1) (sec (t + 1))) (rowsFrom sec order (t + 1 + 1) n),
+        length-append (countedDown order (t + 1) (sec (t + 1))) (rowsFrom sec order (t + 1 + 1) n),
         counted-length order (t + 1) (sec (t + 1)),
         seconds-next sec t (t + 1) refl,
         rows-long (t + 1) n u (omega arith),
@@ -93,7 +93,7 @@ module _ (sec : ℕ → ℕ) (order : ℕ) where
   rows-part t zero n u e = let z : 0 + n ≡ n = omega arith in let q : u ≡ t = omega arith in rw (z, q)
   rows-part t (suc m) n u e =
       let q : suc m + n ≡ suc (m + n) = omega arith in
-      rw (q, append-assoc) (ap (λ (l : List Row). counted order (t + 1) (sec (t + 1)) ++ l) (rows-part (t + 1) m n u (omega arith)))
+      rw (q, append-assoc) (ap (λ (l : List Row). countedDown order (t + 1) (sec (t + 1)) ++ l) (rows-part (t + 1) m n u (omega arith)))
 
   -- the first second of the step after t, if it has one
   pub row-first : (t step n : ℕ) → step ≡ t + 1 → step ≤ n → 1 ≤ sec step → getD (rowsFrom sec order 1 n) (secondsTo sec t) noRow ≡ rowOf order step (sec step)
@@ -138,23 +138,23 @@ module _ (sec : ℕ → ℕ) (order : ℕ) where
       by (no g) f =
           let e : secondsTo sec (t + 1) + (p - v) ≡ secondsTo sec t + p = omega (arith, seconds-next sec t (t + 1) refl) in
           let m : t + 1 + n ≡ t + suc n = omega arith in
-          let k : p - v < length rest = omega (arith, length-append (counted order (t + 1) v) rest, counted-length order (t + 1) v) in
+          let k : p - v < length rest = omega (arith, length-append (countedDown order (t + 1) v) rest, counted-length order (t + 1) v) in
           rw (row-on (t + 1) n p (omega arith), ← e, ← m) (f (p - v) k)
 
   each-append : (P : Row → Type 0) (xs ys : List Row) → Each P xs → Each P ys → Each P (xs ++ ys)
   each-append P [] ys p q = q
   each-append P (x ∷ xs) ys p q = (p .0, each-append P xs ys (p .1) q)
 
-  each-counted : (first last step n : ℕ) → first ≤ step → step ≤ last → Each (Shows order first last) (counted order step n)
-  unfolding counted
+  each-counted : (first last step n : ℕ) → first ≤ step → step ≤ last → Each (WithinSteps order first last) (countedDown order step n)
+  unfolding countedDown
   each-counted first last step zero lo hi = tt
   each-counted first last step (suc n) lo hi = (record { least = lo; most = hi; steady = refl; flashing = refl }, each-counted first last step n lo hi)
 
-  each-row : (first last t n : ℕ) → first ≤ t + 1 → t + n ≤ last → Each (Shows order first last) (rowsFrom sec order (t + 1) n)
+  each-row : (first last t n : ℕ) → first ≤ t + 1 → t + n ≤ last → Each (WithinSteps order first last) (rowsFrom sec order (t + 1) n)
   unfolding rowsFrom
   each-row first last t zero lo hi = tt
   each-row first last t (suc n) lo hi =
-      each-append (Shows order first last) (counted order (t + 1) (sec (t + 1))) (rowsFrom sec order (t + 1 + 1) n)
+      each-append (WithinSteps order first last) (countedDown order (t + 1) (sec (t + 1))) (rowsFrom sec order (t + 1 + 1) n)
       (each-counted first last (t + 1) (sec (t + 1)) lo (omega arith))
       (each-row first last (t + 1) n (omega arith) (omega arith))
 
@@ -169,9 +169,9 @@ module _ (sec : ℕ → ℕ) (order : ℕ) where
 
 -- The search, which stands at a step before the end with p of the position left
 
-pub search-begins : (rec : List ℕ) (end p : ℕ) → end ≡ stepsOf rec + 1 → getD (rowsFrom (secondsOf rec) (orderOf rec) 1 (end - 1)) p noRow ≡ rowAt rec p
+pub search-begins : (rec : List ℕ) (end p : ℕ) → end ≡ stepsOfPlan rec + 1 → getD (rowsFrom (secondsOf rec) (orderOf rec) 1 (end - 1)) p noRow ≡ rowAt rec p
 unfolding rowAt rowsOf
-search-begins rec end p e = let n : end - 1 ≡ stepsOf rec = omega arith in rw n
+search-begins rec end p e = let n : end - 1 ≡ stepsOfPlan rec = omega arith in rw n
 
 module _ (sec : ℕ → ℕ) (order step end p : ℕ) where
   pub search-ends : end ≤ step → noRow ≡ getD (rowsFrom sec order step (end - step)) p noRow

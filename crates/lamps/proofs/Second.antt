@@ -6,7 +6,7 @@ use native.Mathlib.Omega.{arith}
 use lib.ListN.{length, List·getD-eq-default}
 use Rattle.record.specs.Record.{orderOf}
 use Rattle.lamps.specs.declared.Row.{Row}
-use Rattle.lamps.specs.Rows.{stepsOf, secondsOf, rowOf, rowsOf, noRow, rowAt}
+use Rattle.lamps.specs.Rows.{stepsOfPlan, secondsOf, rowOf, rowsOf, noRow, rowAt}
 use Rattle.lamps.specs.Promises.{secondsTo, Due, LampsOfStep, OneDue, DarkPast, NoZeroStep}
 use Rattle.lamps.proofs.Laws.{seconds-next, seconds-grow, rows-due}
 
@@ -14,8 +14,8 @@ pub lamps-of-step : LampsOfStep
 unfolding rowAt rowsOf secondsTo
 lamps-of-step rec p h =
     let z : 0 + p ≡ p = omega arith in
-    let n : 0 + stepsOf rec ≡ stepsOf rec = omega arith in
-    rw (z, n) at (rows-due (secondsOf rec) (orderOf rec) 0 (stepsOf rec) p h)
+    let n : 0 + stepsOfPlan rec ≡ stepsOfPlan rec = omega arith in
+    rw (z, n) at (rows-due (secondsOf rec) (orderOf rec) 0 (stepsOfPlan rec) p h)
 
 -- of two steps the earlier is over before the later has begun
 module _ (sec : ℕ → ℕ) (order n p : ℕ) where

@@ -6,7 +6,7 @@ use lib.ListN.{length}
 use Rattle.diagram.specs.Table.{stepsAPhase, steadyOf, flashingOf}
 use Rattle.record.specs.Record.{Ready, kOf, orderOf, greenOf, walkFlashOf, redManOf, yellowOf, allRedOf, cycleOf, sumOf}
 use Rattle.lamps.specs.declared.Row.{Row}
-use Rattle.lamps.specs.Rows.{stepsOf, secondsOf, rowOf, rowsOf, noRow, rowAt}
+use Rattle.lamps.specs.Rows.{stepsOfPlan, secondsOf, rowOf, rowsOf, noRow, rowAt}
 
 -- The cycle
 
@@ -39,7 +39,7 @@ pub record Due (sec : ℕ → ℕ) (order n p : ℕ) (r : Row) : Type 0 where
 
 -- Each row is due by the step table.
 abbrev pub LampsOfStep : Type 0
-LampsOfStep = (rec : List ℕ) (p : ℕ) → p < length (rowsOf rec) → Due (secondsOf rec) (orderOf rec) (stepsOf rec) p (rowAt rec p)
+LampsOfStep = (rec : List ℕ) (p : ℕ) → p < length (rowsOf rec) → Due (secondsOf rec) (orderOf rec) (stepsOfPlan rec) p (rowAt rec p)
 
 -- The table leaves no choice: at most one row is due at a position.
 abbrev pub OneDue : Type 0
@@ -68,7 +68,7 @@ abbrev pub GreenShown : Type 0
 GreenShown = (rec : List ℕ) (i : ℕ) → Ready rec → i < kOf rec → GreenFirst rec i
 
 -- the row shows a step from `first` to `last`, by its words
-pub record Shows (order first last : ℕ) (r : Row) : Type 0 where
+pub record WithinSteps (order first last : ℕ) (r : Row) : Type 0 where
   pub least : first ≤ r .step
   pub most : r .step ≤ last
   pub steady : r .steady ≡ steadyOf order (r .step)
@@ -81,15 +81,15 @@ Each P (r ∷ rs) = P r × Each P rs
 -- the rows are so many seconds of steps from `first` to `last`, and of no others
 pub record Stretch (order first last seconds : ℕ) (rows : List Row) : Type 0 where
   pub long : length rows ≡ seconds
-  pub steps : Each (Shows order first last) rows
+  pub steps : Each (WithinSteps order first last) rows
 
 -- The rows of phase i's green are its three steps in order: "green less walk flash less red man", "walk flash", "red man".
 pub record GreenWhole (rec : List ℕ) (i : ℕ) (green : List Row) : Type 0 where
-  pub greenMan : List Row
+  pub beforeFlash : List Row
   pub walkFlash : List Row
   pub redMan : List Row
-  pub whole : green ≡ greenMan ++ (walkFlash ++ redMan)
-  pub fullGreenMan : Stretch (orderOf rec) (stepIn i 1) (stepIn i 1) (greenOf rec i - walkFlashOf rec i - redManOf rec i) greenMan
+  pub whole : green ≡ beforeFlash ++ (walkFlash ++ redMan)
+  pub fullBeforeFlash : Stretch (orderOf rec) (stepIn i 1) (stepIn i 1) (greenOf rec i - walkFlashOf rec i - redManOf rec i) beforeFlash
   pub fullWalkFlash : Stretch (orderOf rec) (stepIn i 2) (stepIn i 2) (walkFlashOf rec i) walkFlash
   pub fullRedMan : Stretch (orderOf rec) (stepIn i 3) (stepIn i 3) (redManOf rec i) redMan
 

@@ -1,6 +1,6 @@
 -- 01, "Lamps and seconds": the seconds of a step, the rows of a cycle, and the row at a position.
 --
--- "A second call answers the current plan, step, seconds left in the step (this one counted) and both words": a row is that
+-- "A second call answers the current plan, step, seconds left in the step (this one countedDown) and both words": a row is that
 -- answer without the plan, and the rows of a cycle are what its seconds show, one after another.
 use Prim.Native.Nat.{ℕ, zero, suc, _+_, _*_, _-_, _/_, _%_}
 use mathlib.Core.List.{List, [], _∷_, _++_}
@@ -13,7 +13,7 @@ use Rattle.lamps.specs.declared.Row.{Row}
 
 -- Seconds
 
--- "green less walk flash less red man": a difference is never below 0 here. Phases are counted from 0, as in a record.
+-- "green less walk flash less red man": a difference is never below 0 here. Phases are countedDown from 0, as in a record.
 abbrev pub greenLess : List ℕ → ℕ → ℕ
 greenLess rec i = greenOf rec i - walkFlashOf rec i - redManOf rec i
 
@@ -27,9 +27,9 @@ phaseTable rec i =
     ∷ allRedOf rec i  -- 5
     ∷ []
 
--- step 6 "as 1 with phase 2", step 7 "as 2": steps are counted from 1 and go on through the phases
-abbrev pub stepsOf : List ℕ → ℕ
-stepsOf rec = stepsAPhase * kOf rec
+-- step 6 "as 1 with phase 2", step 7 "as 2": steps are countedDown from 1 and go on through the phases
+abbrev pub stepsOfPlan : List ℕ → ℕ
+stepsOfPlan rec = stepsAPhase * kOf rec
 
 abbrev pub phaseOf : ℕ → ℕ
 phaseOf step = (step - 1) / stepsAPhase
@@ -41,7 +41,7 @@ lineOf step = (step - 1) % stepsAPhase
 -- a step that is not there has no seconds
 unfoldable pub secondsOf : List ℕ → ℕ → ℕ
 secondsOf rec step =
-    pick (both (leb 1 step) (leb step (stepsOf rec)))
+    pick (both (leb 1 step) (leb step (stepsOfPlan rec)))
     (getD (phaseTable rec (phaseOf step)) (lineOf step) 0)
     0
 
@@ -51,19 +51,19 @@ secondsOf rec step =
 abbrev pub rowOf : ℕ → ℕ → ℕ → Row
 rowOf order step left = record { step = step; left = left; steady = steadyOf order step; flashing = flashingOf order step }
 
--- n seconds of a step, "this one counted": from n left down to 1. "A step of 0 seconds is passed over."
-unfoldable pub counted : ℕ → ℕ → ℕ → List Row
-counted order step zero = []
-counted order step (suc n) = rowOf order step (suc n) ∷ counted order step n
+-- n seconds of a step, "this one countedDown": from n left down to 1. "A step of 0 seconds is passed over."
+unfoldable pub countedDown : ℕ → ℕ → ℕ → List Row
+countedDown order step zero = []
+countedDown order step (suc n) = rowOf order step (suc n) ∷ countedDown order step n
 
 -- n steps from one on, each with its seconds
 unfoldable pub rowsFrom : (ℕ → ℕ) → ℕ → ℕ → ℕ → List Row
 rowsFrom sec order step zero = []
-rowsFrom sec order step (suc n) = counted order step (sec step) ++ rowsFrom sec order (step + 1) n
+rowsFrom sec order step (suc n) = countedDown order step (sec step) ++ rowsFrom sec order (step + 1) n
 
 -- the rows of a record's cycle
 unfoldable pub rowsOf : List ℕ → List Row
-rowsOf rec = rowsFrom (secondsOf rec) (orderOf rec) 1 (stepsOf rec)
+rowsOf rec = rowsFrom (secondsOf rec) (orderOf rec) 1 (stepsOfPlan rec)
 
 -- where there is no row: step 0, which no row has, and all lamps dark
 abbrev pub noRow : Row

@@ -1,7 +1,7 @@
 // 01, "Lamps and seconds": the seconds of a step, and what each second of a plan's cycle shows.
 ghost use mathlib.Core.Path.{_≡_};
 ghost use Prim.Native.Nat.{_-_};
-ghost use Rattle.lamps.specs.Rows.{stepsOf, greenLess, secondsOf, rowOf, rowAt};
+ghost use Rattle.lamps.specs.Rows.{stepsOfPlan, greenLess, secondsOf, rowOf, rowAt};
 
 // One second of a cycle: its step, the seconds left in the step with this one counted, and the lamps.
 pub struct Row {
@@ -24,7 +24,7 @@ fn less(a: u16, b: u8) -> u16
 
 // The steps of a record's phases.
 fn steps(rec: &[u8]) -> u16
-    ensures { λ r. ⌜ r ≡ stepsOf (now (rec .entry)) ⌝ }
+    ensures { λ r. ⌜ r ≡ stepsOfPlan (now (rec .entry)) ⌝ }
 {
     diagram::STEPS_A_PHASE * record::count(rec) as u16
 }

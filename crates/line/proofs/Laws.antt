@@ -8,7 +8,7 @@ use denote.Enum.Declared.{tagOf}
 use types.Run.{OneOf, miss}
 use Rattle.line.specs.declared.Seen.{Seen}
 use Rattle.line.specs.declared.Seen.the-variants as seen
-use Rattle.line.specs.declared.Found.the-variants as found
+use Rattle.line.specs.declared.LineFound.the-variants as found
 use Rattle.line.specs.Line.{within, seenOf, wholeOf, endIn}
 use Rattle.line.proofs.Seen.{the-type}
 

@@ -10,11 +10,11 @@ use lib.ListN.{length, replicate}
 use Rattle.octets.proofs.Laws.{pick-by, both-left, both-right}
 use Rattle.line.specs.declared.Seen.{Seen}
 use Rattle.line.specs.declared.Seen.the-variants as seen
-use Rattle.line.specs.declared.Found.{Found}
-use Rattle.line.specs.declared.Found.the-variants as found
+use Rattle.line.specs.declared.LineFound.{LineFound}
+use Rattle.line.specs.declared.LineFound.the-variants as found
 use Rattle.line.specs.declared.Line.{Line}
-use Rattle.line.specs.Line.{letterT, letterB, tab, lineFeed, noDigit, within, hexOf, seenOf, wholeOf, lineAt, nextNumber, octetOf, endIn, endOf}
-use Rattle.line.specs.Promises.{Hex, digit, capital, small, IsSecond, IsOctet, IsBad, Is, second, octet, bad, LineIsOne, NoFeed, founds, after, LineRead, ended, foundIn, joined, NoFeeds, lastLine, Are, none, more, InputRead}
+use Rattle.line.specs.Line.{letterT, letterB, tab, lineFeed, noDigit, within, hexOf, seenOf, wholeOf, lineNumbered, nextNumber, lineOctet, endIn, endOf}
+use Rattle.line.specs.Promises.{Hex, digit, capital, small, IsSecond, IsOctet, IsBad, Is, second, octet, bad, LineIsOne, NoFeed, founds, lineAfter, LineRead, linesFound, foundIn, joined, NoFeeds, lastLine, Are, none, more, InputRead}
 use Rattle.line.proofs.Laws.{inside, above}
 
 -- Digits
@@ -130,22 +130,22 @@ is-whole n xs = is-told n xs (seenAll seen.Nothing xs) refl (led seen.Nothing []
 
 -- Octet by octet
 
-on-more : (s : Seen) (n o : ℕ) → (o ≡ lineFeed → ⊥) → octetOf (record { seen = s; number = n }) o ≡ record { line = record { seen = seenOf s o; number = n }; found = found.More }
-unfolding octetOf
+on-more : (s : Seen) (n o : ℕ) → (o ≡ lineFeed → ⊥) → lineOctet (record { seen = s; number = n }) o ≡ record { line = record { seen = seenOf s o; number = n }; found = found.More }
+unfolding lineOctet
 on-more s n o h = rw (ne-eqb o lineFeed h)
 
-after-all : (s : Seen) (n : ℕ) (xs : List ℕ) → NoFeed xs → after (record { seen = s; number = n }) xs ≡ record { seen = seenAll s xs; number = n }
-unfolding after
+after-all : (s : Seen) (n : ℕ) (xs : List ℕ) → NoFeed xs → lineAfter (record { seen = s; number = n }) xs ≡ record { seen = seenAll s xs; number = n }
+unfolding lineAfter
 after-all s n [] h = refl
 after-all s n (x ∷ xs) h = rw (on-more s n x (h .0)) (after-all (seenOf s x) n xs (h .1))
 
 founds-more : (s : Seen) (n : ℕ) (xs : List ℕ) → NoFeed xs → founds (record { seen = s; number = n }) xs ≡ replicate (length xs) found.More
 unfolding founds
 founds-more s n [] h = refl
-founds-more s n (x ∷ xs) h = rw (on-more s n x (h .0)) (ap {B = List Found} (λ fs. found.More ∷ fs) (founds-more (seenOf s x) n xs (h .1)))
+founds-more s n (x ∷ xs) h = rw (on-more s n x (h .0)) (ap {B = List LineFound} (λ fs. found.More ∷ fs) (founds-more (seenOf s x) n xs (h .1)))
 
 pub line-read : LineRead
-unfolding octetOf
+unfolding lineOctet
 line-read n xs h =
     let e = after-all seen.Nothing n xs h in
     record { before = founds-more seen.Nothing n xs h; found = rw e (is-whole n xs); next = rw e }
@@ -163,32 +163,32 @@ line-is-one n xs f g (bad p) (bad q) = refl
 
 -- A whole input
 
-founds-append : (l : Line) (xs ys : List ℕ) → founds l (xs ++ ys) ≡ founds l xs ++ founds (after l xs) ys
-unfolding founds after
+founds-append : (l : Line) (xs ys : List ℕ) → founds l (xs ++ ys) ≡ founds l xs ++ founds (lineAfter l xs) ys
+unfolding founds lineAfter
 founds-append l [] ys = refl
-founds-append l (x ∷ xs) ys = ap {B = List Found} (λ fs. octetOf l x .found ∷ fs) (founds-append (octetOf l x .line) xs ys)
+founds-append l (x ∷ xs) ys = ap {B = List LineFound} (λ fs. lineOctet l x .found ∷ fs) (founds-append (lineOctet l x .line) xs ys)
 
-after-append : (l : Line) (xs ys : List ℕ) → after l (xs ++ ys) ≡ after (after l xs) ys
-unfolding after
+after-append : (l : Line) (xs ys : List ℕ) → lineAfter l (xs ++ ys) ≡ lineAfter (lineAfter l xs) ys
+unfolding lineAfter
 after-append l [] ys = refl
-after-append l (x ∷ xs) ys = after-append (octetOf l x .line) xs ys
+after-append l (x ∷ xs) ys = after-append (lineOctet l x .line) xs ys
 
-ended-more : (k : ℕ) (fs : List Found) → ended (replicate k found.More ++ fs) ≡ ended fs
+ended-more : (k : ℕ) (fs : List LineFound) → linesFound (replicate k found.More ++ fs) ≡ linesFound fs
 ended-more zero fs = refl
 ended-more (suc k) fs = ended-more k fs
 
 -- what is found is told
-ended-is : (n : ℕ) (xs : List ℕ) (f : Found) (fs : List Found) → Is n xs f → ended (f ∷ fs) ≡ f ∷ ended fs
+ended-is : (n : ℕ) (xs : List ℕ) (f : LineFound) (fs : List LineFound) → Is n xs f → linesFound (f ∷ fs) ≡ f ∷ linesFound fs
 ended-is n xs f fs (second p) = refl
 ended-is n xs f fs (octet p) = refl
 ended-is n xs f fs (bad p) = refl
 
-line-first : (n : ℕ) (xs os : List ℕ) → NoFeed xs → foundIn (lineAt n) (xs ++ (lineFeed ∷ os)) ≡ wholeOf (seenAll seen.Nothing xs) n ∷ foundIn (lineAt (nextNumber n)) os
-unfolding foundIn founds after octetOf
+line-first : (n : ℕ) (xs os : List ℕ) → NoFeed xs → foundIn (lineNumbered n) (xs ++ (lineFeed ∷ os)) ≡ wholeOf (seenAll seen.Nothing xs) n ∷ foundIn (lineNumbered (nextNumber n)) os
+unfolding foundIn founds lineAfter lineOctet
 line-first n xs os h =
     let f = wholeOf (seenAll seen.Nothing xs) n in
-    let fs = founds (lineAt (nextNumber n)) os ++ (endOf (after (lineAt (nextNumber n)) os) ∷ []) in
-    rw (founds-append (lineAt n) xs (lineFeed ∷ os), after-append (lineAt n) xs (lineFeed ∷ os), after-all seen.Nothing n xs h, founds-more seen.Nothing n xs h, append-assoc)
+    let fs = founds (lineNumbered (nextNumber n)) os ++ (endOf (lineAfter (lineNumbered (nextNumber n)) os) ∷ []) in
+    rw (founds-append (lineNumbered n) xs (lineFeed ∷ os), after-append (lineNumbered n) xs (lineFeed ∷ os), after-all seen.Nothing n xs h, founds-more seen.Nothing n xs h, append-assoc)
     (ended-more (length xs) (f ∷ fs) ∙ ended-is n xs f fs (is-whole n xs))
 
 -- where something was seen, the end of the input finds what a line feed would
@@ -201,12 +201,12 @@ end-whole n (seen.High h) x xs e = refl
 end-whole n (seen.Octet b) x xs e = refl
 end-whole n seen.Bad x xs e = refl
 
-last-found : (n : ℕ) (xs : List ℕ) → NoFeed xs → foundIn (lineAt n) xs ≡ ended (endIn (seenAll seen.Nothing xs) n ∷ [])
+last-found : (n : ℕ) (xs : List ℕ) → NoFeed xs → foundIn (lineNumbered n) xs ≡ linesFound (endIn (seenAll seen.Nothing xs) n ∷ [])
 unfolding foundIn endOf
 last-found n xs h =
     rw (after-all seen.Nothing n xs h, founds-more seen.Nothing n xs h) (ended-more (length xs) (endIn (seenAll seen.Nothing xs) n ∷ []))
 
-last-read : (n : ℕ) (xs : List ℕ) → NoFeed xs → Are n (lastLine xs) (foundIn (lineAt n) xs)
+last-read : (n : ℕ) (xs : List ℕ) → NoFeed xs → Are n (lastLine xs) (foundIn (lineNumbered n) xs)
 last-read n [] h = rw (last-found n [] h) none
 last-read n (x ∷ xs) h =
     let s = seenAll seen.Nothing (x ∷ xs) in
@@ -214,7 +214,7 @@ last-read n (x ∷ xs) h =
     let e = end-whole n s x xs (led seen.Nothing [] (x ∷ xs) refl) in
     rw (last-found n (x ∷ xs) h, e, ended-is n (x ∷ xs) (wholeOf s n) [] i) (more i none)
 
-read-from : (n : ℕ) (ls : List (List ℕ)) (last : List ℕ) → NoFeeds ls → NoFeed last → Are n (ls ++ lastLine last) (foundIn (lineAt n) (joined ls ++ last))
+read-from : (n : ℕ) (ls : List (List ℕ)) (last : List ℕ) → NoFeeds ls → NoFeed last → Are n (ls ++ lastLine last) (foundIn (lineNumbered n) (joined ls ++ last))
 read-from n [] last h k = last-read n last k
 read-from n (xs ∷ ls) last h k =
     rw (append-assoc xs (lineFeed ∷ joined ls) last, line-first n xs (joined ls ++ last) (h .0))

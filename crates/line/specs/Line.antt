@@ -5,10 +5,10 @@ use lib.Dec.{leb, eqb}
 use Rattle.octets.specs.Choice.{pick, both}
 use Rattle.line.specs.declared.Seen.{Seen}
 use Rattle.line.specs.declared.Seen.the-variants as seen
-use Rattle.line.specs.declared.Found.{Found}
-use Rattle.line.specs.declared.Found.the-variants as found
+use Rattle.line.specs.declared.LineFound.{LineFound}
+use Rattle.line.specs.declared.LineFound.the-variants as found
 use Rattle.line.specs.declared.Line.{Line}
-use Rattle.line.specs.declared.Read.{Read}
+use Rattle.line.specs.declared.LineTaken.{LineTaken}
 
 -- the octets that a line may have, and the one that ends it
 abbrev pub letterT : ℕ
@@ -39,29 +39,29 @@ hexOf o =
 
 -- What has been seen with one octet more, which is no line feed
 
-abbrev pub firstOf : ℕ → Seen
-firstOf o = pick (eqb o letterT) seen.Second (pick (eqb o letterB) seen.Begun seen.Bad)
+abbrev pub firstSeen : ℕ → Seen
+firstSeen o = pick (eqb o letterT) seen.Second (pick (eqb o letterB) seen.Begun seen.Bad)
 
 abbrev pub dueOf : ℕ → ℕ → Seen → Seen
 dueOf o only then = pick (eqb o only) then seen.Bad
 
-abbrev pub highOf : ℕ → Seen
-highOf o = pick (eqb (hexOf o) noDigit) seen.Bad (seen.High (hexOf o))
+abbrev pub highDigit : ℕ → Seen
+highDigit o = pick (eqb (hexOf o) noDigit) seen.Bad (seen.High (hexOf o))
 
-abbrev pub lowOf : ℕ → ℕ → Seen
-lowOf h o = pick (eqb (hexOf o) noDigit) seen.Bad (seen.Octet (h % 16 * 16 + hexOf o % 16))
+abbrev pub lowDigit : ℕ → ℕ → Seen
+lowDigit h o = pick (eqb (hexOf o) noDigit) seen.Bad (seen.Octet (h % 16 * 16 + hexOf o % 16))
 
 abbrev pub seenOf : Seen → ℕ → Seen
-seenOf seen.Nothing o = firstOf o
+seenOf seen.Nothing o = firstSeen o
 seenOf seen.Begun o = dueOf o tab seen.Tab
-seenOf seen.Tab o = highOf o
-seenOf (seen.High h) o = lowOf h o
+seenOf seen.Tab o = highDigit o
+seenOf (seen.High h) o = lowDigit h o
 seenOf seen.Second o = seen.Bad
 seenOf (seen.Octet b) o = seen.Bad
 seenOf seen.Bad o = seen.Bad
 
 -- what a whole line is, n being its number
-abbrev pub wholeOf : Seen → ℕ → Found
+abbrev pub wholeOf : Seen → ℕ → LineFound
 wholeOf seen.Second n = found.Second
 wholeOf (seen.Octet b) n = found.Octet b
 wholeOf seen.Nothing n = found.Bad n
@@ -73,24 +73,24 @@ wholeOf seen.Bad n = found.Bad n
 -- The calls
 
 -- "its number from 1"
-abbrev pub lineAt : ℕ → Line
-lineAt n = record { seen = seen.Nothing; number = n }
+abbrev pub lineNumbered : ℕ → Line
+lineNumbered n = record { seen = seen.Nothing; number = n }
 
-abbrev pub startOf : Line
-startOf = lineAt 1
+abbrev pub firstLine : Line
+firstLine = lineNumbered 1
 
 -- the number of the next line, modulo 2^64
 abbrev pub nextNumber : ℕ → ℕ
 nextNumber n = (n + 1) % 2 ^ 64
 
 -- one octet of the input
-unfoldable pub octetOf : Line → ℕ → Read
-octetOf l o =
-    pick (eqb o lineFeed) (record { line = lineAt (nextNumber (l .number)); found = wholeOf (l .seen) (l .number) })
+unfoldable pub lineOctet : Line → ℕ → LineTaken
+lineOctet l o =
+    pick (eqb o lineFeed) (record { line = lineNumbered (nextNumber (l .number)); found = wholeOf (l .seen) (l .number) })
     (record { line = record { seen = seenOf (l .seen) o; number = l .number }; found = found.More })
 
 -- what the end of the input finds in what has been seen of line n; nothing seen is no line
-abbrev pub endIn : Seen → ℕ → Found
+abbrev pub endIn : Seen → ℕ → LineFound
 endIn seen.Nothing n = found.More
 endIn seen.Second n = found.Second
 endIn (seen.Octet b) n = found.Octet b
@@ -99,5 +99,5 @@ endIn seen.Tab n = found.Bad n
 endIn (seen.High h) n = found.Bad n
 endIn seen.Bad n = found.Bad n
 
-unfoldable pub endOf : Line → Found
+unfoldable pub endOf : Line → LineFound
 endOf l = endIn (l .seen) (l .number)

@@ -3,10 +3,10 @@ use Prim.Native.Nat.{ℕ, _+_, _*_, _-_, _≤_, _<_}
 use mathlib.Core.Path.{_≡_}
 use mathlib.Core.List.{List, [], _∷_, _++_}
 use lib.ListN.{length, replicate}
-use Rattle.line.specs.declared.Found.{Found}
-use Rattle.line.specs.declared.Found.the-variants as found
+use Rattle.line.specs.declared.LineFound.{LineFound}
+use Rattle.line.specs.declared.LineFound.the-variants as found
 use Rattle.line.specs.declared.Line.{Line}
-use Rattle.line.specs.Line.{letterT, letterB, tab, lineFeed, lineAt, startOf, nextNumber, octetOf, endOf}
+use Rattle.line.specs.Line.{letterT, letterB, tab, lineFeed, lineNumbered, firstLine, nextNumber, lineOctet, endOf}
 
 -- What a line is
 
@@ -37,14 +37,14 @@ pub record IsBad (xs : List ℕ) : Type 0 where
   pub octet : (b : ℕ) → IsOctet xs b → ⊥
 
 -- what the line with these octets is; "for a bad line .. its number", which is n
-pub data Is (n : ℕ) (xs : List ℕ) : Found → Type 0 where
+pub data Is (n : ℕ) (xs : List ℕ) : LineFound → Type 0 where
   second : IsSecond xs → Is n xs found.Second
   octet : {b : ℕ} → IsOctet xs b → Is n xs (found.Octet b)
   bad : IsBad xs → Is n xs (found.Bad n)
 
 -- it is one thing only
 abbrev pub LineIsOne : Type 0
-LineIsOne = (n : ℕ) (xs : List ℕ) (f g : Found) → Is n xs f → Is n xs g → f ≡ g
+LineIsOne = (n : ℕ) (xs : List ℕ) (f g : LineFound) → Is n xs f → Is n xs g → f ≡ g
 
 -- Reading one line
 
@@ -53,36 +53,36 @@ abbrev pub NoFeed : List ℕ → Type 0
 NoFeed [] = Unit
 NoFeed (x ∷ xs) = (x ≡ lineFeed → ⊥) × NoFeed xs
 
--- octets taken one after another: what each finds, and the line then under way
-unfoldable pub founds : Line → List ℕ → List Found
+-- octets taken one lineAfter another: what each finds, and the line then under way
+unfoldable pub founds : Line → List ℕ → List LineFound
 founds l [] = []
-founds l (o ∷ os) = octetOf l o .found ∷ founds (octetOf l o .line) os
+founds l (o ∷ os) = lineOctet l o .found ∷ founds (lineOctet l o .line) os
 
-unfoldable pub after : Line → List ℕ → Line
-after l [] = l
-after l (o ∷ os) = after (octetOf l o .line) os
+unfoldable pub lineAfter : Line → List ℕ → Line
+lineAfter l [] = l
+lineAfter l (o ∷ os) = lineAfter (lineOctet l o .line) os
 
-pub record ReadSo (n : ℕ) (xs : List ℕ) : Type 0 where
-  pub before : founds (lineAt n) xs ≡ replicate (length xs) found.More
-  pub found : Is n xs (octetOf (after (lineAt n) xs) lineFeed .found)
-  pub next : octetOf (after (lineAt n) xs) lineFeed .line ≡ lineAt (nextNumber n)
+pub record LineReadSo (n : ℕ) (xs : List ℕ) : Type 0 where
+  pub before : founds (lineNumbered n) xs ≡ replicate (length xs) found.More
+  pub found : Is n xs (lineOctet (lineAfter (lineNumbered n) xs) lineFeed .found)
+  pub next : lineOctet (lineAfter (lineNumbered n) xs) lineFeed .line ≡ lineNumbered (nextNumber n)
 
 -- nothing is found before the line feed, then what the line is, and the next line has nothing of it
 abbrev pub LineRead : Type 0
-LineRead = (n : ℕ) (xs : List ℕ) → NoFeed xs → ReadSo n xs
+LineRead = (n : ℕ) (xs : List ℕ) → NoFeed xs → LineReadSo n xs
 
 -- Reading a whole input
 
 -- all that was found, in order
-abbrev pub ended : List Found → List Found
-ended [] = []
-ended (found.More ∷ fs) = ended fs
-ended (found.Second ∷ fs) = found.Second ∷ ended fs
-ended (found.Octet b ∷ fs) = found.Octet b ∷ ended fs
-ended (found.Bad n ∷ fs) = found.Bad n ∷ ended fs
+abbrev pub linesFound : List LineFound → List LineFound
+linesFound [] = []
+linesFound (found.More ∷ fs) = linesFound fs
+linesFound (found.Second ∷ fs) = found.Second ∷ linesFound fs
+linesFound (found.Octet b ∷ fs) = found.Octet b ∷ linesFound fs
+linesFound (found.Bad n ∷ fs) = found.Bad n ∷ linesFound fs
 
-unfoldable pub foundIn : Line → List ℕ → List Found
-foundIn l os = ended (founds l os ++ (endOf (after l os) ∷ []))
+unfoldable pub foundIn : Line → List ℕ → List LineFound
+foundIn l os = linesFound (founds l os ++ (endOf (lineAfter l os) ∷ []))
 
 -- lines, each with its line feed
 abbrev pub joined : List (List ℕ) → List ℕ
@@ -99,10 +99,10 @@ lastLine [] = []
 lastLine (x ∷ xs) = (x ∷ xs) ∷ []
 
 -- what the lines are, in order, the first being number n
-pub data Are : ℕ → List (List ℕ) → List Found → Type 0 where
+pub data Are : ℕ → List (List ℕ) → List LineFound → Type 0 where
   none : {n : ℕ} → Are n [] []
-  more : {n : ℕ} {xs : List ℕ} {f : Found} {ls : List (List ℕ)} {fs : List Found} → Is n xs f → Are (nextNumber n) ls fs → Are n (xs ∷ ls) (f ∷ fs)
+  more : {n : ℕ} {xs : List ℕ} {f : LineFound} {ls : List (List ℕ)} {fs : List LineFound} → Is n xs f → Are (nextNumber n) ls fs → Are n (xs ∷ ls) (f ∷ fs)
 
 -- every line is found once, in order and with its number from 1, and nothing else is found
 abbrev pub InputRead : Type 0
-InputRead = (ls : List (List ℕ)) (last : List ℕ) → NoFeeds ls → NoFeed last → Are 1 (ls ++ lastLine last) (foundIn startOf (joined ls ++ last))
+InputRead = (ls : List (List ℕ)) (last : List ℕ) → NoFeeds ls → NoFeed last → Are 1 (ls ++ lastLine last) (foundIn firstLine (joined ls ++ last))

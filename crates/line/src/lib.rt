@@ -1,7 +1,7 @@
 // 01, "Cases": the listing program "reads lines: `T` is a second, `B`, tab, two hex digits an octet". One octet a call, by
 // value: no line is held, so none is too long to be told bad.
 ghost use mathlib.Core.Path.{_≡_};
-ghost use Rattle.line.specs.Line.{hexOf, firstOf, dueOf, highOf, lowOf, seenOf, wholeOf, startOf, octetOf, endOf};
+ghost use Rattle.line.specs.Line.{hexOf, firstSeen, dueOf, highDigit, lowDigit, seenOf, wholeOf, firstLine, lineOctet, endOf};
 
 // What ends a line, and what parts its fields.
 const LINE_FEED: u8 = b'\n';
@@ -29,21 +29,21 @@ pub struct Line {
 }
 
 // What a line is; `More` where none has ended. A bad line has its number.
-pub enum Found {
+pub enum LineFound {
     More,
     Second,
     Octet(u8),
     Bad(u64),
 }
 
-pub struct Read {
+pub struct LineTaken {
     pub line: Line,
-    pub found: Found,
+    pub found: LineFound,
 }
 
 // The first line, of which nothing has been seen.
 pub fn line_start() -> Line
-    ensures { λ r. ⌜ r ≡ startOf ⌝ }
+    ensures { λ r. ⌜ r ≡ firstLine ⌝ }
 {
     Line {
         seen: Seen::Nothing,
@@ -52,13 +52,13 @@ pub fn line_start() -> Line
 }
 
 // One octet of the input.
-pub fn line_octet(l: Line, o: u8) -> Read
-    ensures { λ r. ⌜ r ≡ octetOf l o ⌝ }
+pub fn line_octet(l: Line, o: u8) -> LineTaken
+    ensures { λ r. ⌜ r ≡ lineOctet l o ⌝ }
 {
     let s = l.seen;
     let n = l.number;
     if o == LINE_FEED {
-        return Read {
+        return LineTaken {
             line: Line {
                 seen: Seen::Nothing,
                 number: std::num::wrapping_add_u64(n, 1),
@@ -66,35 +66,35 @@ pub fn line_octet(l: Line, o: u8) -> Read
             found: whole(s, n),
         };
     }
-    Read {
+    LineTaken {
         line: Line {
             seen: seen_with(s, o),
             ..l
         },
-        found: Found::More,
+        found: LineFound::More,
     }
 }
 
 // The end of the input: what the last line is where it lacks its line feed.
-pub fn line_end(l: Line) -> Found
+pub fn line_end(l: Line) -> LineFound
     ensures { λ r. ⌜ r ≡ endOf l ⌝ }
 {
     let s = l.seen;
     let n = l.number;
     match s {
-        Seen::Nothing => Found::More,
+        Seen::Nothing => LineFound::More,
         _ => whole(s, n),
     }
 }
 
 // What a whole line is, n being its number.
-fn whole(s: Seen, n: u64) -> Found
+fn whole(s: Seen, n: u64) -> LineFound
     ensures { λ r. ⌜ r ≡ wholeOf s n ⌝ }
 {
     match s {
-        Seen::Second => Found::Second,
-        Seen::Octet(b) => Found::Octet(b),
-        _ => Found::Bad(n),
+        Seen::Second => LineFound::Second,
+        Seen::Octet(b) => LineFound::Octet(b),
+        _ => LineFound::Bad(n),
     }
 }
 
@@ -112,7 +112,7 @@ fn seen_with(s: Seen, o: u8) -> Seen
 }
 
 fn first(o: u8) -> Seen
-    ensures { λ r. ⌜ r ≡ firstOf o ⌝ }
+    ensures { λ r. ⌜ r ≡ firstSeen o ⌝ }
 {
     match o {
         b'T' => Seen::Second,
@@ -128,7 +128,7 @@ fn due(o: u8, only: u8, then: Seen) -> Seen
 }
 
 fn high(o: u8) -> Seen
-    ensures { λ r. ⌜ r ≡ highOf o ⌝ }
+    ensures { λ r. ⌜ r ≡ highDigit o ⌝ }
 {
     let d = hex(o);
     if d == NO_DIGIT {
@@ -138,7 +138,7 @@ fn high(o: u8) -> Seen
 }
 
 fn low(h: u8, o: u8) -> Seen
-    ensures { λ r. ⌜ r ≡ lowOf h o ⌝ }
+    ensures { λ r. ⌜ r ≡ lowDigit h o ⌝ }
 {
     let d = hex(o);
     if d == NO_DIGIT {

@@ -3,13 +3,13 @@
 ghost use Prim.Native.Nat.{_≤_};
 ghost use lib.ListN.{length};
 ghost use Rattle.octets.specs.Put.{Stored};
-ghost use Rattle.printout.specs.Run.{madeOf};
+ghost use Rattle.printout.specs.Run.{lineMade};
 ghost use Rattle.listing.specs.Room.{Room, half};
 use controller::OUTPUT_LEN;
 use libc::STDIN_FILENO;
 use libc::STDOUT_FILENO;
-use line::Found;
 use line::Line;
+use line::LineFound;
 use printout::run;
 use printout::run::Run;
 use record::BOOK_LEN;
@@ -108,7 +108,7 @@ fn taken(g: Reading, s: &[u8], book: &mut [u8], out: &mut [u8], text: &mut [u8])
         l = read.line;
         let f = read.found;
         match f {
-            Found::More => {}
+            LineFound::More => {}
             _ => {
                 r = done(r, f, &mut *book, &mut *out, &mut *text);
             }
@@ -118,7 +118,7 @@ fn taken(g: Reading, s: &[u8], book: &mut [u8], out: &mut [u8], text: &mut [u8])
 }
 
 // A line that has ended.
-fn done(run: Run, f: Found, book: &mut [u8], out: &mut [u8], text: &mut [u8]) -> Run
+fn done(run: Run, f: LineFound, book: &mut [u8], out: &mut [u8], text: &mut [u8]) -> Run
     requires { ⌜ Room run (now text) ⌝ }
     ensures { λ r. ⌜ Room r (now (text .exit)) ⌝ }
 {
@@ -127,9 +127,9 @@ fn done(run: Run, f: Found, book: &mut [u8], out: &mut [u8], text: &mut [u8]) ->
 }
 
 // The text of a line is never dropped: with half the text free there is room for it.
-fn listed(run: Run, f: Found, book: &mut [u8], out: &mut [u8], text: &mut [u8]) -> Run
+fn listed(run: Run, f: LineFound, book: &mut [u8], out: &mut [u8], text: &mut [u8]) -> Run
     requires { ⌜ Room run (now text) ⌝ }
-    ensures { λ r. ⌜ Stored (madeOf f (run .state) (run .seconds) (now (book .entry)) (now (out .entry)) .said .text) (run .used) (now (text .entry)) (r .used) (now (text .exit)) ⌝ }
+    ensures { λ r. ⌜ Stored (lineMade f (run .state) (run .seconds) (now (book .entry)) (now (out .entry)) .said .text) (run .used) (now (text .entry)) (r .used) (now (text .exit)) ⌝ }
 {
     run::on_line(run, f, book, out, text)
 }

@@ -15,16 +15,16 @@ use Rattle.message.specs.declared.Read.{Read}
 use Rattle.message.specs.declared.layout.Field.{Field}
 use Rattle.message.specs.Layouts.{layoutAt, codes, numberOf, rowsAt}
 use Rattle.message.specs.Values.{valuesOf, placed}
-use Rattle.message.specs.Reader.{readAs, kIn, partOf, codeIn, bodyIn, readOf, refusedAs}
-use Rattle.message.specs.Writer.{numberIn, kOf}
-use Rattle.message.specs.Promises.{accepted, Writable, RightAt, Known, RightLength, unknown, wrongLength, outOfRange, Judged, short, body}
+use Rattle.message.specs.Reader.{readAs, kIn, partOf, codeIn, bodyIn, readOf, notRead}
+use Rattle.message.specs.Writer.{numberIn, kOfMessage}
+use Rattle.message.specs.Promises.{accepted, Writable, RightAt, HasLayout, RightLength, unknown, wrongLength, outOfRange, Judged, short, body}
 use Rattle.message.proofs.Ranges.{placed-at, right-same}
 use Rattle.message.proofs.Reading.{k-placed}
 use Rattle.message.proofs.Values.{length-values}
 use Rattle.message.proofs.ReadSo.{read-so}
 
 pub record Accepted (info : List ℕ) (r : Read) : Type 0 where
-  pub known : Known (numberOf (codeIn info))
+  pub known : HasLayout (numberOf (codeIn info))
   pub long : codeLen ≤ length info
   pub right : RightLength (numberOf (codeIn info)) (kIn (layoutAt (numberOf (codeIn info))) (bodyIn info)) (bodyIn info)
   pub ranges : (let l = numberOf (codeIn info) in
@@ -33,7 +33,7 @@ pub record Accepted (info : List ℕ) (r : Read) : Type 0 where
   pub read : r ≡ readAs (partOf (numberOf (codeIn info)) (kIn (layoutAt (numberOf (codeIn info))) (bodyIn info)) (bodyIn info))
 
 accepted-as : {info : List ℕ} {r : Read} → Judged info r → r .refusal ≡ refusal.none → Accepted info r
-unfolding refusedAs
+unfolding notRead
 accepted-as (short h) e = absurd (omega arith)
 accepted-as (body h (unknown n)) e = absurd (omega arith)
 accepted-as (body h (wrongLength kn n)) e = absurd (omega arith)
@@ -81,11 +81,11 @@ module _ (info : List ℕ) (h : Accepted info (readOf info)) where
   number-is : numberIn readPart ≡ number
   number-is = ap numberOf code-is
 
-  k-is : kOf readPart ≡ count
+  k-is : kOfMessage readPart ≡ count
   unfolding partOf
   k-is = rw number-is (k-placed number count (bodyIn info))
 
-  pub rows-is : rowsAt (numberIn readPart) (kOf readPart) ≡ readRows
+  pub rows-is : rowsAt (numberIn readPart) (kOfMessage readPart) ≡ readRows
   rows-is = rw (k-is, number-is)
 
   pub again : Writable readPart

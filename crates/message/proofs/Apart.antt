@@ -34,7 +34,7 @@ use denote.Triple.Clauses.{Clauses, Ended, closing, ensured, lasts}
 use denote.Triple.Entry.{Vals, onEntry}
 use denote.Triple.Spec.{Meets, tripleOf}
 use denote.Triple.Walked.{says, Stays, stay-none, walkOf, goes-none, Walks, ends-at, walked, walk-meets}
-use Rattle.message.specs.Info.{opened}
+use Rattle.message.specs.Info.{readerAt}
 use Rattle.message.specs.declared.info.Reader.{Reader}
 use Rattle.message.proofs.info.Reader as T
 use Rattle.message.proofs.info.Reader.Laws as T′
@@ -76,7 +76,7 @@ module _ (R : Lfts 1 → RattleType) (ty : Ty) (Told : (κs : Lfts 1) → Reader
     clauses κs a = record { ghost = Unit {0}; requires = λ _. emp 𝓤; ensures = λ _ r _. fact 𝓤 (Told κs (a .0) r) }
 
     abbrev step-clauses : Clauses 𝓤 step
-    step-clauses κs a = record { ghost = Unit {0}; requires = λ _. emp 𝓤; ensures = λ _ r _. fact 𝓤 (Told κs (opened (a .0) (a .1 .0)) r) }
+    step-clauses κs a = record { ghost = Unit {0}; requires = λ _. emp 𝓤; ensures = λ _ r _. fact 𝓤 (Told κs (readerAt (a .0) (a .1 .0)) r) }
 
     abbrev Step : Contract 𝓤
     Step = tripleOf 𝓤 H A (step .signature) (closing 𝓤 H A step step-clauses)

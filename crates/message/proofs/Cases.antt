@@ -4,12 +4,12 @@ use Rattle.octets.specs.First.{firstOf}
 use Rattle.octets.specs.Writing.{writtenAs}
 use Rattle.diagram.specs.Rows.{directory}
 use Rattle.diagram.specs.Table.{find, diagramOf}
-use Rattle.message.specs.Layouts.{layouts, layoutAt, known, numberOf, rowsOf, rowsAt}
+use Rattle.message.specs.Layouts.{layouts, layoutAt, known, numberOf, layoutRows, rowsAt}
 use Rattle.message.specs.Values.{zeros, placed, firstOut}
-use Rattle.message.specs.Reader.{noMessage, refusedAs, partOf, rangedOf, readPartOf, readOf}
-use Rattle.message.specs.Writer.{writableAs, infoAs, writeOf}
-use Rattle.message.specs.Cases.{read, dueRead, edges, dueEdges, written, dueWritten, MessageCases}
+use Rattle.message.specs.Reader.{noMessage, notRead, partOf, rangedOf, readPartOf, readOf}
+use Rattle.message.specs.Writer.{writableAs, infoAs, writeMessage}
+use Rattle.message.specs.Cases.{messagesRead, dueMessagesRead, edges, dueEdges, messagesWritten, dueMessagesWritten, MessageCases}
 
 pub message-cases : MessageCases
-unfolding read dueRead edges dueEdges written dueWritten firstOf directory find diagramOf layouts layoutAt known numberOf rowsOf rowsAt zeros placed firstOut noMessage refusedAs partOf rangedOf readPartOf readOf writtenAs writableAs infoAs writeOf
+unfolding messagesRead dueMessagesRead edges dueEdges messagesWritten dueMessagesWritten firstOf directory find diagramOf layouts layoutAt known numberOf layoutRows rowsAt zeros placed firstOut noMessage notRead partOf rangedOf readPartOf readOf writtenAs writableAs infoAs writeMessage
 message-cases = (refl, refl, refl)

@@ -18,7 +18,7 @@ use Rattle.message.specs.declared.layout.Field.{Field}
 use Rattle.message.specs.declared.layout.Field.the-variants.{Octet, Two, Order}
 use Rattle.message.specs.Fields.{twoOf, widthOf, valueOf, fieldOctets, noField}
 use Rattle.message.specs.Layouts as specified
-use Rattle.message.specs.Layouts.{layouts, layoutAt, noLayout, rowsOf, rowsAt, repeated}
+use Rattle.message.specs.Layouts.{layouts, layoutAt, noLayout, layoutRows, rowsAt, repeated}
 use Rattle.message.specs.Values.{fieldsMost, sizeOf, valuesOf, octetsOf, placed}
 use Rattle.message.specs.Promises.{InRange, RightAt}
 use Rattle.message.proofs.Ranges.{both-true, placed-at}
@@ -57,7 +57,7 @@ unfolding layouts layoutAt every
 narrow-layout l = every-at narrowAll layouts l noLayout refl (λ _. refl)
 
 narrow-rows : (l k : ℕ) → every narrow (rowsAt l k) ≡ true
-unfolding rowsAt rowsOf
+unfolding rowsAt layoutRows
 narrow-rows l k =
     let y = layoutAt l in
     let a = every narrow (y .head) in

@@ -15,10 +15,10 @@ use Rattle.octets.proofs.Laws.{both-left, both-right, getD-past}
 use Rattle.octets.proofs.Every.{every, every-at}
 use Rattle.message.specs.declared.layout.Entry.{Entry}
 use Rattle.message.specs.declared.layout.Field.{Field}
-use Rattle.message.specs.declared.layout.Layout.{Layout}
+use Rattle.message.specs.declared.layout.LayoutLine.{LayoutLine}
 use Rattle.message.specs.Fields.{noField}
 use Rattle.message.specs.Layouts as specified
-use Rattle.message.specs.Layouts.{layouts, layoutAt, noLayout, mostAt, rowsOf, rowsAt, kFits, repeated}
+use Rattle.message.specs.Layouts.{layouts, layoutAt, noLayout, mostAt, layoutRows, rowsAt, kFits, repeated}
 use Rattle.message.specs.Values.{fieldsMost}
 use Rattle.message.specs.Table.{table, tableLen, cut, keptBy, Kept}
 
@@ -54,7 +54,7 @@ module _ (from n : ℕ) (h : from + n ≤ tableLen) where
   pub cut-past : (i : ℕ) → n ≤ i → getD (cut from n) i noField ≡ noField
   cut-past i l = List·getD-eq-default (cut from n) noField (rw length-cut l)
 
-module _ (y : Layout) (k i : ℕ) (h : y .from + y .head + y .group + y .tail ≤ tableLen) where
+module _ (y : LayoutLine) (k i : ℕ) (h : y .from + y .head + y .group + y .tail ≤ tableLen) where
   head-len : length (cut (y .from) (y .head)) ≡ y .head
   head-len = length-cut (y .from) (y .head) (omega arith)
 
@@ -64,25 +64,25 @@ module _ (y : Layout) (k i : ℕ) (h : y .from + y .head + y .group + y .tail �
   tail-len : length (cut (y .from + y .head + y .group) (y .tail)) ≡ y .tail
   tail-len = length-cut (y .from + y .head + y .group) (y .tail) (omega arith)
 
-  pub rows-len : y .head + k * y .group + y .tail ≡ length (rowsOf (keptBy y) k)
-  unfolding rowsOf
+  pub rows-len : y .head + k * y .group + y .tail ≡ length (layoutRows (keptBy y) k)
+  unfolding layoutRows
   rows-len = simp (length-append, length-repeated, head-len, group-len, tail-len) (omega arith)
 
-  pub row-head : i < y .head → getD (cut (y .from) (y .head)) i noField ≡ getD (rowsOf (keptBy y) k) i noField
-  unfolding rowsOf
+  pub row-head : i < y .head → getD (cut (y .from) (y .head)) i noField ≡ getD (layoutRows (keptBy y) k) i noField
+  unfolding layoutRows
   row-head l = sym (List·getD-append (cut (y .from) (y .head)) _ noField i (rw head-len l))
 
   module _ (m : y .head ≤ i) where
-    past-head : getD (rowsOf (keptBy y) k) i noField
+    past-head : getD (layoutRows (keptBy y) k) i noField
         ≡ getD (repeated k (cut (y .from + y .head) (y .group)) ++ cut (y .from + y .head + y .group) (y .tail)) (i - y .head) noField
-    unfolding rowsOf
+    unfolding layoutRows
     past-head = getD-past (cut (y .from) (y .head)) _ noField i (rw head-len m) ∙ rw head-len
 
-    pub row-group : i - y .head < k * y .group → getD (cut (y .from + y .head) (y .group)) ((i - y .head) % y .group) noField ≡ getD (rowsOf (keptBy y) k) i noField
+    pub row-group : i - y .head < k * y .group → getD (cut (y .from + y .head) (y .group)) ((i - y .head) % y .group) noField ≡ getD (layoutRows (keptBy y) k) i noField
     row-group l = rw past-head (sym (rw group-len at (repeated-at k (cut (y .from + y .head) (y .group)) (cut (y .from + y .head + y .group) (y .tail)) (i - y .head) (rw group-len l))))
 
     pub row-tail : k * y .group ≤ i - y .head
-        → getD (cut (y .from + y .head + y .group) (y .tail)) (i - y .head - k * y .group) noField ≡ getD (rowsOf (keptBy y) k) i noField
+        → getD (cut (y .from + y .head + y .group) (y .tail)) (i - y .head - k * y .group) noField ≡ getD (layoutRows (keptBy y) k) i noField
     row-tail l =
         let e : length (repeated k (cut (y .from + y .head) (y .group))) ≡ k * y .group = length-repeated k (cut (y .from + y .head) (y .group)) ∙ rw group-len in
         rw past-head (sym (rw e at (getD-past (repeated k (cut (y .from + y .head) (y .group))) (cut (y .from + y .head + y .group) (y .tail)) noField (i - y .head) (rw e l))))
@@ -92,7 +92,7 @@ module _ (y : Layout) (k i : ℕ) (h : y .from + y .head + y .group + y .tail �
 abbrev pub noEntry : Entry
 noEntry = (0, 0, 0, 0, 0, 0, 0, 0)
 
-abbrev pub named : Entry → Layout
+abbrev pub named : Entry → LayoutLine
 named e = record { code = e .0; from = e .1; head = e .2; group = e .3; tail = e .4; count = e .5; fewest = e .6; most = e .7 }
 
 abbrev pub inside : Entry → Bool
@@ -112,13 +112,13 @@ pub kept-none : {l : ℕ} → length layouts ≤ l → Kept l (named noEntry)
 unfolding layoutAt cut
 kept-none {l} h = record { is = sym (List·getD-eq-default layouts noLayout h); inside = omega arith }
 
-pub kept-code : {l : ℕ} {y : Layout} → Kept l y → y .code ≡ layoutAt l .code
+pub kept-code : {l : ℕ} {y : LayoutLine} → Kept l y → y .code ≡ layoutAt l .code
 kept-code h = ap (λ (l : specified.Layout). l .code) (h .is)
 
-pub kept-count : {l : ℕ} {y : Layout} → Kept l y → y .count ≡ layoutAt l .count
+pub kept-count : {l : ℕ} {y : LayoutLine} → Kept l y → y .count ≡ layoutAt l .count
 kept-count h = ap (λ (l : specified.Layout). l .count) (h .is)
 
-module _ {l : ℕ} {y : Layout} (h : Kept l y) (k : ℕ) where
+module _ {l : ℕ} {y : LayoutLine} (h : Kept l y) (k : ℕ) where
   pub kept-fits : both (leb (y .fewest) k) (leb k (y .most)) ≡ kFits (layoutAt l) k
   kept-fits = rw (← h .is)
 
@@ -150,8 +150,8 @@ fitting-at : (l : ℕ) → fitting (layoutAt l) ≡ true
 unfolding layouts layoutAt every
 fitting-at l = every-at fitting layouts l noLayout refl (λ _. refl)
 
-pub rows-length : (y : specified.Layout) (k : ℕ) → length (rowsOf y k) ≡ length (y .head) + k * length (y .group) + length (y .tail)
-unfolding rowsOf
+pub rows-length : (y : specified.Layout) (k : ℕ) → length (layoutRows y k) ≡ length (y .head) + k * length (y .group) + length (y .tail)
+unfolding layoutRows
 rows-length y k = simp (length-append, length-repeated) (omega arith)
 
 pub rows-most : (l k : ℕ) → k ≤ mostAt l → length (rowsAt l k) ≤ fieldsMost

@@ -13,9 +13,9 @@ use Rattle.octets.proofs.Search.{search-first}
 use Rattle.message.specs.declared.layout.Field.{Field}
 use Rattle.message.specs.Fields as field
 use Rattle.message.specs.Fields.{twoOf, noField}
-use Rattle.message.specs.Layouts.{layouts, layoutAt, numberOf, rowsAt, rowsOf, repeated, times, greens, cycleOffset}
-use Rattle.message.specs.Values.{sizeOf, startOf}
-use Rattle.message.specs.Promises.{listed, CodesListed, Stands, PhaseFields, GreenFields, TimesFields, PlanFields, OnePlan, FieldNumbers, StoredParts}
+use Rattle.message.specs.Layouts.{layouts, layoutAt, numberOf, rowsAt, layoutRows, repeated, times, greens, cycleOffset}
+use Rattle.message.specs.Values.{sizeOf, fieldStart}
+use Rattle.message.specs.Promises.{listed, CodesListed, FieldStands, PhaseFields, GreenFields, TimesFields, PlanFields, OnePlan, FieldNumbers, StoredParts}
 use Rattle.message.proofs.Layouts.{length-repeated}
 use Rattle.message.proofs.Values.{size-append, size-repeated}
 
@@ -60,7 +60,7 @@ module _ (hs g t : List Field) (k : ℕ) where
   size : sizeOf rows ≡ sizeOf hs + k * sizeOf g + sizeOf t
   size = omega (arith, size-append hs (repeated k g ++ t), size-append (repeated k g) t, size-repeated g k)
 
-  in-head : (j : ℕ) → j < length hs → {n s : ℕ} → n ≡ j + 1 → s ≡ sizeOf (take j hs) → Stands rows n (getD hs j noField) s
+  in-head : (j : ℕ) → j < length hs → {n s : ℕ} → n ≡ j + 1 → s ≡ sizeOf (take j hs) → FieldStands rows n (getD hs j noField) s
   in-head j l en es =
       record {
         place = j;
@@ -72,7 +72,7 @@ module _ (hs g t : List Field) (k : ℕ) where
 
   -- j places on from the i-th time
   past-head : (i : ℕ) → i ≤ k → (j : ℕ) → i * length g + j < k * length g + length t → {n s : ℕ} {f : Field} → n ≡ length hs + (i * length g + j) + 1
-      → getD (repeated (k - i) g ++ t) j noField ≡ f → sizeOf hs + (i * sizeOf g + sizeOf (take j (repeated (k - i) g ++ t))) ≡ s → Stands rows n f s
+      → getD (repeated (k - i) g ++ t) j noField ≡ f → sizeOf hs + (i * sizeOf g + sizeOf (take j (repeated (k - i) g ++ t))) ≡ s → FieldStands rows n f s
   past-head i h j l en ef es =
       record {
         place = length hs + (i * length g + j);
@@ -85,7 +85,7 @@ module _ (hs g t : List Field) (k : ℕ) where
       }
 
   in-group : (i : ℕ) → i < k → (j : ℕ) → j < length g → {n s : ℕ} → n ≡ length hs + (i * length g + j) + 1 → s ≡ sizeOf hs + (i * sizeOf g + sizeOf (take j g))
-      → Stands rows n (getD g j noField) s
+      → FieldStands rows n (getD g j noField) s
   in-group i h j l en es =
       let e : k - i ≡ suc (k - suc i) = omega arith in
       let a : repeated (k - i) g ++ t ≡ g ++ (repeated (k - suc i) g ++ t) = rw (e, append-assoc) in
@@ -93,7 +93,7 @@ module _ (hs g t : List Field) (k : ℕ) where
       past-head i (omega arith) j (omega arith) en (rw a (List·getD-append g (repeated (k - suc i) g ++ t) noField j l))
       (rw (a, take-append-le j g (repeated (k - suc i) g ++ t) (omega arith)) (sym es))
 
-  in-tail : (j : ℕ) → j < length t → {n s : ℕ} → n ≡ length hs + (k * length g + j) + 1 → s ≡ sizeOf hs + (k * sizeOf g + sizeOf (take j t)) → Stands rows n (getD t j noField) s
+  in-tail : (j : ℕ) → j < length t → {n s : ℕ} → n ≡ length hs + (k * length g + j) + 1 → s ≡ sizeOf hs + (k * sizeOf g + sizeOf (take j t)) → FieldStands rows n (getD t j noField) s
   in-tail j l en es =
       let e : k - k ≡ 0 = omega arith in
       let a : repeated (k - k) g ++ t ≡ t = rw e in
@@ -156,7 +156,7 @@ module _ (p : Field) (one : twoOf p ≡ false) (k : ℕ) where
       }
 
 -- a layout with no repeated field
-alone : (fs : List Field) (j : ℕ) {n s : ℕ} → n ≡ j + 1 → j < length fs → startOf fs j ≡ s → Stands fs n (getD fs j noField) s
+alone : (fs : List Field) (j : ℕ) {n s : ℕ} → n ≡ j + 1 → j < length fs → fieldStart fs j ≡ s → FieldStands fs n (getD fs j noField) s
 alone fs j en l es = record { place = j; number = en; within = l; there = refl; start = es }
 
 abbrev refusalRows : List Field
@@ -166,7 +166,7 @@ one-plan : OnePlan (field.plan ∷ [])
 one-plan = record { many = refl; planned = alone (field.plan ∷ []) 0 refl (omega arith) refl }
 
 pub field-numbers : FieldNumbers
-unfolding numberOf firstOf layouts layoutAt rowsAt rowsOf
+unfolding numberOf firstOf layouts layoutAt rowsAt layoutRows
 field-numbers =
     record {
       carriedOut = record { many = refl; answered = alone (field.code ∷ []) 0 refl (omega arith) refl };
@@ -192,7 +192,7 @@ abbrev storedHead : List Field
 storedHead = field.direct ∷ field.order ∷ []
 
 pub stored-parts : StoredParts
-unfolding numberOf firstOf layouts layoutAt rowsAt rowsOf
+unfolding numberOf firstOf layouts layoutAt rowsAt layoutRows
 stored-parts k =
     record {
       times = refl;

@@ -9,22 +9,22 @@ use lib.Seq.{drop-drop}
 use Rattle.message.specs.declared.layout.Field.{Field}
 use Rattle.message.specs.Fields.{twoOf, widthOf, valueOf, noField}
 use Rattle.message.specs.Layouts.{rowsAt}
-use Rattle.message.specs.Values.{startOf, valuesOf, placed, numbered}
+use Rattle.message.specs.Values.{fieldStart, valuesOf, placed, numbered}
 use Rattle.message.specs.Reader.{partOf, bodyIn, readOf}
-use Rattle.message.specs.Writer.{numberIn, kOf}
-use Rattle.message.specs.Promises.{Stands, ValuesStand}
+use Rattle.message.specs.Writer.{numberIn, kOfMessage}
+use Rattle.message.specs.Promises.{FieldStands, ValuesStand}
 use Rattle.message.proofs.Ranges.{placed-at}
 use Rattle.message.proofs.Accepted.{Accepted, accepted-in, is-part, rows-is, readPart}
 
-pub value-at : (fs : List Field) (os : List ℕ) (i : ℕ) → i < length fs → getD (valuesOf fs os) i 0 ≡ valueOf (twoOf (getD fs i noField)) (drop (startOf fs i) os)
+pub value-at : (fs : List Field) (os : List ℕ) (i : ℕ) → i < length fs → getD (valuesOf fs os) i 0 ≡ valueOf (twoOf (getD fs i noField)) (drop (fieldStart fs i) os)
 value-at [] os i h = absurd (omega arith)
 value-at (f ∷ fs) os zero h = refl
 value-at (f ∷ fs) os (suc i) h = value-at fs (drop (widthOf (twoOf f)) os) i (omega arith) ∙ simp drop-drop
 
-pub stand : {fs : List Field} {n s : ℕ} {f : Field} (os : List ℕ) → Stands fs n f s → numbered (placed (valuesOf fs os)) n ≡ valueOf (twoOf f) (drop s os)
+pub stand : {fs : List Field} {n s : ℕ} {f : Field} (os : List ℕ) → FieldStands fs n f s → numbered (placed (valuesOf fs os)) n ≡ valueOf (twoOf f) (drop s os)
 stand {fs} os t = rw (t .number, add-one, placed-at (valuesOf fs os) (t .place), value-at fs os (t .place) (t .within), t .there, t .start)
 
-part-stands : (info : List ℕ) (h : Accepted info (readOf info)) {n s : ℕ} {f : Field} → (let m = readPart info h in Stands (rowsAt (numberIn m) (kOf m)) n f s → numbered (m .values) n ≡ valueOf (twoOf f) (drop s (bodyIn info)))
+part-stands : (info : List ℕ) (h : Accepted info (readOf info)) {n s : ℕ} {f : Field} → (let m = readPart info h in FieldStands (rowsAt (numberIn m) (kOfMessage m)) n f s → numbered (m .values) n ≡ valueOf (twoOf f) (drop s (bodyIn info)))
 unfolding partOf
 part-stands info h t = stand (bodyIn info) (rw (rows-is info h) at t)
 

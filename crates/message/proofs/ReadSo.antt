@@ -15,18 +15,18 @@ use Rattle.message.specs.declared.Read.{Read}
 use Rattle.message.specs.declared.layout.Field.{Field}
 use Rattle.message.specs.Layouts.{layouts, layoutAt, known, numberOf, rowsAt, kFits}
 use Rattle.message.specs.Values.{fieldsMost, sizeOf, valuesOf, placed, firstOut}
-use Rattle.message.specs.Reader.{refusedAs, readAs, kIn, partOf, rangedOf, readPartOf, codeIn, bodyIn, readOf}
-use Rattle.message.specs.Promises.{FirstWrong, Known, RightLength, PartJudged, unknown, wrongLength, outOfRange, accepted, PartsReadSo, Judged, short, body, ReadSo, FirstFieldNamed}
+use Rattle.message.specs.Reader.{notRead, readAs, kIn, partOf, rangedOf, readPartOf, codeIn, bodyIn, readOf}
+use Rattle.message.specs.Promises.{FirstWrong, HasLayout, RightLength, PartJudged, unknown, wrongLength, outOfRange, accepted, PartsReadSo, Judged, short, body, MessagesReadSo, FirstFieldNamed}
 use Rattle.message.proofs.Layouts.{rows-most}
 use Rattle.message.proofs.Values.{length-values}
 use Rattle.message.proofs.Reading.{most-fits, part-10, part-k, part-length, part-done, ranged-12, ranged-done, read-11, read-body}
 use Rattle.message.proofs.Ranges.{both-true, placed-at, none-out, one-out, out-none, out-one, right-same, wrong-same}
 
-pub known-in : (l : ℕ) → known l ≡ true → Known l
+pub known-in : (l : ℕ) → known l ≡ true → HasLayout l
 unfolding known
 known-in l h = record { first = leb-true 1 l (both-left (leb 1 l) (ltb l (length layouts)) h); last = ltb-true l (length layouts) (both-right (leb 1 l) (ltb l (length layouts)) h) }
 
-pub in-known : (l : ℕ) → Known l → known l ≡ true
+pub in-known : (l : ℕ) → HasLayout l → known l ≡ true
 unfolding known
 in-known l h = both-true (le-leb 1 l (h .first)) (lt-ltb l (length layouts) (h .last))
 
@@ -58,12 +58,12 @@ module _ (l k : ℕ) (os : List ℕ) where
   parts-when : {r : Read} → PartJudged l k os r → r ≡ readPartOf l k os
   parts-when (unknown n) = by (known l) refl
     where
-      by : (b : Bool) → known l ≡ b → refusedAs refusal.codeNotHandled 0 ≡ readPartOf l k os
+      by : (b : Bool) → known l ≡ b → notRead refusal.codeNotHandled 0 ≡ readPartOf l k os
       by true e = absurd (n (known-in l e))
       by false e = part-10 l k os e
   parts-when (wrongLength kn n) = by (kFits (layoutAt l) k) refl (ℕ-discrete (length os) (sizeOf fs))
     where
-      by : (b : Bool) → kFits (layoutAt l) k ≡ b → Dec (length os ≡ sizeOf fs) → refusedAs refusal.infoLengthWrong 0 ≡ readPartOf l k os
+      by : (b : Bool) → kFits (layoutAt l) k ≡ b → Dec (length os ≡ sizeOf fs) → notRead refusal.infoLengthWrong 0 ≡ readPartOf l k os
       by false e d = part-k l k os (in-known l kn) e
       by true e (no g) = part-length l k os (in-known l kn) e g
       by true e (yes p) = absurd (n (right e p))
@@ -77,7 +77,7 @@ module _ (l k : ℕ) (os : List ℕ) where
       part-read (sym e) ∙ part-done l k os (in-known l kn) (k-in r) (r .octets)
 
   -- of a part that the reader has found of the right length
-  ranged-then : Known l → RightLength l k os → (n : ℕ) → n ≡ firstOut fs (placed vs) → PartJudged l k os (rangedOf l k os)
+  ranged-then : HasLayout l → RightLength l k os → (n : ℕ) → n ≡ firstOut fs (placed vs) → PartJudged l k os (rangedOf l k os)
   ranged-then kn r zero e =
       subst (λ (r : Read). PartJudged l k os r) (part-read e)
       (accepted kn r (λ j h. right-same fs (placed vs) vs (placed-at vs) j (out-none fs (placed vs) (rows-most l k (r .most)) past (sym e) j h)))
@@ -101,7 +101,7 @@ module _ (l k : ℕ) (os : List ℕ) where
 pub parts-read-so : PartsReadSo
 parts-read-so l k os r = (parts-when l k os, λ e. rw e (parts-then l k os))
 
-pub read-so : ReadSo
+pub read-so : MessagesReadSo
 read-so info r = (when, λ e. rw e then′)
   where
     when : {r : Read} → Judged info r → r ≡ readOf info
@@ -124,7 +124,7 @@ module _ (info : List ℕ) where
   k = kIn (layoutAt l) (bodyIn info)
 
   named : {r : Read} → Judged info r → r .refusal ≡ refusal.outOfRange → FirstWrong (rowsAt l k) (valuesOf (rowsAt l k) (bodyIn info)) (r .field)
-  unfolding refusedAs
+  unfolding notRead
   named (short h) e = absurd (omega arith)
   named (body h (unknown n)) e = absurd (omega arith)
   named (body h (wrongLength kn n)) e = absurd (omega arith)

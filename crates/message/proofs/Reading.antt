@@ -14,9 +14,9 @@ use Rattle.octets.proofs.Laws.{both-right}
 use Rattle.octets.proofs.Search.{search-first}
 use Rattle.message.specs.declared.layout.Field.{Field}
 use Rattle.message.specs.Fields.{twoOf, widthOf}
-use Rattle.message.specs.Layouts.{layoutAt, known, numberOf, rowsAt, rowsOf, kFits}
+use Rattle.message.specs.Layouts.{layoutAt, known, numberOf, rowsAt, layoutRows, kFits}
 use Rattle.message.specs.Values.{fieldsMost, sizeOf, valuesOf, placed, numbered, firstOut, outAt}
-use Rattle.message.specs.Reader.{refusedAs, readAs, kIn, partOf, rangedOf, readPartOf, readOf}
+use Rattle.message.specs.Reader.{notRead, readAs, kIn, partOf, rangedOf, readPartOf, readOf}
 use Rattle.message.proofs.Layouts.{count-head}
 use Rattle.message.proofs.Values.{length-values}
 
@@ -34,14 +34,14 @@ numbered-append xs ys (suc n) h = List·getD-append xs ys 0 n h
 
 -- the count stands in the head, so it does not depend on k
 pub k-placed : (l k : ℕ) (os : List ℕ) → numbered (placed (valuesOf (rowsAt l k) os)) (layoutAt l .count) ≡ kIn (layoutAt l) os
-unfolding placed rowsAt rowsOf
+unfolding placed rowsAt layoutRows
 k-placed l k os =
     let y = layoutAt l in
     rw (values-append (y .head) _ os, append-assoc) (numbered-append (valuesOf (y .head) os) _ (y .count) (rw length-values (count-head l)))
 
 -- what the code has found of the part, its values and the first out of range
 module _ (l k : ℕ) (os vs : List ℕ) (field : ℕ) (ev : vs ≡ placed (valuesOf (rowsAt l k) os)) (ef : field ≡ firstOut (rowsAt l k) vs) where
-  pub ranged-12 : (field ≡ 0 → ⊥) → refusedAs refusal.outOfRange field ≡ rangedOf l k os
+  pub ranged-12 : (field ≡ 0 → ⊥) → notRead refusal.outOfRange field ≡ rangedOf l k os
   unfolding rangedOf partOf
   ranged-12 h = rw (← ev, ← ef, ne-eqb field 0 h)
 
@@ -50,17 +50,17 @@ module _ (l k : ℕ) (os vs : List ℕ) (field : ℕ) (ev : vs ≡ placed (value
   ranged-done h ec en = rw (← ev, ← ef, eq-eqb field 0 h, ec, en)
 
 module _ (l k : ℕ) (os : List ℕ) where
-  pub part-10 : known l ≡ false → refusedAs refusal.codeNotHandled 0 ≡ readPartOf l k os
+  pub part-10 : known l ≡ false → notRead refusal.codeNotHandled 0 ≡ readPartOf l k os
   unfolding readPartOf
   part-10 h = rw h
 
   module _ (h : known l ≡ true) where
-    pub part-k : kFits (layoutAt l) k ≡ false → refusedAs refusal.infoLengthWrong 0 ≡ readPartOf l k os
+    pub part-k : kFits (layoutAt l) k ≡ false → notRead refusal.infoLengthWrong 0 ≡ readPartOf l k os
     unfolding readPartOf
     part-k f = rw (h, f)
 
     module _ (f : kFits (layoutAt l) k ≡ true) where
-      pub part-length : (length os ≡ sizeOf (rowsAt l k) → ⊥) → refusedAs refusal.infoLengthWrong 0 ≡ readPartOf l k os
+      pub part-length : (length os ≡ sizeOf (rowsAt l k) → ⊥) → notRead refusal.infoLengthWrong 0 ≡ readPartOf l k os
       unfolding readPartOf
       part-length n = rw (h, f, ne-eqb (length os) (sizeOf (rowsAt l k)) n)
 
@@ -69,7 +69,7 @@ module _ (l k : ℕ) (os : List ℕ) where
       part-done e = rw (h, f, eq-eqb (length os) (sizeOf (rowsAt l k)) e)
 
 module _ (info : List ℕ) where
-  pub read-11 : length info < codeLen → refusedAs refusal.infoLengthWrong 0 ≡ readOf info
+  pub read-11 : length info < codeLen → notRead refusal.infoLengthWrong 0 ≡ readOf info
   unfolding readOf
   read-11 h = rw (lt-ltb (length info) codeLen h)
 

@@ -14,8 +14,8 @@ use Rattle.message.specs.declared.layout.Field.{Field}
 use Rattle.message.specs.Layouts.{layoutAt, numberOf, rowsAt}
 use Rattle.message.specs.Values.{fieldsMost, valuesOf, octetsOf, placed, numbered}
 use Rattle.message.specs.Reader.{readAs, kIn, partOf, readOf}
-use Rattle.message.specs.Writer.{numberIn, kOf, infoAs, infoOf, writeOf}
-use Rattle.message.specs.Promises.{PartJudged, accepted, Writable, WriteJudged, fieldWrong, outputShort, written, ReadingUndoesWriting, WritingUndoesReading}
+use Rattle.message.specs.Writer.{numberIn, kOfMessage, infoAs, infoOf, writeMessage}
+use Rattle.message.specs.Promises.{PartJudged, accepted, Writable, MessageWriteJudged, fieldWrong, outputShort, written, ReadingMessagesUndoesWriting, WritingMessagesUndoesReading}
 use Rattle.message.proofs.Fitting.{Fits, right-fits, values-back, placed-back, octets-back, octets-same}
 use Rattle.message.proofs.Layouts.{rows-most}
 use Rattle.message.proofs.Ranges.{placed-at, right-same}
@@ -32,7 +32,7 @@ module _ (m : Message) (long : length (m .values) ≡ fieldsMost) (w : Writable 
   l = numberIn m
 
   abbrev k : ℕ
-  k = kOf m
+  k = kOfMessage m
 
   abbrev fs : List Field
   fs = rowsAt l k
@@ -71,10 +71,10 @@ module _ (m : Message) (long : length (m .values) ≡ fieldsMost) (w : Writable 
       sym (parts-read-so l k os (readAs m) .0 read
       ∙ read-body (infoOf m) (omega arith) (ap numberOf (sym (word-back (m .code)))) refl count)
 
-pub reading-undoes-writing : ReadingUndoesWriting
-reading-undoes-writing m at out long e = back (written-so m at out (writeOf m at out) .1 refl) e
+pub reading-undoes-writing : ReadingMessagesUndoesWriting
+reading-undoes-writing m at out long e = back (written-so m at out (writeMessage m at out) .1 refl) e
   where
-    back : {v : Writing} → WriteJudged m at out v → v .answer .refusal ≡ refusal.none → readOf (take (v .answer .count) (drop at (v .out))) ≡ readAs m
+    back : {v : Writing} → MessageWriteJudged m at out v → v .answer .refusal ≡ refusal.none → readOf (take (v .answer .count) (drop at (v .out))) ≡ readAs m
     back (fieldWrong n) e = absurd (omega arith)
     back (outputShort w h) e = absurd (omega arith)
     back (written w h) e =
@@ -94,7 +94,7 @@ info-back [] o h = absurd (omega (arith, h .long))
 info-back (a ∷ []) o h = absurd (omega (arith, h .long))
 info-back (a ∷ b ∷ os) o h = info-is a b os o h
 
-pub writing-undoes-reading : WritingUndoesReading
+pub writing-undoes-reading : WritingMessagesUndoesReading
 writing-undoes-reading info at out o e r =
     let h = accepted-in info e in
     let back = info-back info o h in

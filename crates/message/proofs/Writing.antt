@@ -14,7 +14,7 @@ use Rattle.octets.specs.Put.{Put, Stored}
 use Rattle.octets.specs.Part.{codeLen}
 use Rattle.octets.specs.Refusal as refusal
 use Rattle.octets.specs.Word.{highOf, lowOf}
-use Rattle.octets.specs.Writing.{Wrote, refusedAs, writtenAs}
+use Rattle.octets.specs.Writing.{WriterLeaves, nothingWritten, writtenAs}
 use Rattle.octets.specs.declared.Written.{Written}
 use Rattle.octets.proofs.Laws.{both-left, both-right, sets-append}
 use Rattle.message.specs.declared.Message.{Message}
@@ -22,7 +22,7 @@ use Rattle.message.specs.declared.layout.Field.{Field}
 use Rattle.message.specs.Fields.{twoOf, widthOf, fieldOctets, noField}
 use Rattle.message.specs.Layouts.{layoutAt, known, numberOf, rowsAt, mostAt, kFits}
 use Rattle.message.specs.Values.{sizeOf, octetsOf, numbered, firstOut}
-use Rattle.message.specs.Writer.{writableAs, writable, infoAs, infoOf, writeOf}
+use Rattle.message.specs.Writer.{writableAs, writable, infoAs, infoOf, writeMessage}
 use Rattle.message.proofs.Reading.{most-fits}
 
 -- The octets of a field
@@ -79,12 +79,12 @@ module _ (l k n : ℕ) (vs : List ℕ) where
       writable-ranges e = rw (h, f, eq-eqb n (length (rowsAt l k)) e)
 
 module _ (m : Message) (at : ℕ) (out : List ℕ) where
-  pub write-no : writable m ≡ false → refusedAs refusal.fieldWrong out ≡ writeOf m at out
-  unfolding writeOf
+  pub write-no : writable m ≡ false → nothingWritten refusal.fieldWrong out ≡ writeMessage m at out
+  unfolding writeMessage
   write-no h = rw h
 
-  pub write-yes : writable m ≡ true → writtenAs (infoOf m) at out ≡ writeOf m at out
-  unfolding writeOf
+  pub write-yes : writable m ≡ true → writtenAs (infoOf m) at out ≡ writeMessage m at out
+  unfolding writeMessage
   write-yes h = rw h
 
   -- what the code has found of the message: its layout, its count, and whether it is writable
@@ -92,10 +92,10 @@ module _ (m : Message) (at : ℕ) (out : List ℕ) where
     tested : t ≡ writable m
     tested = et ∙ rw (ek, el)
 
-    pub write-5 : t ≡ false → Wrote (writeOf m at out) (record { refusal = refusal.fieldWrong; count = 0 }) out
+    pub write-5 : t ≡ false → WriterLeaves (writeMessage m at out) (record { refusal = refusal.fieldWrong; count = 0 }) out
     write-5 h = rw (← write-no (sym tested ∙ h)) (record { answer = refl; out = refl })
 
-    pub write-on : t ≡ true → {r : Written} {out′ : List ℕ} → Wrote (writtenAs (infoAs (m .code) (rowsAt l k) (m .values)) at out) r out′ → Wrote (writeOf m at out) r out′
+    pub write-on : t ≡ true → {r : Written} {out′ : List ℕ} → WriterLeaves (writtenAs (infoAs (m .code) (rowsAt l k) (m .values)) at out) r out′ → WriterLeaves (writeMessage m at out) r out′
     write-on h w = rw (← write-yes (sym tested ∙ h)) (rw (ek, el) at w)
 
 pub writable-most : (l k n : ℕ) (vs : List ℕ) → writableAs l k n vs ≡ true → k ≤ mostAt l

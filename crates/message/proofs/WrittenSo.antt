@@ -10,14 +10,14 @@ use lib.Dec.{leb, eqb}
 use lib.ListN.{length, take, drop}
 use lib.Seq.{sets-eq}
 use Rattle.octets.specs.Refusal as refusal
-use Rattle.octets.specs.Writing.{Writing, refusedAs, writtenAs}
+use Rattle.octets.specs.Writing.{Writing, nothingWritten, writtenAs}
 use Rattle.octets.proofs.Laws.{both-left, both-right, clash, written-9}
 use Rattle.message.specs.declared.Message.{Message}
 use Rattle.message.specs.declared.layout.Field.{Field}
 use Rattle.message.specs.Layouts.{layoutAt, known, rowsAt, kFits}
 use Rattle.message.specs.Values.{fieldsMost, firstOut}
-use Rattle.message.specs.Writer.{numberIn, kOf, writableAs, writable, infoOf, writeOf}
-use Rattle.message.specs.Promises.{Writable, WriteJudged, fieldWrong, outputShort, written, WrittenSo}
+use Rattle.message.specs.Writer.{numberIn, kOfMessage, writableAs, writable, infoOf, writeMessage}
+use Rattle.message.specs.Promises.{Writable, MessageWriteJudged, fieldWrong, outputShort, written, MessagesWrittenSo}
 use Rattle.message.proofs.Layouts.{rows-most}
 use Rattle.message.proofs.Reading.{most-fits}
 use Rattle.message.proofs.Writing.{write-no, write-yes}
@@ -29,7 +29,7 @@ module _ (m : Message) where
   l = numberIn m
 
   abbrev k : ℕ
-  k = kOf m
+  k = kOfMessage m
 
   abbrev fs : List Field
   fs = rowsAt l k
@@ -74,25 +74,25 @@ module _ (m : Message) (at : ℕ) (out : List ℕ) where
   unfolding writtenAs
   stored-as h = rw (le-leb (at + length vs) (length out) h, sets-eq vs out at h, append-assoc)
 
-  when : {w : Writing} → WriteJudged m at out w → w ≡ writeOf m at out
+  when : {w : Writing} → MessageWriteJudged m at out w → w ≡ writeMessage m at out
   when (fieldWrong n) = by (writable m) refl
     where
-      by : (b : Bool) → writable m ≡ b → refusedAs refusal.fieldWrong out ≡ writeOf m at out
+      by : (b : Bool) → writable m ≡ b → nothingWritten refusal.fieldWrong out ≡ writeMessage m at out
       by true e = absurd (n (writable-in m e))
       by false e = write-no m at out e
   when (outputShort w h) = sym (written-9 vs out at refl (lt-leb (at + length vs) (length out) h)) ∙ write-yes m at out (in-writable m w)
   when (written w h) = stored-as h ∙ write-yes m at out (in-writable m w)
 
-  then′ : WriteJudged m at out (writeOf m at out)
+  then′ : MessageWriteJudged m at out (writeMessage m at out)
   then′ = by (writable m) refl (decLt (length out) (at + length vs))
     where
-      judged : {v w : Writing} → v ≡ w → WriteJudged m at out v → WriteJudged m at out w
-      judged e p = subst (λ (w : Writing). WriteJudged m at out w) e p
+      judged : {v w : Writing} → v ≡ w → MessageWriteJudged m at out v → MessageWriteJudged m at out w
+      judged e p = subst (λ (w : Writing). MessageWriteJudged m at out w) e p
 
-      by : (b : Bool) → writable m ≡ b → Dec (length out < at + length vs) → WriteJudged m at out (writeOf m at out)
+      by : (b : Bool) → writable m ≡ b → Dec (length out < at + length vs) → MessageWriteJudged m at out (writeMessage m at out)
       by false e d = judged (write-no m at out e) (fieldWrong (λ w. clash e (in-writable m w)))
       by true e (yes h) = judged (sym (written-9 vs out at refl (lt-leb (at + length vs) (length out) h)) ∙ write-yes m at out e) (outputShort (writable-in m e) h)
       by true e (no g) = let h : at + length vs ≤ length out = omega arith in judged (stored-as h ∙ write-yes m at out e) (written (writable-in m e) h)
 
-pub written-so : WrittenSo
+pub written-so : MessagesWrittenSo
 written-so m at out w = (when m at out, λ e. rw e (then′ m at out))

@@ -1,4 +1,4 @@
--- 01, "Cases" and "Messages": messages read and written, and every range at its edges, by computation.
+-- 01, "Cases" and "Messages": messages messagesRead and messagesWritten, and every range at its edges, by computation.
 use Prim.Native.Nat.{ℕ}
 use mathlib.Core.Path.{_≡_}
 use mathlib.Core.List.{List, [], _∷_, map}
@@ -6,15 +6,15 @@ use lib.ListN.{take, replicate}
 use Rattle.octets.specs.Word.{highOf, lowOf}
 use Rattle.message.specs.Values.{placed}
 use Rattle.message.specs.Reader.{readOf}
-use Rattle.message.specs.Writer.{writeOf}
+use Rattle.message.specs.Writer.{writeMessage}
 
 -- refusal, field, code and values
 abbrev shown : List ℕ → List ℕ
 shown info = let r = readOf info in r .refusal ∷ r .field ∷ r .message .code ∷ take (r .message .fields) (r .message .values)
 
--- the INFO of P1, P3, P4 and P5; a set of times and of greens; then what is refused
-unfoldable pub read : List (List ℕ)
-read =
+-- the INFO of P1, P3, P4 and P5; a set of infoOfTimes and of infoOfGreens; then what is refused
+unfoldable pub messagesRead : List (List ℕ)
+messagesRead =
     shown (0x5F ∷ 0x48 ∷ [])
     ∷ shown (0x5F ∷ 0xC8 ∷ 0x00 ∷ 0x00 ∷ 0x00 ∷ 0x02 ∷ 0x00 ∷ 0x19 ∷ 0x00 ∷ 0x19 ∷ 0x00 ∷ 0x3C ∷ 0x00 ∷ 0x00 ∷ [])
     ∷ shown (0x5F ∷ 0x18 ∷ 0x03 ∷ [])
@@ -30,8 +30,8 @@ read =
     ∷ shown (0x5F ∷ 0x14 ∷ 0x01 ∷ 0x01 ∷ 0x0A ∷ 0x03 ∷ 0x85 ∷ 0x03 ∷ 0x0A ∷ 0x05 ∷ 0x0A ∷ [])
     ∷ []
 
-unfoldable pub dueRead : List (List ℕ)
-dueRead =
+unfoldable pub dueMessagesRead : List (List ℕ)
+dueMessagesRead =
     (0 ∷ 0 ∷ 0x5F48 ∷ [])
     ∷ (0 ∷ 0 ∷ 0x5FC8 ∷ 0 ∷ 0 ∷ 0 ∷ 2 ∷ 25 ∷ 25 ∷ 60 ∷ 0 ∷ [])
     ∷ (0 ∷ 0 ∷ 0x5F18 ∷ 3 ∷ [])
@@ -51,30 +51,30 @@ dueRead =
 abbrev named : (ℕ → List ℕ) → List ℕ → List ℕ
 named info vs = map (λ (v : ℕ). readOf (info v) .field) vs
 
-abbrev times : ℕ → ℕ → ℕ → ℕ → ℕ → ℕ → ℕ → ℕ → List ℕ
-times c p mn mx y a w r = 0x5F ∷ c ∷ p ∷ 1 ∷ mn ∷ highOf mx ∷ lowOf mx ∷ y ∷ a ∷ w ∷ r ∷ []
+abbrev infoOfTimes : ℕ → ℕ → ℕ → ℕ → ℕ → ℕ → ℕ → ℕ → List ℕ
+infoOfTimes c p mn mx y a w r = 0x5F ∷ c ∷ p ∷ 1 ∷ mn ∷ highOf mx ∷ lowOf mx ∷ y ∷ a ∷ w ∷ r ∷ []
 
-abbrev greens : ℕ → ℕ → ℕ → ℕ → ℕ → ℕ → ℕ → List ℕ
-greens c p d o g cy f = 0x5F ∷ c ∷ p ∷ d ∷ o ∷ 1 ∷ highOf g ∷ lowOf g ∷ highOf cy ∷ lowOf cy ∷ highOf f ∷ lowOf f ∷ []
+abbrev infoOfGreens : ℕ → ℕ → ℕ → ℕ → ℕ → ℕ → ℕ → List ℕ
+infoOfGreens c p d o g cy f = 0x5F ∷ c ∷ p ∷ d ∷ o ∷ 1 ∷ highOf g ∷ lowOf g ∷ highOf cy ∷ lowOf cy ∷ highOf f ∷ lowOf f ∷ []
 
 unfoldable pub edges : List (List ℕ)
 edges =
-    named (λ v. times 0x14 v 5 5 3 1 0 0) (0 ∷ 1 ∷ 48 ∷ 49 ∷ [])
-    ∷ named (λ v. times 0xC4 v 5 5 3 1 0 0) (0 ∷ 48 ∷ 49 ∷ [])
-    ∷ named (λ v. times 0x14 1 v 5 3 1 0 0) (4 ∷ 5 ∷ 254 ∷ 255 ∷ [])
-    ∷ named (λ v. times 0x14 1 5 v 3 1 0 0) (4 ∷ 5 ∷ 900 ∷ 901 ∷ [])
-    ∷ named (λ v. times 0x14 1 5 5 v 1 0 0) (2 ∷ 3 ∷ 9 ∷ 10 ∷ [])
-    ∷ named (λ v. times 0x14 1 5 5 3 v 0 0) (0 ∷ 1 ∷ 9 ∷ 10 ∷ [])
-    ∷ named (λ v. times 0x14 1 5 5 3 1 v 0) (0 ∷ 90 ∷ 91 ∷ [])
-    ∷ named (λ v. times 0x14 1 5 5 3 1 0 v) (0 ∷ 9 ∷ 10 ∷ [])
-    ∷ named (λ v. greens 0x15 v 0 0 1 1 0) (0 ∷ 1 ∷ 48 ∷ 49 ∷ [])
-    ∷ named (λ v. greens 0xC5 v 0 0 1 1 0) (0 ∷ 48 ∷ 49 ∷ [])
-    ∷ named (λ v. greens 0xC8 v 0 0 1 1 0) (0 ∷ 48 ∷ 49 ∷ [])
-    ∷ named (λ v. greens 0x15 1 v 0 1 1 0) (0 ∷ 7 ∷ 8 ∷ [])
-    ∷ named (λ v. greens 0x15 1 0 v 1 1 0) (0x00 ∷ 0x01 ∷ 0x1F ∷ 0x20 ∷ 0x21 ∷ 0x22 ∷ 22 ∷ 0x37 ∷ 0x38 ∷ 0x39 ∷ 0x4F ∷ 0x50 ∷ 0x57 ∷ 0x58 ∷ 0x5F ∷ 0x60 ∷ 0x6D ∷ 0x6E ∷ 0xFF ∷ [])
-    ∷ named (λ v. greens 0x15 1 0 0 v 1 0) (0 ∷ 1 ∷ 900 ∷ 901 ∷ [])
-    ∷ named (λ v. greens 0x15 1 0 0 1 v 0) (0 ∷ 1 ∷ 900 ∷ 901 ∷ [])
-    ∷ named (λ v. greens 0x15 1 0 0 1 1 v) (0 ∷ 899 ∷ 900 ∷ [])
+    named (λ v. infoOfTimes 0x14 v 5 5 3 1 0 0) (0 ∷ 1 ∷ 48 ∷ 49 ∷ [])
+    ∷ named (λ v. infoOfTimes 0xC4 v 5 5 3 1 0 0) (0 ∷ 48 ∷ 49 ∷ [])
+    ∷ named (λ v. infoOfTimes 0x14 1 v 5 3 1 0 0) (4 ∷ 5 ∷ 254 ∷ 255 ∷ [])
+    ∷ named (λ v. infoOfTimes 0x14 1 5 v 3 1 0 0) (4 ∷ 5 ∷ 900 ∷ 901 ∷ [])
+    ∷ named (λ v. infoOfTimes 0x14 1 5 5 v 1 0 0) (2 ∷ 3 ∷ 9 ∷ 10 ∷ [])
+    ∷ named (λ v. infoOfTimes 0x14 1 5 5 3 v 0 0) (0 ∷ 1 ∷ 9 ∷ 10 ∷ [])
+    ∷ named (λ v. infoOfTimes 0x14 1 5 5 3 1 v 0) (0 ∷ 90 ∷ 91 ∷ [])
+    ∷ named (λ v. infoOfTimes 0x14 1 5 5 3 1 0 v) (0 ∷ 9 ∷ 10 ∷ [])
+    ∷ named (λ v. infoOfGreens 0x15 v 0 0 1 1 0) (0 ∷ 1 ∷ 48 ∷ 49 ∷ [])
+    ∷ named (λ v. infoOfGreens 0xC5 v 0 0 1 1 0) (0 ∷ 48 ∷ 49 ∷ [])
+    ∷ named (λ v. infoOfGreens 0xC8 v 0 0 1 1 0) (0 ∷ 48 ∷ 49 ∷ [])
+    ∷ named (λ v. infoOfGreens 0x15 1 v 0 1 1 0) (0 ∷ 7 ∷ 8 ∷ [])
+    ∷ named (λ v. infoOfGreens 0x15 1 0 v 1 1 0) (0x00 ∷ 0x01 ∷ 0x1F ∷ 0x20 ∷ 0x21 ∷ 0x22 ∷ 22 ∷ 0x37 ∷ 0x38 ∷ 0x39 ∷ 0x4F ∷ 0x50 ∷ 0x57 ∷ 0x58 ∷ 0x5F ∷ 0x60 ∷ 0x6D ∷ 0x6E ∷ 0xFF ∷ [])
+    ∷ named (λ v. infoOfGreens 0x15 1 0 0 v 1 0) (0 ∷ 1 ∷ 900 ∷ 901 ∷ [])
+    ∷ named (λ v. infoOfGreens 0x15 1 0 0 1 v 0) (0 ∷ 1 ∷ 900 ∷ 901 ∷ [])
+    ∷ named (λ v. infoOfGreens 0x15 1 0 0 1 1 v) (0 ∷ 899 ∷ 900 ∷ [])
     ∷ named (λ v. 0x5F ∷ 0x18 ∷ v ∷ []) (0 ∷ 48 ∷ 49 ∷ [])
     ∷ named (λ v. 0x5F ∷ 0x44 ∷ v ∷ []) (0 ∷ 48 ∷ 49 ∷ [])
     ∷ named (λ v. 0x5F ∷ 0x45 ∷ v ∷ []) (0 ∷ 48 ∷ 49 ∷ [])
@@ -103,26 +103,26 @@ dueEdges =
     ∷ (0 ∷ 0 ∷ 1 ∷ [])
     ∷ []
 
--- what is written into six octets from the second on: refusal, count, output
-abbrev wrote : ℕ → ℕ → List ℕ → List ℕ
-wrote c n vs =
-    let w = writeOf (record { code = c; fields = n; values = placed vs }) 1 (replicate 6 0xEE) in w .answer .refusal ∷ w .answer .count ∷ w .out
+-- what is messagesWritten into six octets from the second on: refusal, count, output
+abbrev writtenOut : ℕ → ℕ → List ℕ → List ℕ
+writtenOut c n vs =
+    let w = writeMessage (record { code = c; fields = n; values = placed vs }) 1 (replicate 6 0xEE) in w .answer .refusal ∷ w .answer .count ∷ w .out
 
 -- 0F 80; 0F 81, too long; a plan, and one too large; a field too few, one too many and a value past the last; no such code
-unfoldable pub written : List (List ℕ)
-written =
-    wrote 0x0F80 1 (0x5F18 ∷ [])
-    ∷ wrote 0x0F81 3 (0x5F18 ∷ 13 ∷ 1 ∷ [])
-    ∷ wrote 0x5F18 1 (48 ∷ [])
-    ∷ wrote 0x5F18 1 (49 ∷ [])
-    ∷ wrote 0x5F18 0 []
-    ∷ wrote 0x5F18 2 (48 ∷ 0 ∷ [])
-    ∷ wrote 0x5F18 1 (48 ∷ 1 ∷ [])
-    ∷ wrote 0x5F16 0 []
+unfoldable pub messagesWritten : List (List ℕ)
+messagesWritten =
+    writtenOut 0x0F80 1 (0x5F18 ∷ [])
+    ∷ writtenOut 0x0F81 3 (0x5F18 ∷ 13 ∷ 1 ∷ [])
+    ∷ writtenOut 0x5F18 1 (48 ∷ [])
+    ∷ writtenOut 0x5F18 1 (49 ∷ [])
+    ∷ writtenOut 0x5F18 0 []
+    ∷ writtenOut 0x5F18 2 (48 ∷ 0 ∷ [])
+    ∷ writtenOut 0x5F18 1 (48 ∷ 1 ∷ [])
+    ∷ writtenOut 0x5F16 0 []
     ∷ []
 
-unfoldable pub dueWritten : List (List ℕ)
-dueWritten =
+unfoldable pub dueMessagesWritten : List (List ℕ)
+dueMessagesWritten =
     (0 ∷ 4 ∷ 0xEE ∷ 0x0F ∷ 0x80 ∷ 0x5F ∷ 0x18 ∷ 0xEE ∷ [])
     ∷ (9 ∷ 0 ∷ replicate 6 0xEE)
     ∷ (0 ∷ 3 ∷ 0xEE ∷ 0x5F ∷ 0x18 ∷ 0x30 ∷ 0xEE ∷ 0xEE ∷ [])
@@ -135,4 +135,4 @@ dueWritten =
 
 -- "Cycle 900 passes, 901 is 12."
 abbrev pub MessageCases : Type 0
-MessageCases = (read ≡ dueRead) × (edges ≡ dueEdges) × (written ≡ dueWritten)
+MessageCases = (messagesRead ≡ dueMessagesRead) × (edges ≡ dueEdges) × (messagesWritten ≡ dueMessagesWritten)

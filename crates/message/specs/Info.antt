@@ -8,8 +8,8 @@ use Rattle.message.specs.Fields.{valueOf}
 use Rattle.message.specs.declared.info.Reader.{Reader}
 
 -- a reader of these octets, at a place
-abbrev pub opened : RefT (List ℕ) → ℕ → Reader
-opened info at = record { src = info; at = at }
+abbrev pub readerAt : RefT (List ℕ) → ℕ → Reader
+readerAt info at = record { src = info; at = at }
 
 -- the octets that a reader has still to read
 abbrev pub ahead : Reader → List ℕ

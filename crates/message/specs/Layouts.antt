@@ -99,8 +99,8 @@ repeated zero g = []
 repeated (suc k) g = g ++ repeated k g
 
 -- the fields of a layout for k, left to right
-unfoldable pub rowsOf : Layout → ℕ → List Field
-rowsOf l k = l .head ++ (repeated k (l .group) ++ l .tail)
+unfoldable pub layoutRows : Layout → ℕ → List Field
+layoutRows l k = l .head ++ (repeated k (l .group) ++ l .tail)
 
 -- "k is 1 to 8"
 abbrev pub kFits : Layout → ℕ → Bool
@@ -108,7 +108,7 @@ kFits l k = both (leb (l .fewest) k) (leb k (l .most))
 
 -- the same by a layout's number
 unfoldable pub rowsAt : ℕ → ℕ → List Field
-rowsAt l k = rowsOf (layoutAt l) k
+rowsAt l k = layoutRows (layoutAt l) k
 
 abbrev pub mostAt : ℕ → ℕ
 mostAt l = layoutAt l .most

@@ -18,9 +18,9 @@ use Rattle.message.specs.declared.layout.Field.the-variants.{Octet, Two,
 use Rattle.message.specs.Fields as field
 use Rattle.message.specs.Fields.{twoOf, valueOf, noField}
 use Rattle.message.specs.Layouts.{layouts, layoutAt, numberOf, rowsAt, storedTimes, storedPlan}
-use Rattle.message.specs.Values.{fieldsMost, sizeOf, startOf, valuesOf, numbered}
-use Rattle.message.specs.Reader.{refusedAs, readAs, kIn, partOf, readPartOf, codeIn, bodyIn, readOf}
-use Rattle.message.specs.Writer.{numberIn, kOf, infoOf, writeOf}
+use Rattle.message.specs.Values.{fieldsMost, sizeOf, fieldStart, valuesOf, numbered}
+use Rattle.message.specs.Reader.{notRead, readAs, kIn, partOf, readPartOf, codeIn, bodyIn, readOf}
+use Rattle.message.specs.Writer.{numberIn, kOfMessage, infoOf, writeMessage}
 use Rattle.message.specs.Names.{answeredAt, errorAt, parameterAt, planAt, timesCountAt, minimumAt, directAt, orderAt, planCountAt, greenAt}
 
 -- The layouts
@@ -34,61 +34,61 @@ abbrev pub CodesListed : Type 0
 CodesListed = (c : ℕ) → First (λ j. eqb (getD listed j 0) c) (length listed) (numberOf c)
 
 -- "Fields are numbered from 1 after the code, two octets as one field": field number n is f, and the octets before it are s
-pub record Stands (fs : List Field) (n : ℕ) (f : Field) (s : ℕ) : Type 0 where
+pub record FieldStands (fs : List Field) (n : ℕ) (f : Field) (s : ℕ) : Type 0 where
   pub place : ℕ
   pub number : n ≡ place + 1
   pub within : place < length fs
   pub there : getD fs place noField ≡ f
-  pub start : startOf fs place ≡ s
+  pub start : fieldStart fs place ≡ s
 
 -- 0F 80 and 0F 81
 pub record AnswerFields (fs : List Field) : Type 0 where
   pub many : length fs ≡ 1
-  pub answered : Stands fs answeredAt field.code 0
+  pub answered : FieldStands fs answeredAt field.code 0
 
 pub record RefusalFields (fs : List Field) : Type 0 where
   pub many : length fs ≡ 3
-  pub answered : Stands fs answeredAt field.code 0
-  pub error : Stands fs errorAt field.errorNumber 2
-  pub parameter : Stands fs parameterAt field.parameterNumber 3
+  pub answered : FieldStands fs answeredAt field.code 0
+  pub error : FieldStands fs errorAt field.errorNumber 2
+  pub parameter : FieldStands fs parameterAt field.parameterNumber 3
 
 -- "minimum green, maximum green(2), yellow, all-red, walk flash, red man", from number n and octet s on
 pub record PhaseFields (fs : List Field) (n s : ℕ) : Type 0 where
-  pub minimum : Stands fs n field.minimum s
-  pub maximum : Stands fs (n + 1) field.maximum (s + 1)
-  pub yellow : Stands fs (n + 2) field.yellow (s + 3)
-  pub allRed : Stands fs (n + 3) field.allRed (s + 4)
-  pub walkFlash : Stands fs (n + 4) field.walkFlash (s + 5)
-  pub redMan : Stands fs (n + 5) field.redMan (s + 6)
+  pub minimum : FieldStands fs n field.minimum s
+  pub maximum : FieldStands fs (n + 1) field.maximum (s + 1)
+  pub yellow : FieldStands fs (n + 2) field.yellow (s + 3)
+  pub allRed : FieldStands fs (n + 3) field.allRed (s + 4)
+  pub walkFlash : FieldStands fs (n + 4) field.walkFlash (s + 5)
+  pub redMan : FieldStands fs (n + 5) field.redMan (s + 6)
 
 -- "k greens(2), cycle(2), offset(2)", from number n and octet s on
 pub record GreenFields (k : ℕ) (fs : List Field) (n s : ℕ) : Type 0 where
-  pub green : (i : ℕ) → i < k → Stands fs (n + i) field.green (s + 2 * i)
-  pub cycle : Stands fs (n + k) field.cycle (s + 2 * k)
-  pub offset : Stands fs (n + k + 1) field.offset (s + 2 * k + 2)
+  pub green : (i : ℕ) → i < k → FieldStands fs (n + i) field.green (s + 2 * i)
+  pub cycle : FieldStands fs (n + k) field.cycle (s + 2 * k)
+  pub offset : FieldStands fs (n + k + 1) field.offset (s + 2 * k + 2)
 
 -- 5F 14 and 5F C4, whose plan has this range
 pub record TimesFields (plan : Field) (k : ℕ) (fs : List Field) : Type 0 where
   pub many : length fs ≡ 2 + 6 * k
   pub size : sizeOf fs ≡ 2 + 7 * k
-  pub planned : Stands fs planAt plan 0
-  pub count : Stands fs timesCountAt field.count 1
+  pub planned : FieldStands fs planAt plan 0
+  pub count : FieldStands fs timesCountAt field.count 1
   pub phase : (i : ℕ) → i < k → PhaseFields fs (minimumAt i) (2 + 7 * i)
 
 -- 5F 15, 5F C5 and 5F C8
 pub record PlanFields (plan : Field) (k : ℕ) (fs : List Field) : Type 0 where
   pub many : length fs ≡ 6 + k
   pub size : sizeOf fs ≡ 8 + 2 * k
-  pub planned : Stands fs planAt plan 0
-  pub direct : Stands fs directAt field.direct 1
-  pub order : Stands fs orderAt field.order 2
-  pub count : Stands fs planCountAt field.count 3
+  pub planned : FieldStands fs planAt plan 0
+  pub direct : FieldStands fs directAt field.direct 1
+  pub order : FieldStands fs orderAt field.order 2
+  pub count : FieldStands fs planCountAt field.count 3
   pub greens : GreenFields k fs (greenAt 0) 4
 
 -- 5F 18, 5F 44 and 5F 45
 pub record OnePlan (fs : List Field) : Type 0 where
   pub many : length fs ≡ 1
-  pub planned : Stands fs planAt field.plan 0
+  pub planned : FieldStands fs planAt field.plan 0
 
 abbrev pub fieldsOf : ℕ → ℕ → List Field
 fieldsOf c k = rowsAt (numberOf c) k
@@ -119,8 +119,8 @@ pub record StoredAs (k : ℕ) : Type 0 where
   pub phase : (i : ℕ) → i < k → PhaseFields (rowsAt storedTimes k) (1 + 6 * i) (7 * i)
   pub plan : fieldsOf 0x5F15 k ≡ field.planSet ∷ (take 2 (rowsAt storedPlan k) ++ (field.count ∷ drop 2 (rowsAt storedPlan k)))
   pub planSize : sizeOf (rowsAt storedPlan k) ≡ 6 + 2 * k
-  pub direct : Stands (rowsAt storedPlan k) 1 field.direct 0
-  pub order : Stands (rowsAt storedPlan k) 2 field.order 1
+  pub direct : FieldStands (rowsAt storedPlan k) 1 field.direct 0
+  pub order : FieldStands (rowsAt storedPlan k) 2 field.order 1
   pub greens : GreenFields k (rowsAt storedPlan k) 3 2
 
 abbrev pub StoredParts : Type 0
@@ -147,7 +147,7 @@ pub record FirstWrong (fs : List Field) (vs : List ℕ) (n : ℕ) : Type 0 where
   pub here : RightAt fs vs place → ⊥
 
 -- there is such a layout; its k is right, and so is the number of octets
-pub record Known (l : ℕ) : Type 0 where
+pub record HasLayout (l : ℕ) : Type 0 where
   pub first : 1 ≤ l
   pub last : l < length layouts
 
@@ -159,18 +159,18 @@ pub record RightLength (l k : ℕ) (os : List ℕ) : Type 0 where
 -- What reading the octets by a layout comes to, and why
 pub data PartJudged (l k : ℕ) (os : List ℕ) : Read → Type 0 where
   -- "code not handled"
-  unknown : (Known l → ⊥) → PartJudged l k os (refusedAs refusal.codeNotHandled 0)
+  unknown : (HasLayout l → ⊥) → PartJudged l k os (notRead refusal.codeNotHandled 0)
   -- "INFO length wrong for its code"; "k is 1 to 8 and fixes the length, so k = 0 or 9 is refusal 11"
-  wrongLength : Known l → (RightLength l k os → ⊥) → PartJudged l k os (refusedAs refusal.infoLengthWrong 0)
+  wrongLength : HasLayout l → (RightLength l k os → ⊥) → PartJudged l k os (notRead refusal.infoLengthWrong 0)
   -- "field out of range", "first such field"
-  outOfRange : (n : ℕ) → Known l → RightLength l k os → FirstWrong (rowsAt l k) (valuesOf (rowsAt l k) os) n
-      → PartJudged l k os (refusedAs refusal.outOfRange n)
-  accepted : Known l → RightLength l k os → ((j : ℕ) → j < length (rowsAt l k) → RightAt (rowsAt l k) (valuesOf (rowsAt l k) os) j)
+  outOfRange : (n : ℕ) → HasLayout l → RightLength l k os → FirstWrong (rowsAt l k) (valuesOf (rowsAt l k) os) n
+      → PartJudged l k os (notRead refusal.outOfRange n)
+  accepted : HasLayout l → RightLength l k os → ((j : ℕ) → j < length (rowsAt l k) → RightAt (rowsAt l k) (valuesOf (rowsAt l k) os) j)
       → PartJudged l k os (readAs (partOf l k os))
 
 -- What reading INFO comes to: "10, 11 (so for under two octets) or 12"
 pub data Judged (info : List ℕ) : Read → Type 0 where
-  short : length info < codeLen → Judged info (refusedAs refusal.infoLengthWrong 0)
+  short : length info < codeLen → Judged info (notRead refusal.infoLengthWrong 0)
   body : {r : Read} → codeLen ≤ length info
       → PartJudged (numberOf (codeIn info)) (kIn (layoutAt (numberOf (codeIn info))) (bodyIn info)) (bodyIn info) r
       → Judged info r
@@ -179,8 +179,8 @@ pub data Judged (info : List ℕ) : Read → Type 0 where
 abbrev pub PartsReadSo : Type 0
 PartsReadSo = (l k : ℕ) (os : List ℕ) (r : Read) → (PartJudged l k os r → r ≡ readPartOf l k os) × (r ≡ readPartOf l k os → PartJudged l k os r)
 
-abbrev pub ReadSo : Type 0
-ReadSo = (info : List ℕ) (r : Read) → (Judged info r → r ≡ readOf info) × (r ≡ readOf info → Judged info r)
+abbrev pub MessagesReadSo : Type 0
+MessagesReadSo = (info : List ℕ) (r : Read) → (Judged info r → r ≡ readOf info) × (r ≡ readOf info → Judged info r)
 
 -- "The search over fields stops at the first that fails and yields its number."
 abbrev pub FirstFieldNamed : Type 0
@@ -195,44 +195,44 @@ abbrev pub ValuesStand : Type 0
 ValuesStand =
     (info : List ℕ) → readOf info .refusal ≡ refusal.none
     → (let m = readOf info .message in
-    (n s : ℕ) (f : Field) → Stands (rowsAt (numberIn m) (kOf m)) n f s → numbered (m .values) n ≡ valueOf (twoOf f) (drop s (bodyIn info)))
+    (n s : ℕ) (f : Field) → FieldStands (rowsAt (numberIn m) (kOfMessage m)) n f s → numbered (m .values) n ≡ valueOf (twoOf f) (drop s (bodyIn info)))
 
 -- Writing
 
 -- a message that may be written: its code is listed, it has as many fields as its layout, each in its range, and 0 past the last
 pub record Writable (m : Message) : Type 0 where
-  pub listed : Known (numberIn m)
-  pub fewest : layoutAt (numberIn m) .fewest ≤ kOf m
-  pub most : kOf m ≤ layoutAt (numberIn m) .most
-  pub fields : m .fields ≡ length (rowsAt (numberIn m) (kOf m))
-  pub ranges : (j : ℕ) → j < m .fields → RightAt (rowsAt (numberIn m) (kOf m)) (m .values) j
+  pub listed : HasLayout (numberIn m)
+  pub fewest : layoutAt (numberIn m) .fewest ≤ kOfMessage m
+  pub most : kOfMessage m ≤ layoutAt (numberIn m) .most
+  pub fields : m .fields ≡ length (rowsAt (numberIn m) (kOfMessage m))
+  pub ranges : (j : ℕ) → j < m .fields → RightAt (rowsAt (numberIn m) (kOfMessage m)) (m .values) j
   pub rest : (j : ℕ) → m .fields ≤ j → j < fieldsMost → getD (m .values) j 0 ≡ 0
 
 -- What writing comes to, and why: "4 or 5 before 9 in a writer", "nothing written", "the output beyond them stays"
-pub data WriteJudged (m : Message) (at : ℕ) (out : List ℕ) : Writing → Type 0 where
-  fieldWrong : (Writable m → ⊥) → WriteJudged m at out (writing.refusedAs refusal.fieldWrong out)
-  outputShort : Writable m → length out < at + length (infoOf m) → WriteJudged m at out (writing.refusedAs refusal.outputShort out)
+pub data MessageWriteJudged (m : Message) (at : ℕ) (out : List ℕ) : Writing → Type 0 where
+  fieldWrong : (Writable m → ⊥) → MessageWriteJudged m at out (writing.nothingWritten refusal.fieldWrong out)
+  outputShort : Writable m → length out < at + length (infoOf m) → MessageWriteJudged m at out (writing.nothingWritten refusal.outputShort out)
   written : Writable m → at + length (infoOf m) ≤ length out
-      → WriteJudged m at out (record {
+      → MessageWriteJudged m at out (record {
         answer = record { refusal = refusal.none; count = length (infoOf m) };
         out = take at out ++ (infoOf m ++ drop (at + length (infoOf m)) out);
       })
 
 -- "When, and only then": refusals 5 and 9.
-abbrev pub WrittenSo : Type 0
-WrittenSo = (m : Message) (at : ℕ) (out : List ℕ) (w : Writing) → (WriteJudged m at out w → w ≡ writeOf m at out) × (w ≡ writeOf m at out → WriteJudged m at out w)
+abbrev pub MessagesWrittenSo : Type 0
+MessagesWrittenSo = (m : Message) (at : ℕ) (out : List ℕ) (w : Writing) → (MessageWriteJudged m at out w → w ≡ writeMessage m at out) × (w ≡ writeMessage m at out → MessageWriteJudged m at out w)
 
 -- Round trips
 
 -- Reading undoes writing: what the writer stored and counted is read as the message that it was given.
-abbrev pub ReadingUndoesWriting : Type 0
-ReadingUndoesWriting =
+abbrev pub ReadingMessagesUndoesWriting : Type 0
+ReadingMessagesUndoesWriting =
     (m : Message) (at : ℕ) (out : List ℕ) → length (m .values) ≡ fieldsMost
-    → (let w = writeOf m at out in w .answer .refusal ≡ refusal.none → readOf (take (w .answer .count) (drop at (w .out))) ≡ readAs m)
+    → (let w = writeMessage m at out in w .answer .refusal ≡ refusal.none → readOf (take (w .answer .count) (drop at (w .out))) ≡ readAs m)
 
 -- Writing undoes reading: what the reader read is written, where there is room for it, as the octets that it was given.
-abbrev pub WritingUndoesReading : Type 0
-WritingUndoesReading =
+abbrev pub WritingMessagesUndoesReading : Type 0
+WritingMessagesUndoesReading =
     (info : List ℕ) (at : ℕ) (out : List ℕ) → Octets info → readOf info .refusal ≡ refusal.none → at + length info ≤ length out
-    → writeOf (readOf info .message) at out
+    → writeMessage (readOf info .message) at out
     ≡ record { answer = record { refusal = refusal.none; count = length info }; out = take at out ++ (info ++ drop (at + length info) out) }

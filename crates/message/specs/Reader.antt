@@ -19,8 +19,8 @@ use Rattle.message.specs.Values.{sizeOf, valuesOf, zeros, placed, number
 unfoldable pub noMessage : Message
 noMessage = record { code = 0; fields = 0; values = zeros }
 
-unfoldable pub refusedAs : ℕ → ℕ → Read
-refusedAs n field = record { refusal = n; field = field; message = noMessage }
+unfoldable pub notRead : ℕ → ℕ → Read
+notRead n field = record { refusal = n; field = field; message = noMessage }
 
 abbrev pub readAs : Message → Read
 readAs m = record { refusal = refusal.none; field = 0; message = m }
@@ -38,13 +38,13 @@ unfoldable pub rangedOf : ℕ → ℕ → List ℕ → Read
 rangedOf l k os =
     let m = partOf l k os in
     let field = firstOut (rowsAt l k) (m .values) in
-    pick (eqb field 0) (readAs m) (refusedAs refusal.outOfRange field)
+    pick (eqb field 0) (readAs m) (notRead refusal.outOfRange field)
 
 -- "k is 1 to 8 and fixes the length, so k = 0 or 9 is refusal 11"
 unfoldable pub readPartOf : ℕ → ℕ → List ℕ → Read
 readPartOf l k os =
-    pick (not (known l)) (refusedAs refusal.codeNotHandled 0)
-    (pick (not (both (kFits (layoutAt l) k) (eqb (length os) (sizeOf (rowsAt l k))))) (refusedAs refusal.infoLengthWrong 0)
+    pick (not (known l)) (notRead refusal.codeNotHandled 0)
+    (pick (not (both (kFits (layoutAt l) k) (eqb (length os) (sizeOf (rowsAt l k))))) (notRead refusal.infoLengthWrong 0)
     (rangedOf l k os))
 
 -- the code, high octet first, and "the octets after the two of the code"
@@ -58,5 +58,5 @@ bodyIn info = drop codeLen info
 unfoldable pub readOf : List ℕ → Read
 readOf info =
     let l = numberOf (codeIn info) in
-    pick (ltb (length info) codeLen) (refusedAs refusal.infoLengthWrong 0)
+    pick (ltb (length info) codeLen) (notRead refusal.infoLengthWrong 0)
     (readPartOf l (kIn (layoutAt l) (bodyIn info)) (bodyIn info))

@@ -6,7 +6,7 @@ use lib.ListN.{take, drop}
 use Rattle.message.specs.Fields.{code, errorNumber, parameterNumber, planSet, plan, count, minimum, maximum, yellow, allRed, walkFlash, redMan, direct, order, green, cycle, offset}
 use Rattle.message.specs.Layouts as layouts
 use Rattle.message.specs.declared.layout.Field.{Field}
-use Rattle.message.specs.declared.layout.Layout.{Layout}
+use Rattle.message.specs.declared.layout.LayoutLine.{LayoutLine}
 
 unfoldable pub table : List Field
 table =
@@ -26,7 +26,7 @@ unfoldable pub cut : ℕ → ℕ → List Field
 cut from n = take n (drop from table)
 
 -- the layout that the code's line is of
-abbrev pub keptBy : Layout → layouts.Layout
+abbrev pub keptBy : LayoutLine → layouts.Layout
 keptBy y =
     record {
       code = y .code;
@@ -39,6 +39,6 @@ keptBy y =
     }
 
 -- y is how the code keeps the layout of this number
-pub record Kept (l : ℕ) (y : Layout) : Type 0 where
+pub record Kept (l : ℕ) (y : LayoutLine) : Type 0 where
   pub is : keptBy y ≡ layouts.layoutAt l
   pub inside : y .from + y .head + y .group + y .tail ≤ tableLen

@@ -18,8 +18,8 @@ sizeOf [] = 0
 sizeOf (f ∷ fs) = widthOf (twoOf f) + sizeOf fs
 
 -- where the field at place i, from 0, starts: after the octets of all before it
-abbrev pub startOf : List Field → ℕ → ℕ
-startOf fs i = sizeOf (take i fs)
+abbrev pub fieldStart : List Field → ℕ → ℕ
+fieldStart fs i = sizeOf (take i fs)
 
 -- the fields' values, left to right
 abbrev pub valuesOf : List Field → List ℕ → List ℕ

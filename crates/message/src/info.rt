@@ -3,7 +3,7 @@ ghost use mathlib.Core.Path.{_≡_};
 ghost use lib.ListN.{length, drop};
 ghost use Rattle.octets.specs.Part.{PartFrom};
 ghost use Rattle.message.specs.Fields.{valueOf};
-ghost use Rattle.message.specs.Info.{opened, ahead, nextOctet, nextWord};
+ghost use Rattle.message.specs.Info.{readerAt, ahead, nextOctet, nextWord};
 
 // The octets, and the place at which the next field stands.
 pub struct Reader<'a> {
@@ -13,7 +13,7 @@ pub struct Reader<'a> {
 
 impl<'a> Reader<'a> {
     pub fn open(info: &'a [u8], at: usize) -> Reader<'a>
-        ensures { λ r. ⌜ r ≡ opened (info .entry) at ⌝ }
+        ensures { λ r. ⌜ r ≡ readerAt (info .entry) at ⌝ }
     {
         Reader { src: info, at }
     }
@@ -59,7 +59,7 @@ pub(crate) fn value_at(info: &[u8], at: usize, two: bool) -> u16
 }
 
 fn octet_at(s: &[u8], at: usize) -> u8
-    ensures { λ r. ⌜ r ≡ nextOctet (opened (s .entry) at) ⌝ }
+    ensures { λ r. ⌜ r ≡ nextOctet (readerAt (s .entry) at) ⌝ }
 {
     if s.len() <= at {
         return 0;
@@ -68,7 +68,7 @@ fn octet_at(s: &[u8], at: usize) -> u8
 }
 
 fn word_at(s: &[u8], at: usize) -> u16
-    ensures { λ r. ⌜ r ≡ nextWord (opened (s .entry) at) ⌝ }
+    ensures { λ r. ⌜ r ≡ nextWord (readerAt (s .entry) at) ⌝ }
 {
     if s.len() <= at {
         return 0;
@@ -77,7 +77,7 @@ fn word_at(s: &[u8], at: usize) -> u16
 }
 
 fn left_at(s: &[u8], at: usize) -> usize
-    ensures { λ r. ⌜ r ≡ length (ahead (opened (s .entry) at)) ⌝ }
+    ensures { λ r. ⌜ r ≡ length (ahead (readerAt (s .entry) at)) ⌝ }
 {
     if s.len() <= at {
         return 0;

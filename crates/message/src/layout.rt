@@ -136,7 +136,7 @@ const ENTRIES: [Entry; LAYOUTS] = [
 ];
 
 // A line of the table, by name.
-pub struct Layout {
+pub struct LayoutLine {
     pub code: u16,
     pub from: usize,
     pub head: usize,
@@ -148,12 +148,12 @@ pub struct Layout {
 }
 
 // The layout of this number; that of no field where there is none.
-pub(crate) fn layout_at(l: usize) -> Layout
+pub(crate) fn layout_at(l: usize) -> LayoutLine
     ensures { λ r. ⌜ Kept l r ⌝ }
 {
     if l < LAYOUTS {
         let e = ENTRIES[l];
-        return Layout {
+        return LayoutLine {
             code: e.0,
             from: e.1 as usize,
             head: e.2 as usize,
@@ -164,7 +164,7 @@ pub(crate) fn layout_at(l: usize) -> Layout
             most: e.7 as usize,
         };
     }
-    Layout {
+    LayoutLine {
         code: 0,
         from: 0,
         head: 0,

@@ -3,7 +3,7 @@ ghost use mathlib.Core.Path.{_≡_};
 ghost use Prim.Native.Nat.{_≤_};
 ghost use Rattle.message.specs.Layouts.{layoutAt, rowsAt, mostAt};
 ghost use Rattle.message.specs.Values.{valuesOf, placed};
-ghost use Rattle.message.specs.Reader.{refusedAs, kIn, rangedOf, readPartOf, readOf};
+ghost use Rattle.message.specs.Reader.{notRead, kIn, rangedOf, readPartOf, readOf};
 use crate::FIELDS_MOST;
 use crate::Message;
 use crate::Read;
@@ -64,7 +64,7 @@ fn ranged(l: usize, k: usize, part: &[u8]) -> Read
 }
 
 fn refused(n: u8, field: u8) -> Read
-    ensures { λ r. ⌜ r ≡ refusedAs n field ⌝ }
+    ensures { λ r. ⌜ r ≡ notRead n field ⌝ }
 {
     Read {
         refusal: n,

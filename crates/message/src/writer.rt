@@ -3,11 +3,11 @@ ghost use mathlib.Core.Path.{_≡_};
 ghost use Prim.Native.Nat.{_+_, _≤_};
 ghost use lib.ListN.{length};
 ghost use Rattle.octets.specs.Put.{Put, Stored};
-ghost use Rattle.octets.specs.Writing.{Wrote, writtenAs};
+ghost use Rattle.octets.specs.Writing.{WriterLeaves, writtenAs};
 ghost use Rattle.message.specs.Fields.{fieldOctets};
 ghost use Rattle.message.specs.Layouts.{rowsAt, mostAt};
 ghost use Rattle.message.specs.Values.{sizeOf, octetsOf};
-ghost use Rattle.message.specs.Writer.{infoAs, writableAs, writeOf};
+ghost use Rattle.message.specs.Writer.{infoAs, writableAs, writeMessage};
 use crate::FIELDS_MOST;
 use crate::Message;
 use crate::layout;
@@ -17,7 +17,7 @@ use octets::refusal;
 // The message as INFO. A field out of its range, one too few or too many, or a code that is not listed is refused before
 // the output is looked at.
 pub fn write(m: Message, out: &mut [u8], at: usize) -> Written
-    ensures { λ r. ⌜ Wrote (writeOf m at (now (out .entry))) r (now (out .exit)) ⌝ }
+    ensures { λ r. ⌜ WriterLeaves (writeMessage m at (now (out .entry))) r (now (out .exit)) ⌝ }
 {
     let values = m.values;
     let l = layout::find(m.code);
@@ -57,7 +57,7 @@ fn put_message(
     at: usize,
 ) -> Written
     requires { ⌜ k ≤ mostAt l ⌝ }
-    ensures { λ r. ⌜ Wrote (writtenAs (infoAs code (rowsAt l k) values) at (now (out .entry))) r (now (out .exit)) ⌝ }
+    ensures { λ r. ⌜ WriterLeaves (writtenAs (infoAs code (rowsAt l k) values) at (now (out .entry))) r (now (out .exit)) ⌝ }
 {
     let n = octets::CODE_LEN + layout::size(l, k);
     if !octets::room(out.len(), at, n) {

@@ -18,7 +18,7 @@ use Rattle.octets.specs.Word.{highOf, lowOf, wordOf}
 use Rattle.octets.specs.ExclusiveOr.{xor, exclusiveOr}
 use Rattle.octets.specs.Put.{Stored, Put}
 use Rattle.octets.specs.Refusal.{outputShort}
-use Rattle.octets.specs.Writing.{Wrote, refusedAs, writtenAs}
+use Rattle.octets.specs.Writing.{WriterLeaves, nothingWritten, writtenAs}
 use Rattle.octets.specs.First.{First}
 
 -- Choice
@@ -143,11 +143,11 @@ room-left n at k h = by (decLe (at + k) n)
     by (no g) = lt-leb k (n - at) (omega arith) ∙ sym (lt-leb (at + k) n (omega arith))
 
 module _ (vs out : List ℕ) (at : ℕ) where
-  pub written-9 : {n : ℕ} → n ≡ length vs → leb (at + n) (length out) ≡ false → writtenAs vs at out ≡ refusedAs outputShort out
+  pub written-9 : {n : ℕ} → n ≡ length vs → leb (at + n) (length out) ≡ false → writtenAs vs at out ≡ nothingWritten outputShort out
   unfolding writtenAs
   written-9 e h = rw (← e, h)
 
-  pub written-done : {n r : ℕ} {o : List ℕ} → n ≡ length vs → Stored vs at out r o → Wrote (writtenAs vs at out) (record { refusal = 0; count = n }) o
+  pub written-done : {n r : ℕ} {o : List ℕ} → n ≡ length vs → Stored vs at out r o → WriterLeaves (writtenAs vs at out) (record { refusal = 0; count = n }) o
   unfolding writtenAs
   written-done e p =
       rw (le-leb (at + length vs) (length out) (omega (arith, p .place, p .fits))) (record { answer = ap (λ (k : ℕ). record { refusal = 0; count = k }) e; out = p .holds })

@@ -14,17 +14,17 @@ pub record Writing : Type 0 where
   pub out : List ℕ
 
 -- the call answered r and left o in the output, as it should
-pub record Wrote (w : Writing) (r : Written) (o : List ℕ) : Type 0 where
+pub record WriterLeaves (w : Writing) (r : Written) (o : List ℕ) : Type 0 where
   pub answer : r ≡ w .answer
   pub out : o ≡ w .out
 
 -- "nothing written"
-abbrev pub refusedAs : ℕ → List ℕ → Writing
-refusedAs n out = record { answer = record { refusal = n; count = 0 }; out = out }
+abbrev pub nothingWritten : ℕ → List ℕ → Writing
+nothingWritten n out = record { answer = record { refusal = n; count = 0 }; out = out }
 
 -- the octets vs stored from `at` on; "output too short: .. exact need for a writer"
 unfoldable pub writtenAs : List ℕ → ℕ → List ℕ → Writing
 writtenAs vs at out =
     pick (leb (at + length vs) (length out))
     (record { answer = record { refusal = refusal.none; count = length vs }; out = sets out at vs })
-    (refusedAs refusal.outputShort out)
+    (nothingWritten refusal.outputShort out)

@@ -12,22 +12,22 @@ use Rattle.octets.specs.Octet.{Octets}
 use Rattle.octets.proofs.Laws.{both-left, both-right}
 use Rattle.diagram.specs.Rows.{directory}
 use Rattle.diagram.specs.Table.{find, diagramOf}
-use Rattle.message.specs.Layouts.{layouts, layoutAt, known, numberOf, rowsAt, rowsOf}
+use Rattle.message.specs.Layouts.{layouts, layoutAt, known, numberOf, rowsAt, layoutRows}
 use Rattle.message.specs.Values.{zeros, placed, firstOut}
-use Rattle.message.specs.Reader.{noMessage, refusedAs, partOf, rangedOf, readPartOf, readOf}
+use Rattle.message.specs.Reader.{noMessage, notRead, partOf, rangedOf, readPartOf, readOf}
 use Rattle.record.specs.Record.{ready, kOf}
 use Rattle.checks.specs.Standing.{timesDisagree, planDisagree, ranged, timesStand, planStands, readyStands, allZero, standingOf}
 use Rattle.plan.specs.BuiltIn.{padded, builtIn, PhaseSays, BuiltInIsSo}
-use Rattle.plan.specs.Setting.{notMade, timesRecord, readyRecord, timesField, timesMade, readyMade, keptAs, frontOf, setOf}
-use Rattle.plan.specs.Cases.{answers, dueAnswers, stands, dueStands, PlanCases}
+use Rattle.plan.specs.Setting.{notMade, timesRecord, readyRecord, timesField, timesMade, readyMade, keptAs, setFront, setOf}
+use Rattle.plan.specs.Cases.{setAnswers, dueSetAnswers, stands, dueStands, PlanCases}
 use Rattle.checks.proofs.Stands.{stands-as-it-is}
 
 pub plan-cases : PlanCases
-unfolding firstOf find directory diagramOf layouts layoutAt known numberOf rowsAt rowsOf zeros placed firstOut noMessage refusedAs partOf rangedOf readPartOf readOf timesDisagree planDisagree ranged timesStand planStands readyStands allZero standingOf padded notMade timesRecord readyRecord timesField timesMade readyMade keptAs frontOf setOf answers dueAnswers stands dueStands
+unfolding firstOf find directory diagramOf layouts layoutAt known numberOf rowsAt layoutRows zeros placed firstOut noMessage notRead partOf rangedOf readPartOf readOf timesDisagree planDisagree ranged timesStand planStands readyStands allZero standingOf padded notMade timesRecord readyRecord timesField timesMade readyMade keptAs setFront setOf setAnswers dueSetAnswers stands dueStands
 plan-cases = (refl, refl)
 
 pub built-in-stands : standingOf builtIn ≡ ready
-unfolding firstOf find directory diagramOf layouts layoutAt known rowsAt rowsOf zeros placed firstOut noMessage refusedAs partOf rangedOf readPartOf timesDisagree planDisagree ranged timesStand planStands readyStands allZero standingOf padded builtIn
+unfolding firstOf find directory diagramOf layouts layoutAt known rowsAt layoutRows zeros placed firstOut noMessage notRead partOf rangedOf readPartOf timesDisagree planDisagree ranged timesStand planStands readyStands allZero standingOf padded builtIn
 built-in-stands = refl
 
 -- a list that passes the test is one of octets

@@ -12,14 +12,14 @@ use Rattle.octets.proofs.Laws.{clash}
 use Rattle.record.specs.Record.{recordLen, plansMost, bookLen, empty}
 use Rattle.checks.specs.Standing.{standingOf}
 use Rattle.plan.specs.BuiltIn.{builtIn}
-use Rattle.plan.specs.Reading.{startOf, recordAt, same, readRefusal}
+use Rattle.plan.specs.Reading.{recordStart, recordAt, same, readRefusal}
 use Rattle.plan.specs.Promises.{ReadingJudged, wrongLength, overRange, unlike, emptyPlan, builtInRead, bookRead, PlansReadSo}
 use Rattle.plan.proofs.Readying.{stands-has, has-stands}
 use Rattle.plan.proofs.Laws.{same-is, is-same, length-built-in, octets-part, refused-book, refused-copy, refused-range, read-zero, refused-zero, refused-empty, read-set}
 
 module _ (book copy : List ℕ) (p : ℕ) (o : Octets book) where
   octets : Octets (recordAt book p)
-  octets = octets-part recordLen (startOf p) book o
+  octets = octets-part recordLen (recordStart p) book o
 
   module _ (hb : length book ≡ bookLen) (ho : length copy ≡ recordLen) where
     zero-by : p ≡ 0 → (t : Bool) → t ≡ same copy builtIn → ReadingJudged book copy p (readRefusal book copy p)

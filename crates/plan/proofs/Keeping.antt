@@ -11,25 +11,25 @@ use Rattle.octets.specs.Octet.{Octets}
 use Rattle.octets.specs.Part.{codeLen}
 use Rattle.octets.specs.Refusal as refusal
 use Rattle.message.specs.declared.Read.{Read}
-use Rattle.message.specs.Reader.{codeIn, bodyIn, refusedAs, readOf}
+use Rattle.message.specs.Reader.{codeIn, bodyIn, notRead, readOf}
 use Rattle.message.proofs.Reading.{read-11}
 use Rattle.plan.specs.declared.setting.Answered.{Answered}
-use Rattle.plan.specs.declared.setting.Made.{Made}
+use Rattle.plan.specs.declared.setting.NewRecord.{NewRecord}
 use Rattle.record.specs.Record.{bookLen, plansMost, Empty, TimesSet, Ready}
 use Rattle.plan.specs.Reading.{recordAt, readRefusal}
-use Rattle.plan.specs.Setting.{planIn, answered, frontOf, setOf, timesMade, readyMade, setTimesCode, setPlanCode, setTimesOf, setPlanOf}
-use Rattle.plan.specs.Promises.{SetRefused, SetsRefuse, Stored, OthersRead, SetsLeaveOthers, WellFormed, BookWellFormed, SetsKeepForm}
+use Rattle.plan.specs.Setting.{planIn, answered, setFront, setOf, timesMade, readyMade, setTimesCode, setPlanCode, setTimesOf, setPlanOf}
+use Rattle.plan.specs.Promises.{SetRefused, SetsRefuse, RecordStored, OthersRead, SetsLeaveOthers, WellFormed, BookWellFormed, SetsKeepForm}
 use Rattle.plan.proofs.Sets.{front-book, front-code, front-read, other-code, no-code, front-sound}
 use Rattle.plan.proofs.Storing.{times-stored-exactly-when}
 use Rattle.plan.proofs.Readying.{plan-stored-exactly-when}
 
-module _ (code : ℕ) (m : Made) (book info : List ℕ) where
-  set-is : {a : Answered} → a ≡ frontOf (length book) code info → (a .refusal ≡ refusal.none → ⊥) → setOf code m book info ≡ record { answer = a; book = book }
+module _ (code : ℕ) (m : NewRecord) (book info : List ℕ) where
+  set-is : {a : Answered} → a ≡ setFront (length book) code info → (a .refusal ≡ refusal.none → ⊥) → setOf code m book info ≡ record { answer = a; book = book }
   unfolding setOf
   set-is {a} e n = rw (← e, ne-eqb (a .refusal) refusal.none n)
 
   short : length info < codeLen → answered refusal.infoLengthWrong 0 ≡ answered (readOf info .refusal) (readOf info .field)
-  unfolding refusedAs
+  unfolding notRead
   short l = ap (λ (r : Read). answered (r .refusal) (r .field)) (read-11 info l)
 
   set-refuses : SetRefused code book info (setOf code m book info)
@@ -49,11 +49,11 @@ sets-refuse book info = (
 -- a set leaves the book as it was, or stores a record that stands
 pub data Left (book : List ℕ) (p : ℕ) : List ℕ → Type 0 where
   same : Left book p book
-  put : (rec book′ : List ℕ) → Stored book p rec book′ → WellFormed rec → Left book p book′
+  put : (rec book′ : List ℕ) → RecordStored book p rec book′ → WellFormed rec → Left book p book′
 
-pub set-other : (code : ℕ) (m : Made) (book info : List ℕ) → (codeIn info ≡ code → ⊥) → setOf code m book info .book ≡ book
+pub set-other : (code : ℕ) (m : NewRecord) (book info : List ℕ) → (codeIn info ≡ code → ⊥) → setOf code m book info .book ≡ book
 unfolding setOf
-set-other code m book info n = rw (ne-eqb (frontOf (length book) code info .refusal) refusal.none (λ e. n (front-sound (length book) code info e .2)))
+set-other code m book info n = rw (ne-eqb (setFront (length book) code info .refusal) refusal.none (λ e. n (front-sound (length book) code info e .2)))
 
 module _ (book info : List ℕ) (hb : length book ≡ bookLen) where
   abbrev p : ℕ

@@ -15,7 +15,7 @@ use Rattle.octets.proofs.Laws.{both-left, both-right, clash, drop-next}
 use Rattle.record.specs.Record.{recordLen, plansMost, bookLen, empty}
 use Rattle.checks.specs.Standing.{standingOf}
 use Rattle.plan.specs.BuiltIn.{padded, builtIn}
-use Rattle.plan.specs.Reading.{startOf, recordAt, same, readRefusal}
+use Rattle.plan.specs.Reading.{recordStart, recordAt, same, readRefusal}
 
 -- Reading
 
@@ -58,7 +58,7 @@ pub length-built-in : length builtIn ≡ recordLen
 unfolding builtIn padded
 length-built-in = refl
 
-pub record-from : (book : List ℕ) (at p : ℕ) → at ≡ startOf p → take (at + recordLen - at) (drop at book) ≡ recordAt book p
+pub record-from : (book : List ℕ) (at p : ℕ) → at ≡ recordStart p → take (at + recordLen - at) (drop at book) ≡ recordAt book p
 record-from book at p e = let n : at + recordLen - at ≡ recordLen = omega arith in rw (n, e)
 
 pub record-long : (book : List ℕ) (at : ℕ) → at + recordLen ≤ length book → length (take (at + recordLen - at) (drop at book)) ≡ recordLen

@@ -9,7 +9,7 @@ use Rattle.octets.specs.Choice.{pick}
 use Rattle.octets.specs.Part.{PartOf}
 use Rattle.octets.specs.Refusal as refusal
 use Rattle.record.specs.Record.{recordLen}
-use Rattle.plan.specs.Reading.{startOf, readRefusal}
+use Rattle.plan.specs.Reading.{recordStart, readRefusal}
 use Rattle.plan.proofs.book.built_in.Reads as built-in
 use Rattle.plan.proofs.book.is_built_in.Reads as is-built-in
 use Rattle.plan.proofs.reporting.report_times.Reads as report-times
@@ -50,5 +50,5 @@ only-read-plan κs a r s x y p q =
     let copy = a .1 .0 in
     let plan = a .1 .1 .0 in
     let e =
-    one-part (eqb (readRefusal (now book) (now copy) plan) refusal.none) (eqb plan 0) copy book copy 0 recordLen (startOf plan) recordLen 0 0 r s (p .part) (q .part) in
+    one-part (eqb (readRefusal (now book) (now copy) plan) refusal.none) (eqb plan 0) copy book copy 0 recordLen (recordStart plan) recordLen 0 0 r s (p .part) (q .part) in
     (e .0, e .1, p .refusal ∙ sym (q .refusal))

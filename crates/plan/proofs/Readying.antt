@@ -16,17 +16,17 @@ use Rattle.octets.specs.Refusal as refusal
 use Rattle.octets.specs.Word.{wordOf}
 use Rattle.octets.proofs.Laws.{clash}
 use Rattle.diagram.specs.Table.{phasesOf}
-use Rattle.message.specs.Layouts.{layouts, layoutAt, numberOf, rowsAt, rowsOf, repeated, greens, cycleOffset}
+use Rattle.message.specs.Layouts.{layouts, layoutAt, numberOf, rowsAt, layoutRows, repeated, greens, cycleOffset}
 use Rattle.message.specs.Names.{planAt, planCountAt, offsetAt}
 use Rattle.message.specs.Reader.{kIn, codeIn, bodyIn, readOf}
 use Rattle.message.proofs.Values.{size-append, size-repeated}
 use Rattle.plan.specs.declared.setting.Answered.{Answered}
-use Rattle.plan.specs.declared.setting.Made.{Made}
+use Rattle.plan.specs.declared.setting.NewRecord.{NewRecord}
 use Rattle.record.specs.Record.{recordLen, bookLen, plansMost, empty, timesSet, ready, octetAt, wordAt, stateOf, kOf, timesAt, timesEnd, greensAt, readyEnd, minimumOf, maximumOf, yellowOf, allRedOf, directOf, orderOf, greenOf, cycleOf, offsetOf, sumOf, Within, TimesFit, AllTimesFit, TimesSet, Ready}
 use Rattle.checks.specs.Standing.{between, greenFails, planFails, planChecks, planDisagree, standingOf, Stands}
-use Rattle.plan.specs.Reading.{startOf, recordAt}
+use Rattle.plan.specs.Reading.{recordStart, recordAt}
 use Rattle.plan.specs.Setting.{planIn, countIn, Setting, answered, made, notMade, readyRecord, planField, readyMade, keptAs, setOf, setPlanCode, setPlanOf}
-use Rattle.plan.specs.Promises.{directIn, orderIn, greenIn, cycleIn, offsetIn, sumIn, Ranges15, HasTimes, CountAgrees, GreenAgrees, Fit15, Disagrees15, count, green, cycle, offset, Stored, SameTimes, Holds15, PlanJudged, PlanStoredExactlyWhen}
+use Rattle.plan.specs.Promises.{directIn, orderIn, greenIn, cycleIn, offsetIn, sumIn, Ranges15, HasTimes, CountAgrees, GreenAgrees, Fit15, Disagrees15, count, green, cycle, offset, RecordStored, SameTimes, Holds15, PlanJudged, PlanStoredExactlyWhen}
 use Rattle.plan.proofs.Laws.{octets-part}
 use Rattle.checks.proofs.Fields.{at-one, within, inside, Pass, Read1, greens-in, greens-out}
 use Rattle.checks.proofs.Stands.{PlanAgrees, plan-first, plan-agrees, agrees-plan, green-within, within-green, check-green, check-cycle, check-offset, stands-as-it-is}
@@ -46,7 +46,7 @@ module _ (body : List ℕ) where
   e4 = ap (drop 1) e3 ∙ drop-drop 1 3 body
 
   ranges-from : Read1 5 (countIn body) body → Ranges15 body
-  unfolding rowsAt rowsOf layoutAt layouts
+  unfolding rowsAt layoutRows layoutAt layouts
   ranges-from r =
       let k = countIn body in
       let b = plan-body body r in
@@ -65,7 +65,7 @@ module _ (body : List ℕ) where
       }
 
   pub ranges-to : Ranges15 body → Read1 5 (countIn body) body
-  unfolding rowsAt rowsOf layoutAt layouts
+  unfolding rowsAt layoutRows layoutAt layouts
   ranges-to r =
       let k = countIn body in
       let o = at-one body 2 e2 in
@@ -294,7 +294,7 @@ module _ (old body : List ℕ) (h : HasTimes old) (r : Ranges15 body) (e : count
               (offset (counted n f (omega arith)) (λ j l. greened n f j (omega (arith, m-k, e)) (omega (arith, e))) (summed n f (omega arith))
               (omega (arith, m-cycle, m-offset, x)))
 
--- Stored exactly when
+-- RecordStored exactly when
 
 module _ (book info : List ℕ) (hb : length book ≡ bookLen) (ob : Octets book) (hc : codeIn info ≡ setPlanCode) where
   abbrev os : List ℕ
@@ -307,7 +307,7 @@ module _ (book info : List ℕ) (hb : length book ≡ bookLen) (ob : Octets book
   old = recordAt book p
 
   old-octets : Octets old
-  old-octets = octets-part recordLen (startOf p) book ob
+  old-octets = octets-part recordLen (recordStart p) book ob
 
   pub plan-number : numberOf (codeIn info) ≡ 5
   unfolding numberOf firstOf layoutAt layouts
@@ -321,7 +321,7 @@ module _ (book info : List ℕ) (hb : length book ≡ bookLen) (ob : Octets book
   unfolding layouts
   ranges-read r = is-read info 5 (countIn os) plan-number plan-count (long-enough info setPlanCode hc (λ z. absurd (omega arith))) (record { first = omega arith; last = omega arith }) (ranges-to os r)
 
-  abbrev what : Made
+  abbrev what : NewRecord
   what = readyMade old os
 
   abbrev m15 : List ℕ
@@ -331,7 +331,7 @@ module _ (book info : List ℕ) (hb : length book ≡ bookLen) (ob : Octets book
   no-set n field = record { answer = answered n field; book = book }
 
   abbrev done : Setting
-  done = record { answer = answered refusal.none 0; book = sets book (startOf p) m15 }
+  done = record { answer = answered refusal.none 0; book = sets book (recordStart p) m15 }
 
   module _ (er : readOf info .refusal ≡ refusal.none) where
     read-unset : standingOf old ≡ empty → setPlanOf book info ≡ no-set refusal.notReady planAt
@@ -414,7 +414,7 @@ module _ (book info : List ℕ) (hb : length book ≡ bookLen) (ob : Octets book
       record {
         rec = m15;
         stored = λ f.
-            subst (λ (w : Setting). Stored book p m15 (w .book)) (sym (fit-done f))
+            subst (λ (w : Setting). RecordStored book p m15 (w .book)) (sym (fit-done f))
             (stored-here book p m15 hb (f .ranges .plan .least) (f .ranges .plan .most)
             (m-long old os (f .set) (f .ranges) (f .count .stored) (f .count .diagram) (f .green) (f .cycle) (f .offset)));
         holds = λ f. m-holds old os (f .set) (f .ranges) (f .count .stored) (f .count .diagram) (f .green) (f .cycle) (f .offset);

@@ -15,17 +15,17 @@ use Rattle.octets.specs.Word.{highOf, lowOf}
 use Rattle.octets.proofs.Laws.{word-back}
 use Rattle.message.specs.declared.layout.Field.{Field}
 use Rattle.message.specs.Fields as field
-use Rattle.message.specs.Layouts.{layouts, layoutAt, numberOf, rowsAt, rowsOf, counted, repeated, times, greens, cycleOffset}
+use Rattle.message.specs.Layouts.{layouts, layoutAt, numberOf, rowsAt, layoutRows, counted, repeated, times, greens, cycleOffset}
 use Rattle.message.specs.Values.{sizeOf}
 use Rattle.message.specs.Reader.{noMessage, kIn, readOf}
 use Rattle.message.specs.Writer.{writable}
-use Rattle.message.specs.Promises.{Known}
+use Rattle.message.specs.Promises.{HasLayout}
 use Rattle.message.proofs.Accepted.{accepted-in, is-part, again, readPart}
 use Rattle.message.proofs.WrittenSo.{in-writable}
 use Rattle.message.proofs.Values.{size-append, size-repeated}
 use Rattle.record.specs.Record.{bookLen, plansMost, empty, ready, kOf, timesEnd, greensAt, readyEnd, directOf, orderOf, AllTimesFit}
 use Rattle.checks.specs.Standing.{between, standingOf}
-use Rattle.plan.specs.Reading.{startOf, recordAt}
+use Rattle.plan.specs.Reading.{recordStart, recordAt}
 use Rattle.plan.specs.Reporting.{reportPlanCode, reportRunningCode, timesInfo, planInfo, reportTimesOf, reportsPlan, reportPlanOf}
 use Rattle.plan.specs.Promises.{ReportsRead}
 use Rattle.checks.proofs.Laws.{stands-long}
@@ -50,7 +50,7 @@ module _ (rec : List ℕ) (p : ℕ) (hp : p ≤ plansMost) (n : standingOf rec �
   times-in = omega (arith, some-long rec n, fit .count .most)
 
   times-body : Read1 4 k timesBody
-  unfolding rowsAt rowsOf layoutAt layouts
+  unfolding rowsAt layoutRows layoutAt layouts
   times-body =
       let fs : List Field = repeated k times ++ [] in
       let s : sizeOf fs ≡ 7 * k = omega (arith, size-append (repeated k times) [], size-repeated times k) in
@@ -76,7 +76,7 @@ module _ (rec : List ℕ) (p : ℕ) (hp : p ≤ plansMost) (n : standingOf rec �
 
   -- 5F C5 and 5F C8
 
-  module _ (h : standingOf rec ≡ ready) (l code : ℕ) (el : numberOf code ≡ l) (kn : Known l)
+  module _ (h : standingOf rec ≡ ready) (l code : ℕ) (el : numberOf code ≡ l) (kn : HasLayout l)
       (ey : layoutAt l ≡ counted code (field.plan ∷ field.direct ∷ field.order ∷ field.count ∷ []) greens cycleOffset) where
     abbrev planBody : List ℕ
     planBody = p ∷ directOf rec ∷ orderOf rec ∷ k ∷ between (greensAt rec) (readyEnd rec) rec
@@ -85,7 +85,7 @@ module _ (rec : List ℕ) (p : ℕ) (hp : p ≤ plansMost) (n : standingOf rec �
     plan-in = omega (arith, some-long rec n, fit .count .most)
 
     plan-body : Read1 l k planBody
-    unfolding rowsAt rowsOf
+    unfolding rowsAt layoutRows
     plan-body =
         let fs : List Field = repeated k greens ++ cycleOffset in
         let s : sizeOf fs ≡ 2 * k + 4 = omega (arith, size-append (repeated k greens) cycleOffset, size-repeated greens k) in
@@ -163,5 +163,5 @@ standing-none = sym (stands-long [] (λ z. absurd (omega arith)))
 -- past the last plan the book has nothing
 pub standing-past : (book : List ℕ) (p : ℕ) → length book ≡ bookLen → plansMost < p → standingOf (recordAt book p) ≡ empty
 standing-past book p hb l =
-    let h : length book ≤ startOf p = omega arith in
+    let h : length book ≤ recordStart p = omega arith in
     rw (drop-of-length-le book h, take-nil) standing-none

@@ -15,12 +15,12 @@ use Rattle.message.specs.declared.Read.{Read}
 use Rattle.message.specs.Reader.{noMessage, readOf}
 use Rattle.record.specs.Record.{recordLen, empty, ready, kOf, timesEnd, greensAt, readyEnd, directOf, orderOf}
 use Rattle.checks.specs.Standing.{between, standingOf}
-use Rattle.plan.specs.Reporting.{infoMost, reportTimesCode, timesInfo, planInfo, reportTimesOf, reportsPlan, reportPlanOf}
+use Rattle.plan.specs.Reporting.{reportMost, reportTimesCode, timesInfo, planInfo, reportTimesOf, reportsPlan, reportPlanOf}
 use Rattle.checks.proofs.Stands.{times-fit, some-long, some-times}
 
 -- two runs of octets, one after the other, from the front
-module _ (front rest : List ℕ) {p n : ℕ} {l m : List ℕ} (h : length front + length rest ≤ infoMost) (a : Put front 0 (replicate infoMost 0) p l) (b : Put rest p l n m) where
-  both-stored : Stored (front ++ rest) 0 (replicate infoMost 0) n m
+module _ (front rest : List ℕ) {p n : ℕ} {l m : List ℕ} (h : length front + length rest ≤ reportMost) (a : Put front 0 (replicate reportMost 0) p l) (b : Put rest p l n m) where
+  both-stored : Stored (front ++ rest) 0 (replicate reportMost 0) n m
   both-stored =
       let sa = put-stored a (omega arith) in
       stored-then sa (put-stored b (omega (arith, sa .place, sa .long)))
@@ -32,9 +32,9 @@ module _ (front rest : List ℕ) {p n : ℕ} {l m : List ℕ} (h : length front 
   run-is =
       let s = both-stored in
       let k : length (front ++ rest) ≡ n = sym (s .place ∙ omega arith) in
-      let e : m ≡ (front ++ rest) ++ drop (0 + length (front ++ rest)) (replicate infoMost 0) =
-      s .holds ∙ sets-eq (front ++ rest) (replicate infoMost 0) 0 (omega (arith, length-append front rest)) in
-      rw e (take-at (front ++ rest) (drop (0 + length (front ++ rest)) (replicate infoMost 0)) n k)
+      let e : m ≡ (front ++ rest) ++ drop (0 + length (front ++ rest)) (replicate reportMost 0) =
+      s .holds ∙ sets-eq (front ++ rest) (replicate reportMost 0) 0 (omega (arith, length-append front rest)) in
+      rw e (take-at (front ++ rest) (drop (0 + length (front ++ rest)) (replicate reportMost 0)) n k)
 
 module _ (rec : List ℕ) (p : ℕ) {s : ℕ} (es : s ≡ standingOf rec) where
   pub times-none : s ≡ empty → {m : Message} → m ≡ noMessage → m ≡ reportTimesOf rec p

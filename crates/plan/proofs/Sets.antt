@@ -17,36 +17,36 @@ use Rattle.octets.specs.Refusal as refusal
 use Rattle.octets.proofs.Laws.{clash, put-stored, stored-then, part-to-end, getD-past}
 use Rattle.message.specs.declared.Read.{Read}
 use Rattle.message.specs.Fields as field
-use Rattle.message.specs.Layouts.{layouts, layoutAt, numberOf, rowsAt, rowsOf, repeated, times, greens, cycleOffset}
+use Rattle.message.specs.Layouts.{layouts, layoutAt, numberOf, rowsAt, layoutRows, repeated, times, greens, cycleOffset}
 use Rattle.message.specs.Values.{sizeOf, valuesOf}
 use Rattle.message.specs.Reader.{kIn, codeIn, bodyIn, readOf}
 use Rattle.message.specs.Names.{planAt, planCountAt, maximumAt, redManAt}
 use Rattle.message.proofs.Accepted.{Accepted, accepted-in}
 use Rattle.message.proofs.Values.{size-append, size-repeated}
 use Rattle.plan.specs.declared.setting.Answered.{Answered}
-use Rattle.plan.specs.declared.setting.Made.{Made}
+use Rattle.plan.specs.declared.setting.NewRecord.{NewRecord}
 use Rattle.record.specs.Record.{recordLen, bookLen, empty, timesSet, ready, octetAt, kOf, timesEnd, ZeroFrom}
 use Rattle.checks.specs.Standing.{between, timesDisagree, planDisagree, standingOf}
 use Rattle.plan.specs.BuiltIn.{padded}
-use Rattle.plan.specs.Reading.{startOf, recordAt}
-use Rattle.plan.specs.Setting.{planIn, countIn, Times14, Plan15, timesRecord, readyRecord, made, notMade, timesField, planField, timesMade, readyMade, Setting, Did, answered, keptAs, setTimesCode, setPlanCode, otherCode, frontOf, setOf}
+use Rattle.plan.specs.Reading.{recordStart, recordAt}
+use Rattle.plan.specs.Setting.{planIn, countIn, Times14, Plan15, timesRecord, readyRecord, made, notMade, timesField, planField, timesMade, readyMade, Setting, SetLeaves, answered, keptAs, setTimesCode, setPlanCode, otherCode, setFront, setOf}
 use Rattle.checks.proofs.Fields.{Read1, pass-all}
 use Rattle.checks.proofs.Laws.{both-none}
 
 -- What any set refuses
 
 module _ (n code : ℕ) (info : List ℕ) where
-  pub front-book : (n ≡ bookLen → ⊥) → answered refusal.bookWrong 0 ≡ frontOf n code info
-  unfolding frontOf
+  pub front-book : (n ≡ bookLen → ⊥) → answered refusal.bookWrong 0 ≡ setFront n code info
+  unfolding setFront
   front-book h = rw (ne-eqb n bookLen h)
 
   module _ (hb : n ≡ bookLen) {t : Bool} (et : t ≡ otherCode code info) where
-    pub front-code : t ≡ true → answered refusal.codeNotHandled 0 ≡ frontOf n code info
-    unfolding frontOf
+    pub front-code : t ≡ true → answered refusal.codeNotHandled 0 ≡ setFront n code info
+    unfolding setFront
     front-code h = rw (eq-eqb n bookLen hb, ← et, h)
 
-    pub front-read : t ≡ false → {r : Read} → r ≡ readOf info → answered (r .refusal) (r .field) ≡ frontOf n code info
-    unfolding frontOf
+    pub front-read : t ≡ false → {r : Read} → r ≡ readOf info → answered (r .refusal) (r .field) ≡ setFront n code info
+    unfolding setFront
     front-read h e = rw (eq-eqb n bookLen hb, ← et, h, e)
 
   pub other-code : codeLen ≤ length info → (codeIn info ≡ code → ⊥) → true ≡ otherCode code info
@@ -59,10 +59,10 @@ module _ (n code : ℕ) (info : List ℕ) where
   no-code l = rw (lt-leb codeLen (length info) l)
 
   -- what no refusal tells
-  pub front-sound : frontOf n code info .refusal ≡ refusal.none → (n ≡ bookLen) × (readOf info .refusal ≡ refusal.none) × (codeIn info ≡ code)
+  pub front-sound : setFront n code info .refusal ≡ refusal.none → (n ≡ bookLen) × (readOf info .refusal ≡ refusal.none) × (codeIn info ≡ code)
   front-sound e = by (ℕ-discrete n bookLen) (otherCode code info) refl
     where
-      none : {a : Answered} → a ≡ frontOf n code info → a .refusal ≡ refusal.none
+      none : {a : Answered} → a ≡ setFront n code info → a .refusal ≡ refusal.none
       none q = ap (λ (a : Answered). a .refusal) q ∙ e
 
       same : false ≡ otherCode code info → codeLen ≤ length info → Dec (codeIn info ≡ code) → codeIn info ≡ code
@@ -92,7 +92,7 @@ module _ (info : List ℕ) (e : readOf info .refusal ≡ refusal.none) where
 
 module _ (body : List ℕ) where
   pub times-body : Read1 3 (kOf body) body → Times14 body
-  unfolding rowsAt rowsOf layoutAt layouts
+  unfolding rowsAt layoutRows layoutAt layouts
   times-body r =
       let k = kOf body in
       record {
@@ -102,7 +102,7 @@ module _ (body : List ℕ) where
       }
 
   pub plan-body : Read1 5 (countIn body) body → Plan15 body
-  unfolding rowsAt rowsOf layoutAt layouts
+  unfolding rowsAt layoutRows layoutAt layouts
   plan-body r =
       let k = countIn body in
       record {
@@ -268,44 +268,44 @@ module _ (old body : List ℕ) {s : ℕ} (es : s ≡ standingOf old) where
 
 -- What is kept
 
-module _ (p : ℕ) (m : Made) (book : List ℕ) where
-  pub kept-not : (m .refusal ≡ refusal.none → ⊥) → {r : Answered} → r ≡ answered (m .refusal) (m .field) → Did (keptAs p m book) r book
+module _ (p : ℕ) (m : NewRecord) (book : List ℕ) where
+  pub kept-not : (m .refusal ≡ refusal.none → ⊥) → {r : Answered} → r ≡ answered (m .refusal) (m .field) → SetLeaves (keptAs p m book) r book
   unfolding keptAs
   kept-not h e = rw (ne-eqb (m .refusal) refusal.none h) (record { answer = e; book = refl })
 
-  pub kept-is : m .refusal ≡ refusal.none → {r : Answered} → r ≡ answered refusal.none 0 → {l : List ℕ} → l ≡ sets book (startOf p) (m .rec) → Did (keptAs p m book) r l
+  pub kept-is : m .refusal ≡ refusal.none → {r : Answered} → r ≡ answered refusal.none 0 → {l : List ℕ} → l ≡ sets book (recordStart p) (m .rec) → SetLeaves (keptAs p m book) r l
   unfolding keptAs
   kept-is h e el = rw (eq-eqb (m .refusal) refusal.none h) (record { answer = e; book = el })
 
-module _ (code : ℕ) (m : Made) (book info : List ℕ) {f : Answered} (ef : f ≡ frontOf (length book) code info) where
-  pub set-refused : (f .refusal ≡ refusal.none → ⊥) → Did (setOf code m book info) f book
+module _ (code : ℕ) (m : NewRecord) (book info : List ℕ) {f : Answered} (ef : f ≡ setFront (length book) code info) where
+  pub set-refused : (f .refusal ≡ refusal.none → ⊥) → SetLeaves (setOf code m book info) f book
   unfolding setOf
   set-refused h = rw (← ef, ne-eqb (f .refusal) refusal.none h) (record { answer = refl; book = refl })
 
-  pub set-kept : f .refusal ≡ refusal.none → {r : Answered} {l : List ℕ} → Did (keptAs (planIn (bodyIn info)) m book) r l → Did (setOf code m book info) r l
+  pub set-kept : f .refusal ≡ refusal.none → {r : Answered} {l : List ℕ} → SetLeaves (keptAs (planIn (bodyIn info)) m book) r l → SetLeaves (setOf code m book info) r l
   unfolding setOf
   set-kept h d = rw (← ef, eq-eqb (f .refusal) refusal.none h) d
 
 -- What a set that is not refused at the front is of
 
 module _ (book info : List ℕ) {f : Answered} {os : List ℕ} (eo : os ≡ bodyIn info) (h : f .refusal ≡ refusal.none) where
-  module _ (ef : f ≡ frontOf (length book) setTimesCode info) where
+  module _ (ef : f ≡ setFront (length book) setTimesCode info) where
     pub times-sound : (length book ≡ bookLen) × Times14 os
     times-sound =
         let s = front-sound (length book) setTimesCode info (ap (λ (a : Answered). a .refusal) (sym ef) ∙ h) in
         (s .0, rw eo (times-body (bodyIn info) (read-times info (s .1) (s .2))))
 
-    pub set-times-kept : {p : ℕ} {m : Made} {r : Answered} {l : List ℕ} → p ≡ octetAt os 0 → m ≡ timesMade os → Did (keptAs p m book) r l
-        → Did (setOf setTimesCode (timesMade (bodyIn info)) book info) r l
+    pub set-times-kept : {p : ℕ} {m : NewRecord} {r : Answered} {l : List ℕ} → p ≡ octetAt os 0 → m ≡ timesMade os → SetLeaves (keptAs p m book) r l
+        → SetLeaves (setOf setTimesCode (timesMade (bodyIn info)) book info) r l
     set-times-kept ep em d = set-kept setTimesCode (timesMade (bodyIn info)) book info ef h (rw (ep, em, eo) at d)
 
-  module _ (ef : f ≡ frontOf (length book) setPlanCode info) where
+  module _ (ef : f ≡ setFront (length book) setPlanCode info) where
     pub plan-sound : (length book ≡ bookLen) × Plan15 os
     plan-sound =
         let s = front-sound (length book) setPlanCode info (ap (λ (a : Answered). a .refusal) (sym ef) ∙ h) in
         (s .0, rw eo (plan-body (bodyIn info) (read-plan info (s .1) (s .2))))
 
-    pub set-plan-kept : {p : ℕ} {m : Made} {old : List ℕ} {r : Answered} {l : List ℕ} → p ≡ octetAt os 0 → old ≡ recordAt book p → m ≡ readyMade old os
-        → Did (keptAs p m book) r l → Did (setOf setPlanCode (readyMade (recordAt book (planIn (bodyIn info))) (bodyIn info)) book info) r l
+    pub set-plan-kept : {p : ℕ} {m : NewRecord} {old : List ℕ} {r : Answered} {l : List ℕ} → p ≡ octetAt os 0 → old ≡ recordAt book p → m ≡ readyMade old os
+        → SetLeaves (keptAs p m book) r l → SetLeaves (setOf setPlanCode (readyMade (recordAt book (planIn (bodyIn info))) (bodyIn info)) book info) r l
     set-plan-kept ep eq em d =
         set-kept setPlanCode (readyMade (recordAt book (planIn (bodyIn info))) (bodyIn info)) book info ef h (rw (em, eq, ep, eo) at d)

@@ -15,19 +15,19 @@ use Rattle.octets.specs.Part.{codeLen}
 use Rattle.octets.specs.Refusal as refusal
 use Rattle.octets.proofs.Laws.{clash}
 use Rattle.message.specs.declared.Read.{Read}
-use Rattle.message.specs.Layouts.{layouts, layoutAt, numberOf, rowsAt, rowsOf, repeated, times}
+use Rattle.message.specs.Layouts.{layouts, layoutAt, numberOf, rowsAt, layoutRows, repeated, times}
 use Rattle.message.specs.Reader.{readAs, partOf, kIn, codeIn, bodyIn, readOf}
-use Rattle.message.specs.Promises.{Known, Judged, body, accepted}
+use Rattle.message.specs.Promises.{HasLayout, Judged, body, accepted}
 use Rattle.message.proofs.ReadSo.{read-so}
 use Rattle.message.proofs.Values.{size-append, size-repeated}
 use Rattle.plan.specs.declared.setting.Answered.{Answered}
-use Rattle.plan.specs.declared.setting.Made.{Made}
+use Rattle.plan.specs.declared.setting.NewRecord.{NewRecord}
 use Rattle.record.specs.Record.{recordLen, bookLen, plansMost, timesSet, octetAt, wordAt, stateOf, kOf, timesAt, timesEnd, minimumOf, maximumOf, yellowOf, allRedOf, walkFlashOf, redManOf, Within, TimesFit, AllTimesFit, TimesSet}
 use Rattle.checks.specs.Standing.{timesFail, timesChecks, timesDisagree}
 use Rattle.plan.specs.BuiltIn.{padded}
-use Rattle.plan.specs.Reading.{startOf, recordAt}
-use Rattle.plan.specs.Setting.{planIn, Setting, answered, made, notMade, timesRecord, timesField, timesMade, keptAs, frontOf, setOf, setTimesCode, setTimesOf}
-use Rattle.plan.specs.Promises.{Fit14, PhaseAgrees, Disagrees14, maximum, redMan, Stored, SameTimes, Holds14, TimesJudged, TimesStoredExactlyWhen}
+use Rattle.plan.specs.Reading.{recordStart, recordAt}
+use Rattle.plan.specs.Setting.{planIn, Setting, answered, made, notMade, timesRecord, timesField, timesMade, keptAs, setFront, setOf, setTimesCode, setTimesOf}
+use Rattle.plan.specs.Promises.{Fit14, PhaseAgrees, Disagrees14, maximum, redMan, RecordStored, SameTimes, Holds14, TimesJudged, TimesStoredExactlyWhen}
 use Rattle.checks.proofs.Fields.{at-one, inside, Pass, Read1, all-pass, pass-repeated, repeated-pass, phase-in, phase-out}
 use Rattle.checks.proofs.Stands.{phases-at, times-first, check-maximum, check-redman, times-ordered, times-walk, agree-times}
 use Rattle.plan.proofs.Sets.{front-read, same-code, read-times, times-body, padded-at, padded-long, padded-rest, times-at, field-maximum, field-redman}
@@ -36,52 +36,52 @@ use Rattle.plan.proofs.Sets.{front-read, same-code, read-times, times-b
 
 module _ (book : List ℕ) (p : ℕ) (rec : List ℕ) (hb : length book ≡ bookLen) (hp : 1 ≤ p) (hm : p ≤ plansMost) (hr : length rec ≡ recordLen) where
   abbrev before : List ℕ
-  before = take (startOf p) book
+  before = take (recordStart p) book
 
   abbrev rest : List ℕ
-  rest = drop (startOf p + recordLen) book
+  rest = drop (recordStart p + recordLen) book
 
-  before-long : length before ≡ startOf p
-  before-long = length-take-le (startOf p) book (omega arith)
+  before-long : length before ≡ recordStart p
+  before-long = length-take-le (recordStart p) book (omega arith)
 
-  split : sets book (startOf p) rec ≡ before ++ rec ++ rest
-  split = sets-eq rec book (startOf p) (omega arith) ∙ ap (λ (n : ℕ). before ++ rec ++ drop (startOf p + n) book) hr
+  split : sets book (recordStart p) rec ≡ before ++ rec ++ rest
+  split = sets-eq rec book (recordStart p) (omega arith) ∙ ap (λ (n : ℕ). before ++ rec ++ drop (recordStart p + n) book) hr
 
-  here : recordAt (sets book (startOf p) rec) p ≡ rec
-  here = rw (split, append-assoc before rec rest, drop-at before (rec ++ rest) (startOf p) before-long) (take-at rec rest recordLen hr)
+  here : recordAt (sets book (recordStart p) rec) p ≡ rec
+  here = rw (split, append-assoc before rec rest, drop-at before (rec ++ rest) (recordStart p) before-long) (take-at rec rest recordLen hr)
 
   module _ (q : ℕ) (hq : 1 ≤ q) where
-    lower : q < p → recordAt (sets book (startOf p) rec) q ≡ recordAt book q
+    lower : q < p → recordAt (sets book (recordStart p) rec) q ≡ recordAt book q
     lower l =
-        let n : startOf q ≤ length before = omega (arith, before-long) in
-        let m : recordLen ≤ length (drop (startOf q) before) = simp length-drop (omega (arith, before-long)) in
-        rw (split, append-assoc before rec rest, drop-append-le (startOf q) before (rec ++ rest) n, take-append-le recordLen (drop (startOf q) before) (rec ++ rest) m)
+        let n : recordStart q ≤ length before = omega (arith, before-long) in
+        let m : recordLen ≤ length (drop (recordStart q) before) = simp length-drop (omega (arith, before-long)) in
+        rw (split, append-assoc before rec rest, drop-append-le (recordStart q) before (rec ++ rest) n, take-append-le recordLen (drop (recordStart q) before) (rec ++ rest) m)
         (sym
-        (ap (λ (l : List ℕ). recordAt l q) (sym (take-append-drop (startOf p) book))
-        ∙ rw (drop-append-le (startOf q) before (drop (startOf p) book) n, take-append-le recordLen (drop (startOf q) before) (drop (startOf p) book) m)))
+        (ap (λ (l : List ℕ). recordAt l q) (sym (take-append-drop (recordStart p) book))
+        ∙ rw (drop-append-le (recordStart q) before (drop (recordStart p) book) n, take-append-le recordLen (drop (recordStart q) before) (drop (recordStart p) book) m)))
 
-    higher : p < q → recordAt (sets book (startOf p) rec) q ≡ recordAt book q
+    higher : p < q → recordAt (sets book (recordStart p) rec) q ≡ recordAt book q
     higher l =
-        let a : ℕ = startOf q - (startOf p + recordLen) in
-        let n : startOf q ≡ length (before ++ rec) + a = omega (arith, length-append before rec, before-long) in
-        let m : startOf p + recordLen + a ≡ startOf q = omega arith in
-        rw (split, n, drop-append-add (before ++ rec) rest a, ← n, drop-drop a (startOf p + recordLen) book, m)
+        let a : ℕ = recordStart q - (recordStart p + recordLen) in
+        let n : recordStart q ≡ length (before ++ rec) + a = omega (arith, length-append before rec, before-long) in
+        let m : recordStart p + recordLen + a ≡ recordStart q = omega arith in
+        rw (split, n, drop-append-add (before ++ rec) rest a, ← n, drop-drop a (recordStart p + recordLen) book, m)
 
-  pub stored-here : Stored book p rec (sets book (startOf p) rec)
+  pub stored-here : RecordStored book p rec (sets book (recordStart p) rec)
   stored-here =
       record {
-        long = length-sets book (startOf p) rec ∙ hb;
+        long = length-sets book (recordStart p) rec ∙ hb;
         here = here;
         others = λ q hq l n. by q hq n (decLt q p);
       }
     where
-      by : (q : ℕ) → 1 ≤ q → (q ≡ p → ⊥) → Dec (q < p) → recordAt (sets book (startOf p) rec) q ≡ recordAt book q
+      by : (q : ℕ) → 1 ≤ q → (q ≡ p → ⊥) → Dec (q < p) → recordAt (sets book (recordStart p) rec) q ≡ recordAt book q
       by q hq n (yes l) = lower q hq l
       by q hq n (no g) = higher q hq (omega arith)
 
 -- What a set comes to, where the book and the code are right
 
-module _ (code : ℕ) (m : Made) (book info : List ℕ) (hb : length book ≡ bookLen) (hc : codeIn info ≡ code) where
+module _ (code : ℕ) (m : NewRecord) (book info : List ℕ) (hb : length book ≡ bookLen) (hc : codeIn info ≡ code) where
   pub set-read : readOf info .refusal ≡ refusal.none → setOf code m book info ≡ keptAs (planIn (bodyIn info)) m book
   unfolding setOf
   set-read e = rw (← front-read (length book) code info hb (same-code (length book) code info hc) refl refl, eq-eqb (readOf info .refusal) refusal.none e)
@@ -91,7 +91,7 @@ module _ (code : ℕ) (m : Made) (book info : List ℕ) (hb : length book ≡ bo
   set-unread n = rw (← front-read (length book) code info hb (same-code (length book) code info hc) refl refl, ne-eqb (readOf info .refusal) refusal.none n)
 
 module _ (p : ℕ) (book : List ℕ) where
-  pub kept-made : (rec : List ℕ) → keptAs p (made rec) book ≡ record { answer = answered refusal.none 0; book = sets book (startOf p) rec }
+  pub kept-made : (rec : List ℕ) → keptAs p (made rec) book ≡ record { answer = answered refusal.none 0; book = sets book (recordStart p) rec }
   unfolding keptAs
   kept-made rec = refl
 
@@ -101,13 +101,13 @@ module _ (p : ℕ) (book : List ℕ) where
 
 -- a message of which the parts are right is read
 module _ (info : List ℕ) (l k : ℕ) (el : numberOf (codeIn info) ≡ l) (ek : kIn (layoutAt l) (bodyIn info) ≡ k) where
-  pub read-as : codeLen ≤ length info → Known l → Read1 l k (bodyIn info) → readOf info ≡ readAs (partOf l k (bodyIn info))
+  pub read-as : codeLen ≤ length info → HasLayout l → Read1 l k (bodyIn info) → readOf info ≡ readAs (partOf l k (bodyIn info))
   read-as h kn r =
       let j = accepted kn (r .right) (all-pass (rowsAt l k) (bodyIn info) (r .pass)) in
       let q : Judged info (readAs (partOf l k (bodyIn info))) = body {r = readAs (partOf l k (bodyIn info))} h (rw (el, ek) j) in
       sym (read-so info (readAs (partOf l k (bodyIn info))) .0 q)
 
-  pub is-read : codeLen ≤ length info → Known l → Read1 l k (bodyIn info) → readOf info .refusal ≡ refusal.none
+  pub is-read : codeLen ≤ length info → HasLayout l → Read1 l k (bodyIn info) → readOf info .refusal ≡ refusal.none
   is-read h kn r = ap (λ (r : Read). r .refusal) (read-as h kn r)
 
 -- The checks of a 5F 14
@@ -124,7 +124,7 @@ module _ (body : List ℕ) where
   two-on = drop-drop 1 1 body
 
   fit-from : Read1 3 (kOf body) body → timesDisagree body ≡ 0 → Fit14 body
-  unfolding rowsAt rowsOf layoutAt layouts
+  unfolding rowsAt layoutRows layoutAt layouts
   fit-from r e =
       let k = kOf body in
       let b = times-body body r in
@@ -143,7 +143,7 @@ module _ (body : List ℕ) where
   fit-agrees f = agree-times body (λ i l. f .times .phases i l .ordered) (λ i l. f .times .phases i l .walk)
 
   pub fit-read : Fit14 body → Read1 3 (kOf body) body
-  unfolding rowsAt rowsOf layoutAt layouts
+  unfolding rowsAt layoutRows layoutAt layouts
   fit-read f =
       let k = kOf body in
       let p : Pass (repeated k times ++ []) (drop 2 body) =
@@ -246,7 +246,7 @@ module _ (body : List ℕ) (f : Fit14 body) where
         times = λ i l. same-phase i;
       }
 
--- Stored exactly when
+-- RecordStored exactly when
 
 module _ (book info : List ℕ) (hb : length book ≡ bookLen) (hc : codeIn info ≡ setTimesCode) where
   abbrev os : List ℕ
@@ -266,7 +266,7 @@ module _ (book info : List ℕ) (hb : length book ≡ bookLen) (hc : codeIn info
 
   -- read, it is stored or not by its agreement
   read-stored : readOf info .refusal ≡ refusal.none → timesDisagree os ≡ 0
-      → setTimesOf book info ≡ record { answer = answered refusal.none 0; book = sets book (startOf (planIn os)) (timesRecord os) }
+      → setTimesOf book info ≡ record { answer = answered refusal.none 0; book = sets book (recordStart (planIn os)) (timesRecord os) }
   unfolding timesMade
   read-stored e z = set-read setTimesCode (timesMade os) book info hb hc e ∙ rw (eq-eqb (timesDisagree os) 0 z) (kept-made (planIn os) book (timesRecord os))
 
@@ -277,14 +277,14 @@ module _ (book info : List ℕ) (hb : length book ≡ bookLen) (hc : codeIn info
       set-read setTimesCode (timesMade os) book info hb hc e
       ∙ rw (ne-eqb (timesDisagree os) 0 n) (kept-not-made (planIn os) book refusal.disagree (timesField (timesDisagree os)) (λ z. absurd (omega arith)))
 
-  pub fit-stored : Fit14 os → setTimesOf book info ≡ record { answer = answered refusal.none 0; book = sets book (startOf (planIn os)) (timesRecord os) }
+  pub fit-stored : Fit14 os → setTimesOf book info ≡ record { answer = answered refusal.none 0; book = sets book (recordStart (planIn os)) (timesRecord os) }
   fit-stored f = read-stored (fit-is-read f) (fit-agrees os f)
 
   -- what comes of it, way by way
   data Way : Setting → Type 0 where
     unread : (readOf info .refusal ≡ refusal.none → ⊥) → Way (record { answer = answered (readOf info .refusal) (readOf info .field); book = book })
     refused : readOf info .refusal ≡ refusal.none → (timesDisagree os ≡ 0 → ⊥) → Way (record { answer = answered refusal.disagree (timesField (timesDisagree os)); book = book })
-    fits : Fit14 os → Way (record { answer = answered refusal.none 0; book = sets book (startOf (planIn os)) (timesRecord os) })
+    fits : Fit14 os → Way (record { answer = answered refusal.none 0; book = sets book (recordStart (planIn os)) (timesRecord os) })
 
   way : Way (setTimesOf book info)
   way = by (ℕ-discrete (readOf info .refusal) refusal.none) (ℕ-discrete (timesDisagree os) 0)
@@ -315,7 +315,7 @@ module _ (book info : List ℕ) (hb : length book ≡ bookLen) (hc : codeIn info
       record {
         rec = timesRecord os;
         stored = λ f.
-            subst (λ (w : Setting). Stored book (planIn os) (timesRecord os) (w .book)) (sym (fit-stored f))
+            subst (λ (w : Setting). RecordStored book (planIn os) (timesRecord os) (w .book)) (sym (fit-stored f))
             (stored-here book (planIn os) (timesRecord os) hb (f .plan .least) (f .plan .most) (record-long os f));
         holds = λ f. times-holds os f;
         accepted = λ f. ap (λ (w : Setting). w .answer .refusal) (fit-stored f);

@@ -15,12 +15,12 @@ use Rattle.octets.specs.Word.{highOf, lowOf}
 use Rattle.octets.proofs.Laws.{drop-next}
 use Rattle.message.specs.declared.Message.{Message}
 use Rattle.message.specs.declared.Read.{Read}
-use Rattle.message.specs.Layouts.{layouts, layoutAt, numberOf, rowsAt, rowsOf}
+use Rattle.message.specs.Layouts.{layouts, layoutAt, numberOf, rowsAt, layoutRows}
 use Rattle.message.specs.Reader.{readAs, partOf, kIn, codeIn, bodyIn, readOf}
 use Rattle.record.specs.Record.{recordLen, bookLen, empty, timesSet, ready, stateOf, kOf, timesEnd, greensAt, readyEnd, directOf, orderOf}
 use Rattle.checks.specs.Standing.{between, readyStands, standingOf}
 use Rattle.plan.specs.BuiltIn.{padded}
-use Rattle.plan.specs.Reading.{startOf, recordAt}
+use Rattle.plan.specs.Reading.{recordStart, recordAt}
 use Rattle.plan.specs.Setting.{planIn, countIn, Setting, timesRecord, readyRecord, setTimesCode, setPlanCode, setTimesOf, setPlanOf}
 use Rattle.plan.specs.Reporting.{reportTimesCode, reportPlanCode, reportRunningCode, timesInfo, planInfo, reportTimesOf, reportsPlan, reportPlanOf}
 use Rattle.plan.specs.Promises.{Fit14, directIn, orderIn, Fit15, Holds15, Reports, TimesReported, PlanReported}
@@ -50,7 +50,7 @@ module _ (body : List ℕ) (f : Fit14 body) where
 
   -- as a report it passes where it passed as a set
   read-report : Read1 4 (kOf body) body
-  unfolding rowsAt rowsOf layoutAt layouts
+  unfolding rowsAt layoutRows layoutAt layouts
   read-report =
       let r = fit-read body f in
       record {
@@ -81,7 +81,7 @@ module _ (body : List ℕ) (f : Fit14 body) where
   reported = sym (times-told (timesRecord body) (planIn body) refl some refl refl refl refl) ∙ (ap (λ (l : List ℕ). readOf l .message) info-again ∙ ap (λ (r : Read). r .message) report-read)
 
 same-values : (k : ℕ) (body : List ℕ) → Reports (partOf 4 k body) reportTimesCode (partOf 3 k body)
-unfolding partOf rowsAt rowsOf layoutAt layouts
+unfolding partOf rowsAt layoutRows layoutAt layouts
 same-values k body = record { code = refl; fields = refl; values = refl }
 
 pub times-reported : TimesReported
@@ -162,7 +162,7 @@ module _ (old body : List ℕ) (f : Fit15 old body) where
 
   -- as a report it passes where it passed as a set
   read-plan-report : Read1 6 (countIn body) body
-  unfolding rowsAt rowsOf layoutAt layouts
+  unfolding rowsAt layoutRows layoutAt layouts
   read-plan-report =
       let r = ranges-to body (f .ranges) in
       record {
@@ -171,7 +171,7 @@ module _ (old body : List ℕ) (f : Fit15 old body) where
       }
 
   read-running : Read1 7 (countIn body) body
-  unfolding rowsAt rowsOf layoutAt layouts
+  unfolding rowsAt layoutRows layoutAt layouts
   read-running = record { right = record { fewest = read-plan-report .right .fewest; most = read-plan-report .right .most; octets = read-plan-report .right .octets }; pass = read-plan-report .pass }
 
   plan-is : reportPlanOf m (planIn body) reportPlanCode ≡ partOf 6 (countIn body) body
@@ -189,7 +189,7 @@ module _ (old body : List ℕ) (f : Fit15 old body) where
       (read-as (0x5F ∷ 0xC8 ∷ body) 7 (countIn body) refl (simp getD-drop) (omega arith) (record { first = omega arith; last = omega arith }) read-running)
 
   same-as-sent : (code : ℕ) → (code ≡ reportPlanCode) ⊎ (code ≡ reportRunningCode) → Reports (reportPlanOf m (planIn body) code) code (partOf 5 (countIn body) body)
-  unfolding partOf rowsAt rowsOf layoutAt layouts
+  unfolding partOf rowsAt layoutRows layoutAt layouts
   same-as-sent code (inl e) = rw (e, plan-is) (record { code = refl; fields = refl; values = refl })
   same-as-sent code (inr e) = rw (e, running-is) (record { code = refl; fields = refl; values = refl })
 

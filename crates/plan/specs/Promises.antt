@@ -107,7 +107,7 @@ pub data Disagrees15 (rec body : List ℕ) : ℕ → Type 0 where
 -- What is stored
 
 -- the record of plan p is rec, and "No other record changes"
-pub record Stored (book : List ℕ) (p : ℕ) (rec book′ : List ℕ) : Type 0 where
+pub record RecordStored (book : List ℕ) (p : ℕ) (rec book′ : List ℕ) : Type 0 where
   pub long : length book′ ≡ bookLen
   pub here : recordAt book′ p ≡ rec
   pub others : (q : ℕ) → 1 ≤ q → q ≤ plansMost → (q ≡ p → ⊥) → recordAt book′ q ≡ recordAt book q
@@ -149,13 +149,13 @@ pub record SetRefused (code : ℕ) (book info : List ℕ) (w : Setting) : Type 0
 abbrev pub SetsRefuse : Type 0
 SetsRefuse = (book info : List ℕ) → SetRefused setTimesCode book info (setTimesOf book info) × SetRefused setPlanCode book info (setPlanOf book info)
 
--- Stored exactly when
+-- RecordStored exactly when
 
 -- of a book of the right length and a message 5F 14
 pub record TimesJudged (book info : List ℕ) : Type 0 where
   -- all checks pass: its record is the message's fields
   pub rec : List ℕ
-  pub stored : Fit14 (bodyIn info) → Stored book (planIn (bodyIn info)) rec (setTimesOf book info .book)
+  pub stored : Fit14 (bodyIn info) → RecordStored book (planIn (bodyIn info)) rec (setTimesOf book info .book)
   pub holds : Fit14 (bodyIn info) → Holds14 (bodyIn info) rec
   pub accepted : Fit14 (bodyIn info) → setTimesOf book info .answer .refusal ≡ refusal.none
   -- and only then
@@ -174,7 +174,7 @@ TimesStoredExactlyWhen = (book info : List ℕ) → length book ≡ bookLen → 
 pub record PlanJudged (book info old : List ℕ) : Type 0 where
   -- all checks pass: its record is what was stored and the message's fields
   pub rec : List ℕ
-  pub stored : Fit15 old (bodyIn info) → Stored book (planIn (bodyIn info)) rec (setPlanOf book info .book)
+  pub stored : Fit15 old (bodyIn info) → RecordStored book (planIn (bodyIn info)) rec (setPlanOf book info .book)
   pub holds : Fit15 old (bodyIn info) → Holds15 old (bodyIn info) rec
   pub accepted : Fit15 old (bodyIn info) → setPlanOf book info .answer .refusal ≡ refusal.none
   -- and only then

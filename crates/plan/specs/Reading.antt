@@ -18,11 +18,11 @@ use Rattle.checks.specs.Standing.{standingOf}
 use Rattle.plan.specs.BuiltIn.{builtIn}
 
 -- "Plan p, 1 to 48, has 80 octets from 80(p-1)"
-abbrev pub startOf : ℕ → ℕ
-startOf p = recordLen * (p - 1)
+abbrev pub recordStart : ℕ → ℕ
+recordStart p = recordLen * (p - 1)
 
 abbrev pub recordAt : List ℕ → ℕ → List ℕ
-recordAt book p = take recordLen (drop (startOf p) book)
+recordAt book p = take recordLen (drop (recordStart p) book)
 
 -- are the octets the same?
 unfoldable pub same : List ℕ → List ℕ → Bool
@@ -44,7 +44,7 @@ readRefusal book copy p =
 abbrev pub PartRead : RefT (List ℕ) → RefT (List ℕ) → ℕ → RefT (List ℕ) → Type 0
 PartRead book copy p r =
     pick (eqb (readRefusal (now book) (now copy) p) refusal.none)
-    (pick (eqb p 0) (PartOf copy 0 recordLen r) (PartOf book (startOf p) recordLen r))
+    (pick (eqb p 0) (PartOf copy 0 recordLen r) (PartOf book (recordStart p) recordLen r))
     (PartOf copy 0 0 r)
 
 pub record PlanRead (book copy : RefT (List ℕ)) (p : ℕ) (r : RefT (List ℕ)) (why : ℕ) : Type 0 where

@@ -11,8 +11,8 @@ use Rattle.record.specs.Record.{recordLen, empty, ready, kOf, timesEnd, greensA
 use Rattle.checks.specs.Standing.{between, standingOf}
 
 -- the octets of a report are no more
-abbrev pub infoMost : ℕ
-infoMost = recordLen + 6
+abbrev pub reportMost : ℕ
+reportMost = recordLen + 6
 
 abbrev pub reportTimesCode : ℕ
 reportTimesCode = 0x5FC4

@@ -14,11 +14,11 @@ use Rattle.octets.specs.Refusal as refusal
 use Rattle.message.specs.Names.{planAt, maximumAt, redManAt, planCountAt}
 use Rattle.message.specs.Reader.{codeIn, bodyIn, readOf}
 use Rattle.plan.specs.declared.setting.Answered.{Answered}
-use Rattle.plan.specs.declared.setting.Made.{Made}
+use Rattle.plan.specs.declared.setting.NewRecord.{NewRecord}
 use Rattle.record.specs.Record.{recordLen, bookLen, plansMost, empty, timesSet, ready, octetAt, kOf, timesEnd, Within}
 use Rattle.checks.specs.Standing.{between, timesDisagree, planDisagree, standingOf}
 use Rattle.plan.specs.BuiltIn.{padded}
-use Rattle.plan.specs.Reading.{startOf, recordAt}
+use Rattle.plan.specs.Reading.{recordStart, recordAt}
 
 -- The octets after the code
 
@@ -53,10 +53,10 @@ readyRecord rec body = padded ((ready ∷ between 1 (timesEnd rec) rec) ++ (betw
 
 -- What a message makes: a record, or the refusal and the field that it names
 
-abbrev pub made : List ℕ → Made
+abbrev pub made : List ℕ → NewRecord
 made rec = record { refusal = refusal.none; field = 0; rec = rec }
 
-unfoldable pub notMade : ℕ → ℕ → Made
+unfoldable pub notMade : ℕ → ℕ → NewRecord
 notMade n field = record { refusal = n; field = field; rec = replicate recordLen 0 }
 
 -- the field that the check of this number, from 1, names: "(names maximum)", "(names red man)"
@@ -68,11 +68,11 @@ abbrev pub planField : ℕ → ℕ
 planField n = n + (planCountAt - 1)
 
 -- "Agreement, 5F 14, phase by phase"
-unfoldable pub timesMade : List ℕ → Made
+unfoldable pub timesMade : List ℕ → NewRecord
 timesMade body = pick (eqb (timesDisagree body) 0) (made (timesRecord body)) (notMade refusal.disagree (timesField (timesDisagree body)))
 
 -- "5F 15: refusal 13 if the plan has no 5F 14; then .. count equal to the stored count", and the checks of the record that it makes
-unfoldable pub readyMade : List ℕ → List ℕ → Made
+unfoldable pub readyMade : List ℕ → List ℕ → NewRecord
 readyMade rec body =
     pick (eqb (standingOf rec) empty) (notMade refusal.notReady planAt)
     (pick (eqb (countIn body) (kOf rec))
@@ -87,7 +87,7 @@ pub record Setting : Type 0 where
   pub book : List ℕ
 
 -- the call answered r and left b in the book, as it should
-pub record Did (w : Setting) (r : Answered) (b : List ℕ) : Type 0 where
+pub record SetLeaves (w : Setting) (r : Answered) (b : List ℕ) : Type 0 where
   pub answer : r ≡ w .answer
   pub book : b ≡ w .book
 
@@ -95,9 +95,9 @@ abbrev pub answered : ℕ → ℕ → Answered
 answered n field = record { refusal = n; field = field }
 
 -- what is made is the record of plan p, and the rest of the book stays; where nothing is made, all of it stays
-unfoldable pub keptAs : ℕ → Made → List ℕ → Setting
+unfoldable pub keptAs : ℕ → NewRecord → List ℕ → Setting
 keptAs p m book =
-    pick (eqb (m .refusal) refusal.none) (record { answer = answered refusal.none 0; book = sets book (startOf p) (m .rec) })
+    pick (eqb (m .refusal) refusal.none) (record { answer = answered refusal.none 0; book = sets book (recordStart p) (m .rec) })
     (record { answer = answered (m .refusal) (m .field); book = book })
 
 abbrev pub setTimesCode : ℕ
@@ -111,17 +111,17 @@ abbrev pub otherCode : ℕ → List ℕ → Bool
 otherCode code info = both (leb codeLen (length info)) (not (eqb (codeIn info) code))
 
 -- "plan book is not 3,840 octets"; then "code not handled", of any other; then what the message reader refuses: "10 to 14 in a message"
-unfoldable pub frontOf : ℕ → ℕ → List ℕ → Answered
-frontOf n code info =
+unfoldable pub setFront : ℕ → ℕ → List ℕ → Answered
+setFront n code info =
     pick (not (eqb n bookLen)) (answered refusal.bookWrong 0)
     (pick (otherCode code info) (answered refusal.codeNotHandled 0)
     (answered (readOf info .refusal) (readOf info .field)))
 
 -- then the agreement
-unfoldable pub setOf : ℕ → Made → List ℕ → List ℕ → Setting
+unfoldable pub setOf : ℕ → NewRecord → List ℕ → List ℕ → Setting
 setOf code m book info =
-    pick (eqb (frontOf (length book) code info .refusal) refusal.none) (keptAs (planIn (bodyIn info)) m book)
-    (record { answer = frontOf (length book) code info; book = book })
+    pick (eqb (setFront (length book) code info .refusal) refusal.none) (keptAs (planIn (bodyIn info)) m book)
+    (record { answer = setFront (length book) code info; book = book })
 
 abbrev pub setTimesOf : List ℕ → List ℕ → Setting
 setTimesOf book info = setOf setTimesCode (timesMade (bodyIn info)) book info

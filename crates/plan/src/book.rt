@@ -4,7 +4,7 @@ ghost use Prim.Native.Nat.{_≤_};
 ghost use lib.ListN.{length};
 ghost use Rattle.record.specs.Record.{recordLen, bookLen, plansMost};
 ghost use Rattle.plan.specs.BuiltIn.{builtIn};
-ghost use Rattle.plan.specs.Reading.{startOf, recordAt, same, readRefusal, PartRead, PlanRead};
+ghost use Rattle.plan.specs.Reading.{recordStart, recordAt, same, readRefusal, PartRead, PlanRead};
 ghost use Rattle.checks.specs.Standing.{standingOf};
 use octets::refusal;
 use record::BOOK_LEN;
@@ -34,7 +34,7 @@ pub fn built_in() -> [u8; RECORD_LEN]
 // Where the record of a plan starts in the book.
 pub(crate) fn start(plan: u8) -> usize
     requires { ⌜ (1 ≤ plan) × (plan ≤ plansMost) ⌝ }
-    ensures { λ r. ⌜ (r ≡ startOf plan) × (r ≤ 3760) ⌝ }
+    ensures { λ r. ⌜ (r ≡ recordStart plan) × (r ≤ 3760) ⌝ }
 {
     RECORD_LEN * (plan as usize - 1)
 }

@@ -5,7 +5,7 @@ ghost use Prim.Native.Nat.{_+_, _≤_};
 ghost use mathlib.Core.List.{_++_};
 ghost use lib.ListN.{length};
 ghost use Rattle.message.specs.Reader.{noMessage, readOf};
-ghost use Rattle.plan.specs.Reporting.{infoMost, reportTimesOf, reportsPlan, reportPlanOf};
+ghost use Rattle.plan.specs.Reporting.{reportMost, reportTimesOf, reportsPlan, reportPlanOf};
 use message::Message;
 use record::RECORD_LEN;
 
@@ -61,7 +61,7 @@ fn reports_plan(code: u16) -> bool
 
 // The message that the octets are, one run after the other.
 fn reported(front: &[u8], rest: &[u8]) -> Message
-    requires { ⌜ length (now front) + length (now rest) ≤ infoMost ⌝ }
+    requires { ⌜ length (now front) + length (now rest) ≤ reportMost ⌝ }
     ensures { λ r. ⌜ r ≡ readOf (now (front .entry) ++ now (rest .entry)) .message ⌝ }
 {
     let mut info = [0u8; INFO_MOST];

@@ -3,9 +3,9 @@ ghost use mathlib.Core.Path.{_≡_};
 ghost use Prim.Native.Nat.{_+_, _*_, _≤_};
 ghost use lib.ListN.{length};
 ghost use lib.Seq.{sets};
-ghost use Rattle.plan.specs.Reading.{startOf};
+ghost use Rattle.plan.specs.Reading.{recordStart};
 ghost use Rattle.record.specs.Record.{recordLen, bookLen, plansMost, kOf, timesEnd};
-ghost use Rattle.plan.specs.Setting.{Times14, Plan15, timesRecord, readyRecord, notMade, timesField, timesMade, readyMade, answered, Did, keptAs, otherCode, frontOf, setTimesOf, setPlanOf};
+ghost use Rattle.plan.specs.Setting.{Times14, Plan15, timesRecord, readyRecord, notMade, timesField, timesMade, readyMade, answered, SetLeaves, keptAs, otherCode, setFront, setTimesOf, setPlanOf};
 use crate::book;
 use octets::refusal;
 use record::BOOK_LEN;
@@ -30,7 +30,7 @@ const RED_MAN: u16 = 8;
 const PHASE_FIELDS: u16 = 6;
 
 // What a message makes: the record, or the refusal and the field that it names.
-struct Made {
+struct NewRecord {
     refusal: u8,
     field: u8,
     rec: [u8; RECORD_LEN],
@@ -38,7 +38,7 @@ struct Made {
 
 // The message 5F 14 that INFO holds: its times become the record of its plan.
 pub fn set_times(book: &mut [u8], info: &[u8]) -> Answered
-    ensures { λ r. ⌜ Did (setTimesOf (now (book .entry)) (now (info .entry))) r (now (book .exit)) ⌝ }
+    ensures { λ r. ⌜ SetLeaves (setTimesOf (now (book .entry)) (now (info .entry))) r (now (book .exit)) ⌝ }
 {
     let f = front(book.len(), info, message::SET_TIMES);
     if f.refusal != refusal::NONE {
@@ -50,7 +50,7 @@ pub fn set_times(book: &mut [u8], info: &[u8]) -> Answered
 
 // The message 5F 15 that INFO holds: it makes its plan ready.
 pub fn set_plan(book: &mut [u8], info: &[u8]) -> Answered
-    ensures { λ r. ⌜ Did (setPlanOf (now (book .entry)) (now (info .entry))) r (now (book .exit)) ⌝ }
+    ensures { λ r. ⌜ SetLeaves (setPlanOf (now (book .entry)) (now (info .entry))) r (now (book .exit)) ⌝ }
 {
     let f = front(book.len(), info, message::SET_PLAN);
     if f.refusal != refusal::NONE {
@@ -79,7 +79,7 @@ fn other_code(info: &[u8], code: u16) -> bool
 
 // What is refused of any set: a book of another length, a message of another code, what the message reader refuses.
 fn front(len: usize, info: &[u8], code: u16) -> Answered
-    ensures { λ r. ⌜ r ≡ frontOf len code (now (info .entry)) ⌝ }
+    ensures { λ r. ⌜ r ≡ setFront len code (now (info .entry)) ⌝ }
 {
     if len != BOOK_LEN {
         return answer(refusal::BOOK_WRONG, 0);
@@ -91,10 +91,10 @@ fn front(len: usize, info: &[u8], code: u16) -> Answered
     answer(r.refusal, r.field)
 }
 
-fn not_made(n: u8, field: u8) -> Made
+fn not_made(n: u8, field: u8) -> NewRecord
     ensures { λ r. ⌜ r ≡ notMade n field ⌝ }
 {
-    Made {
+    NewRecord {
         refusal: n,
         field,
         rec: [0u8; RECORD_LEN],
@@ -102,7 +102,7 @@ fn not_made(n: u8, field: u8) -> Made
 }
 
 // The agreement of a 5F 14: phase by phase, maximum with minimum, then walk flash and red man with minimum.
-fn made_times(body: &[u8]) -> Made
+fn made_times(body: &[u8]) -> NewRecord
     requires { ⌜ Times14 (now body) ⌝ }
     ensures { λ r. ⌜ r ≡ timesMade (now (body .entry)) ⌝ }
 {
@@ -111,7 +111,7 @@ fn made_times(body: &[u8]) -> Made
         return not_made(refusal::DISAGREE, times_field(n));
     }
     let rec = times_record(body);
-    Made {
+    NewRecord {
         refusal: refusal::NONE,
         field: 0,
         rec,
@@ -131,7 +131,7 @@ fn times_field(n: u16) -> u8
 }
 
 // The agreement of a 5F 15: with the stored times first, then that of the record that it makes.
-fn made_ready(old: &[u8], body: &[u8]) -> Made
+fn made_ready(old: &[u8], body: &[u8]) -> NewRecord
     requires { ⌜ (length (now old) ≡ recordLen) × (Plan15 (now body)) ⌝ }
     ensures { λ r. ⌜ r ≡ readyMade (now (old .entry)) (now (body .entry)) ⌝ }
 {
@@ -146,7 +146,7 @@ fn made_ready(old: &[u8], body: &[u8]) -> Made
     if n != 0 {
         return not_made(refusal::DISAGREE, n as u8 + PLAN_COUNT - 1);
     }
-    Made {
+    NewRecord {
         refusal: refusal::NONE,
         field: 0,
         rec,
@@ -179,9 +179,9 @@ fn ready_record(old: &[u8], body: &[u8]) -> [u8; RECORD_LEN]
 }
 
 // What is made goes into its place; where nothing is made, nothing is written.
-fn keep(book: &mut [u8], plan: u8, m: Made) -> Answered
+fn keep(book: &mut [u8], plan: u8, m: NewRecord) -> Answered
     requires { ⌜ (length (now book) ≡ bookLen) × (1 ≤ plan) × (plan ≤ plansMost) ⌝ }
-    ensures { λ r. ⌜ Did (keptAs plan m (now (book .entry))) r (now (book .exit)) ⌝ }
+    ensures { λ r. ⌜ SetLeaves (keptAs plan m (now (book .entry))) r (now (book .exit)) ⌝ }
 {
     if m.refusal != refusal::NONE {
         return answer(m.refusal, m.field);
@@ -193,7 +193,7 @@ fn keep(book: &mut [u8], plan: u8, m: Made) -> Answered
 
 fn store(book: &mut [u8], plan: u8, rec: [u8; RECORD_LEN])
     requires { ⌜ (length (now book) ≡ bookLen) × (1 ≤ plan) × (plan ≤ plansMost) ⌝ }
-    ensures { λ r. ⌜ now (book .exit) ≡ sets (now (book .entry)) (startOf plan) rec ⌝ }
+    ensures { λ r. ⌜ now (book .exit) ≡ sets (now (book .entry)) (recordStart plan) rec ⌝ }
 {
     octets::put(&rec, book, book::start(plan));
 }

@@ -8,18 +8,18 @@ use lib.ListN.{length, take, drop, length-append, length-take}
 use lib.Seq.{sets-eq, take-at}
 use Rattle.octets.specs.Put.{Stored, Put}
 use Rattle.octets.proofs.Laws.{pick-by}
-use Rattle.text.specs.Text.{codes, octetsHex}
+use Rattle.text.specs.Text.{ascii, octetsHex}
 use Rattle.text.proofs.Laws.{hex16-length, octets-length}
-use Rattle.line.specs.declared.Found.the-variants as found
+use Rattle.line.specs.declared.LineFound.the-variants as found
 use Rattle.line.specs.Line.{lineFeed}
 use Rattle.controller.specs.declared.State.{State}
 use Rattle.controller.specs.declared.Answer.{Answer}
 use Rattle.controller.specs.State.{outputLen}
-use Rattle.controller.specs.Replies.{Did, octetOf}
+use Rattle.controller.specs.Replies.{CallLeaves, octetOf}
 use Rattle.controller.proofs.Answering.{outputs-left}
 use Rattle.printout.specs.declared.run.Run.{Run}
 use Rattle.printout.specs.Listing.{wordText, replyLine}
-use Rattle.printout.specs.Run.{textMost, Said, Listed, secondSaid, badSaid, octetMade, madeOf}
+use Rattle.printout.specs.Run.{textMost, Said, Listed, secondSaid, badSaid, octetMade, lineMade}
 
 -- Text
 
@@ -45,7 +45,7 @@ unfolding replyLine
 reply-none [] h = refl
 reply-none (x ∷ xs) h = absurd (omega arith)
 
-pub reply-some : (xs : List ℕ) → 0 < length xs → replyLine xs ≡ codes "reply\t" ++ octetsHex xs ++ lineFeed ∷ []
+pub reply-some : (xs : List ℕ) → 0 < length xs → replyLine xs ≡ ascii "reply\t" ++ octetsHex xs ++ lineFeed ∷ []
 unfolding replyLine
 reply-some [] h = absurd (omega arith)
 reply-some (x ∷ xs) h = refl
@@ -60,7 +60,7 @@ reply-most (x ∷ xs) h = omega (arith, reply-length (x ∷ xs) (omega arith))
 
 -- The run
 
-module _ (s : State) (b o : List ℕ) (x : ℕ) {r : Answer} {b′ o′ : List ℕ} (d : Did (octetOf s b o x) r b′ o′) where
+module _ (s : State) (b o : List ℕ) (x : ℕ) {r : Answer} {b′ o′ : List ℕ} (d : CallLeaves (octetOf s b o x) r b′ o′) where
   -- what a call counts is in the output
   pub count-fits : r .count ≤ length o′
   count-fits = let l = outputs-left s b o x in omega (arith, l .within, l .long, ap (λ (a : Answer). a .count) (d .answer), ap length (d .out))
@@ -83,18 +83,18 @@ module _ (s : State) (b o : List ℕ) (x : ℕ) {r : Answer} {b′ o′ : List �
       }
 
 module _ (run : Run) (b o t : List ℕ) where
-  pub listed-more : Listed (madeOf found.More (run .state) (run .seconds) b o) (run .used) t run b o t
-  unfolding madeOf
+  pub listed-more : Listed (lineMade found.More (run .state) (run .seconds) b o) (run .used) t run b o t
+  unfolding lineMade
   listed-more = record { said = record { state = refl; seconds = refl; text = put-nothing t (run .used); short = omega arith }; book = refl; out = refl }
 
-  pub listed-second : {r : Run} {t′ : List ℕ} → Said (secondSaid (run .state) (run .seconds) b) (run .used) t r t′ → Listed (madeOf found.Second (run .state) (run .seconds) b o) (run .used) t r b o t′
-  unfolding madeOf
+  pub listed-second : {r : Run} {t′ : List ℕ} → Said (secondSaid (run .state) (run .seconds) b) (run .used) t r t′ → Listed (lineMade found.Second (run .state) (run .seconds) b o) (run .used) t r b o t′
+  unfolding lineMade
   listed-second s = record { said = s; book = refl; out = refl }
 
-  pub listed-octet : (x : ℕ) {r : Run} {b′ o′ t′ : List ℕ} → Listed (octetMade (run .state) (run .seconds) b o x) (run .used) t r b′ o′ t′ → Listed (madeOf (found.Octet x) (run .state) (run .seconds) b o) (run .used) t r b′ o′ t′
-  unfolding madeOf
+  pub listed-octet : (x : ℕ) {r : Run} {b′ o′ t′ : List ℕ} → Listed (octetMade (run .state) (run .seconds) b o x) (run .used) t r b′ o′ t′ → Listed (lineMade (found.Octet x) (run .state) (run .seconds) b o) (run .used) t r b′ o′ t′
+  unfolding lineMade
   listed-octet x l = l
 
-  pub listed-bad : (n : ℕ) {r : Run} {t′ : List ℕ} → Said (badSaid (run .state) (run .seconds) n) (run .used) t r t′ → Listed (madeOf (found.Bad n) (run .state) (run .seconds) b o) (run .used) t r b o t′
-  unfolding madeOf
+  pub listed-bad : (n : ℕ) {r : Run} {t′ : List ℕ} → Said (badSaid (run .state) (run .seconds) n) (run .used) t r t′ → Listed (lineMade (found.Bad n) (run .state) (run .seconds) b o) (run .used) t r b o t′
+  unfolding lineMade
   listed-bad n s = record { said = s; book = refl; out = refl }

@@ -19,7 +19,7 @@ use Rattle.frame.specs.Decoder.{freshDecoder, possibleOf, frontIn, cksIn, stepO
 use Rattle.message.specs.Layouts.{layouts, layoutAt, known, numberOf, rowsAt}
 use Rattle.message.specs.Layouts as message
 use Rattle.message.specs.Values.{zeros, placed, firstOut}
-use Rattle.message.specs.Reader.{noMessage, refusedAs, partOf, rangedOf, readPartOf, readOf}
+use Rattle.message.specs.Reader.{noMessage, notRead, partOf, rangedOf, readPartOf, readOf}
 use Rattle.message.specs.Writer.{infoAs}
 use Rattle.record.specs.Record.{bookLen, orderOf}
 use Rattle.checks.specs.Standing.{timesDisagree, planDisagree, ranged, timesStand, planStands, readyStands, allZero, standingOf}
@@ -39,14 +39,14 @@ use Rattle.controller.specs.Seconds.{movedOn, noSecond, secondOf}
 use Rattle.text.specs.Text.{digits, placesWithin, places, decimal, blankHex2, spaced, octetsHex}
 use Rattle.text.proofs.Means.{hex-means}
 use Rattle.line.specs.Line as line
-use Rattle.line.specs.Promises.{founds, after, foundIn}
+use Rattle.line.specs.Promises.{founds, lineAfter, foundIn}
 use Rattle.printout.specs.Listing.{header, field, wordText, numbers, secondLine, replyLine, badLine}
-use Rattle.printout.specs.Run.{secondSaid, badSaid, octetMade, madeOf, listingFrom, listingOf}
-use Rattle.printout.specs.Promises.{Whole, WordsWhole, TwoSeconds, ReplyAndBad}
+use Rattle.printout.specs.Run.{secondSaid, badSaid, octetMade, lineMade, listingFrom, listingOf}
+use Rattle.printout.specs.Promises.{WordWhole, WordsWhole, TwoSeconds, ReplyAndBad}
 
 -- Words
 
-whole : (word : ℕ) → word < 2 ^ lastLamp → Whole word
+whole : (word : ℕ) → word < 2 ^ lastLamp → WordWhole word
 unfolding wordText
 whole word h = hex-means 16 word (omega arith)
 
@@ -73,9 +73,9 @@ words-whole s book = let f = second-fits s book in (whole (secondOf s book .row 
 -- 01's listing
 
 pub two-seconds : TwoSeconds
-unfolding firstOf diagram.find table.directory diagram.diagramOf table.rows diagram.rowNumber diagram.rowOf freshDecoder possibleOf layouts layoutAt known numberOf rowsAt message.rowsOf zeros placed firstOut noMessage refusedAs partOf rangedOf readPartOf readOf timesDisagree planDisagree ranged timesStand planStands readyStands allZero standingOf padded builtIn same phaseTable secondsOf lamps.counted lamps.rowsFrom lamps.rowsOf rowAt freshOf runningSound soundOf movedOn secondOf digits line.octetOf line.endOf founds after foundIn header placesWithin places decimal field wordText numbers secondLine secondSaid madeOf listingFrom listingOf
+unfolding firstOf diagram.find table.directory diagram.diagramOf table.lampRows diagram.rowNumber diagram.lampRowOf freshDecoder possibleOf layouts layoutAt known numberOf rowsAt message.layoutRows zeros placed firstOut noMessage notRead partOf rangedOf readPartOf readOf timesDisagree planDisagree ranged timesStand planStands readyStands allZero standingOf padded builtIn same phaseTable secondsOf lamps.countedDown lamps.rowsFrom lamps.rowsOf rowAt freshOf runningSound soundOf movedOn secondOf digits line.lineOctet line.endOf founds lineAfter foundIn header placesWithin places decimal field wordText numbers secondLine secondSaid lineMade listingFrom listingOf
 two-seconds = refl
 
 pub reply-and-bad : ReplyAndBad
-unfolding xor exclusiveOr firstOf diagram.find table.directory diagram.diagramOf table.rows diagram.rowNumber diagram.rowOf frontOf bodyOf sentOf cksOf twice doubled written freshDecoder possibleOf frontIn cksIn stepOf takenOf layouts layoutAt known numberOf rowsAt message.rowsOf zeros placed firstOut noMessage refusedAs partOf rangedOf readPartOf readOf infoAs timesDisagree planDisagree ranged timesStand planStands readyStands allZero standingOf padded builtIn same planInfo reportPlanOf phaseTable secondsOf freshOf runningSound soundOf queryRunningAs handlingOf repliedOf messageOf doneOf octetOf digits line.hexOf line.octetOf line.endOf founds after foundIn header placesWithin places decimal blankHex2 spaced octetsHex replyLine badLine octetMade badSaid madeOf listingFrom listingOf
+unfolding xor exclusiveOr firstOf diagram.find table.directory diagram.diagramOf table.lampRows diagram.rowNumber diagram.lampRowOf frontOf bodyOf sentOf cksOf twice doubled written freshDecoder possibleOf frontIn cksIn stepOf takenOf layouts layoutAt known numberOf rowsAt message.layoutRows zeros placed firstOut noMessage notRead partOf rangedOf readPartOf readOf infoAs timesDisagree planDisagree ranged timesStand planStands readyStands allZero standingOf padded builtIn same planInfo reportPlanOf phaseTable secondsOf freshOf runningSound soundOf queryRunningAs handlingOf repliedOf messageOf doneOf octetOf digits line.hexOf line.lineOctet line.endOf founds lineAfter foundIn header placesWithin places decimal blankHex2 spaced octetsHex replyLine badLine octetMade badSaid lineMade listingFrom listingOf
 reply-and-bad = refl

@@ -1,7 +1,7 @@
--- 01, "Cases": what the listing program prints, in ASCII codes.
+-- 01, "Cases": what the listing program prints, in ASCII ascii.
 use Prim.Native.Nat.{ℕ}
 use mathlib.Core.List.{List, [], _∷_, _++_}
-use Rattle.text.specs.Text.{codes, hex16, decimal, octetsHex}
+use Rattle.text.specs.Text.{ascii, hex16, decimal, octetsHex}
 use Rattle.line.specs.Line.{tab, lineFeed}
 use Rattle.lamps.specs.declared.Row.{Row}
 
@@ -18,7 +18,7 @@ lineMost = 118
 
 -- "It prints a header"
 unfoldable pub header : List ℕ
-header = codes "second\tplan\tstep\tleft\tsteady\tflashing\n"
+header = ascii "second\tplan\tstep\tleft\tsteady\tflashing\n"
 
 -- "fields parted by tabs": a number, and the tab after it
 unfoldable pub field : ℕ → List ℕ
@@ -38,8 +38,8 @@ secondLine n plan row = numbers n plan row ++ (wordText (row .steady) ++ tab ∷
 -- "for each call that wrote a reply `reply`, tab, octets in hex with spaces": the octets that the call wrote
 unfoldable pub replyLine : List ℕ → List ℕ
 replyLine [] = []
-replyLine (x ∷ xs) = codes "reply\t" ++ octetsHex (x ∷ xs) ++ lineFeed ∷ []
+replyLine (x ∷ xs) = ascii "reply\t" ++ octetsHex (x ∷ xs) ++ lineFeed ∷ []
 
 -- "for a bad line `bad`, tab, its number from 1"
 unfoldable pub badLine : ℕ → List ℕ
-badLine n = codes "bad\t" ++ decimal n ++ lineFeed ∷ []
+badLine n = ascii "bad\t" ++ decimal n ++ lineFeed ∷ []

@@ -4,14 +4,14 @@ use mathlib.Core.Path.{_≡_}
 use mathlib.Core.List.{List, [], _∷_, _++_}
 use lib.ListN.{length, take, replicate}
 use Rattle.octets.specs.Put.{Put}
-use Rattle.record.specs.Record.{bookLen}
+use Rattle.record.specs.Record.{emptyBook}
 use Rattle.controller.specs.declared.State.{State}
 use Rattle.controller.specs.State.{outputLen, freshOf}
 use Rattle.controller.specs.Replies.{octetOf}
 use Rattle.controller.specs.Seconds.{secondOf}
-use Rattle.line.specs.declared.Found.{Found}
-use Rattle.line.specs.declared.Found.the-variants as found
-use Rattle.line.specs.Line.{startOf}
+use Rattle.line.specs.declared.LineFound.{LineFound}
+use Rattle.line.specs.declared.LineFound.the-variants as found
+use Rattle.line.specs.Line.{firstLine}
 use Rattle.line.specs.Promises.{foundIn}
 use Rattle.printout.specs.declared.run.Run.{Run}
 use Rattle.printout.specs.Listing.{header, secondLine, replyLine, badLine}
@@ -72,20 +72,20 @@ octetMade s n book out b =
     }
 
 -- by what the line was
-unfoldable pub madeOf : Found → State → ℕ → List ℕ → List ℕ → Making
-madeOf found.More s n book out = record { said = record { state = s; seconds = n; text = [] }; book = book; out = out }
-madeOf found.Second s n book out = record { said = secondSaid s n book; book = book; out = out }
-madeOf (found.Octet b) s n book out = octetMade s n book out b
-madeOf (found.Bad k) s n book out = record { said = badSaid s n k; book = book; out = out }
+unfoldable pub lineMade : LineFound → State → ℕ → List ℕ → List ℕ → Making
+lineMade found.More s n book out = record { said = record { state = s; seconds = n; text = [] }; book = book; out = out }
+lineMade found.Second s n book out = record { said = secondSaid s n book; book = book; out = out }
+lineMade (found.Octet b) s n book out = octetMade s n book out b
+lineMade (found.Bad k) s n book out = record { said = badSaid s n k; book = book; out = out }
 
 -- The listing of a whole input
 
-unfoldable pub listingFrom : State → ℕ → List ℕ → List ℕ → List Found → List ℕ
+unfoldable pub listingFrom : State → ℕ → List ℕ → List ℕ → List LineFound → List ℕ
 listingFrom s n book out [] = []
 listingFrom s n book out (f ∷ fs) =
-    let m = madeOf f s n book out in
+    let m = lineMade f s n book out in
     m .said .text ++ listingFrom (m .said .state) (m .said .seconds) (m .book) (m .out) fs
 
 -- "starts fresh at address 0001 with an empty book"
 unfoldable pub listingOf : List ℕ → List ℕ
-listingOf input = header ++ listingFrom (freshOf own) 0 (replicate bookLen 0) (replicate outputLen 0) (foundIn startOf input)
+listingOf input = header ++ listingFrom (freshOf own) 0 emptyBook (replicate outputLen 0) (foundIn firstLine input)

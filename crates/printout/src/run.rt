@@ -1,8 +1,8 @@
 // 01, "Cases": the listing itself: what each line of the input does to the controller, and the text that it adds.
 ghost use mathlib.Core.Path.{_≡_};
-ghost use Rattle.printout.specs.Run.{Said, Listed, runStart, secondSaid, badSaid, octetMade, madeOf};
+ghost use Rattle.printout.specs.Run.{Said, Listed, runStart, secondSaid, badSaid, octetMade, lineMade};
 use controller::State;
-use line::Found;
+use line::LineFound;
 
 // "The listing program starts fresh at address 0001".
 const OWN: u16 = 0x0001;
@@ -29,14 +29,14 @@ pub fn run_start() -> Run
 }
 
 // What a line does; its text is put where there is room for it.
-pub fn on_line(run: Run, f: Found, book: &mut [u8], out: &mut [u8], text: &mut [u8]) -> Run
-    ensures { λ r. ⌜ Listed (madeOf f (run .state) (run .seconds) (now (book .entry)) (now (out .entry))) (run .used) (now (text .entry)) r (now (book .exit)) (now (out .exit)) (now (text .exit)) ⌝ }
+pub fn on_line(run: Run, f: LineFound, book: &mut [u8], out: &mut [u8], text: &mut [u8]) -> Run
+    ensures { λ r. ⌜ Listed (lineMade f (run .state) (run .seconds) (now (book .entry)) (now (out .entry))) (run .used) (now (text .entry)) r (now (book .exit)) (now (out .exit)) (now (text .exit)) ⌝ }
 {
     match f {
-        Found::More => run,
-        Found::Second => on_second(run, book, text),
-        Found::Octet(b) => on_octet(run, b, book, out, text),
-        Found::Bad(n) => on_bad(run, n, text),
+        LineFound::More => run,
+        LineFound::Second => on_second(run, book, text),
+        LineFound::Octet(b) => on_octet(run, b, book, out, text),
+        LineFound::Bad(n) => on_bad(run, n, text),
     }
 }
 

@@ -19,6 +19,10 @@ plansMost = 48
 abbrev pub bookLen : ℕ
 bookLen = recordLen * plansMost
 
+-- a book whose plans are all empty
+abbrev pub emptyBook : List ℕ
+emptyBook = replicate bookLen 0
+
 -- Where what stands in a record
 
 abbrev pub octetAt : List ℕ → ℕ → ℕ

@@ -1,4 +1,4 @@
--- Numbers and octets as text, in ASCII codes.
+-- Numbers and octets as text, in ASCII ascii.
 use Prim.Native.Nat.{ℕ, zero, suc, _+_, _-_, _/_, _%_}
 use Prim.Native.Char.{code}
 use Prim.Native.String.{String, [] as end, _∷_ as _then_}
@@ -7,9 +7,9 @@ use lib.Dec.{ltb}
 use Rattle.octets.specs.Choice.{pick}
 
 -- a text as it is quoted
-abbrev pub codes : String → List ℕ
-codes end = []
-codes (c then s) = code c ∷ codes s
+abbrev pub ascii : String → List ℕ
+ascii end = []
+ascii (c then s) = code c ∷ ascii s
 
 -- a digit below 16: `0` to `9`, then `A` to `F`
 abbrev pub digit : ℕ → ℕ

@@ -4,18 +4,18 @@ use mathlib.Core.Path.{ap, sym, _∙_}
 use native.Mathlib.Omega.{arith}
 use borrow.Author.Needs.{needs}
 use Rattle.diagram.specs.declared.Diagram.{Diagram}
-use Rattle.diagram.specs.Rows.{rows}
+use Rattle.diagram.specs.Rows.{lampRows}
 use Rattle.diagram.specs.Table.{stepsIn}
 use Rattle.diagram.proofs.Laws.{number-there, number-none, number-past}
 use Rattle.diagram.proofs.row_number.Statement.{statement}
 use Rattle.diagram.proofs.row_number.Tie as tie
 
 returns : tie.Need-returns
-unfolding rows
+unfolding lampRows
 returns c = let a = c .before .before .args in sym (number-none (a .order) (a .step) (c .if1 .taken))
 
 returns-2 : tie.Need-returns-2
-unfolding rows
+unfolding lampRows
 returns-2 c =
     let a = c .before .before .before .before .args in
     let s = c .before .steps-in .ensures ∙ ap stepsIn (c .before .before .before .find .ensures) in

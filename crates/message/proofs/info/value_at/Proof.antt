@@ -41,7 +41,7 @@ use denote.Triple.Spec.{Meets, tripleOf}
 use denote.Triple.Table.{entered, cited}
 use denote.Triple.Walked.{says, Stays, stay-none, stay-none-slice, walkOf, goes-none, goes-none-slice, Walks, ends-at, walked, walk-meets}
 use Rattle.message.specs.Fields.{valueOf}
-use Rattle.message.specs.Info.{opened, nextOctet, nextWord}
+use Rattle.message.specs.Info.{readerAt, nextOctet, nextWord}
 use Rattle.message.specs.declared.info.Reader.{Reader}
 use Rattle.message.proofs.info.Reader as T
 use Rattle.message.proofs.info.Reader.Laws as T′
@@ -133,8 +133,8 @@ module _ {M : Type 1} (𝓤 : URA M) (H : Heap 𝓤) (A : Atoms 𝓤) (W : Given
       nothing ! $ owned ! usize (Is usize) (uint-makes 𝓤 H A W w64) n _ (refl, ok) $ fjoin ! $ move ! (1 ∷ 0 ∷ []) $ fjoin ! $ move ! (2 ∷ 0 ∷ []) $
       use2 W (raw (Open 𝓤 H A mem run .pre to-open)) (qed W (Token ∷ ‵ (owns (ShrSlice (named 0) κ u8 ∷ usize ∷ []) (s, (n, tt)) (v ∷ [], (vint w64 n ∷ [], tt))) ∷ []) ∵ join ! $ frame ! $ done !) $ frame ! $ done !
 
-  open-said : (r : Reader) → ent 𝓤 (ensured 𝓤 H A «open».ended («open».clauses 𝓤 H A mem run) κs (s, (n, tt)) tt r) (fact 𝓤 (r ≡ opened s n))
-  open-said r = exE 𝓤 _ (λ ws. snd∗ 𝓤 (sem 𝓤 H A (lasts «open».ended κs (s, (n, tt)) ws)) (fact 𝓤 (r ≡ opened s n)))
+  open-said : (r : Reader) → ent 𝓤 (ensured 𝓤 H A «open».ended («open».clauses 𝓤 H A mem run) κs (s, (n, tt)) tt r) (fact 𝓤 (r ≡ readerAt s n))
+  open-said r = exE 𝓤 _ (λ ws. snd∗ 𝓤 (sem 𝓤 H A (lasts «open».ended κs (s, (n, tt)) ws)) (fact 𝓤 (r ≡ readerAt s n)))
 
   -- the calls of `word` and of `octet`, at the reader r with the machine value u
   abbrev to-word : Reader → Val → Word 𝓤 H A mem run .Ghost
@@ -172,7 +172,7 @@ module _ {M : Type 1} (𝓤 : URA M) (H : Heap 𝓤) (A : Atoms 𝓤) (W : Given
         move ! (18 ∷ []) $ use1 W (raw (Open 𝓤 H A mem run .pre to-open) ⊛ ‵ Own) goes-open $ split ! $
         calls-at ! fm (Open 𝓤 H A mem run) known-open to-open (and-then ! (load ! (from ! (stop !)) (look ! 16 refl)) (and-then ! (load ! (from ! (stop !)) (look ! 14 refl)) (no-more !))) (λ u.
         use1 W (later (some (λ (r : Reader). (Token ⊛ ‵ (B κs .own r (u ∷ []))) ⊛ raw (ensured 𝓤 H A «open».ended («open».clauses 𝓤 H A mem run) κs (s, (n, tt)) tt r)))) (id⊢ 𝓤 _) $ await ! tt $ pick ! (λ r.
-        split ! $ move ! (1 ∷ []) $ use1 W (raw (fact 𝓤 (r ≡ opened s n))) (open-said r) $ heard ! (r ≡ opened s n) (λ e. split ! $ move ! (1 ∷ []) $
+        split ! $ move ! (1 ∷ []) $ use1 W (raw (fact 𝓤 (r ≡ readerAt s n))) (open-said r) $ heard ! (r ≡ readerAt s n) (λ e. split ! $ move ! (1 ∷ []) $
         -- [what the reader owns; the token; what s owns; room for _8; …; room for _4; …; _3; …; _2; …; _1; …; room for _0; …]
         peeks ! (B κs) (Is (B κs)) (shows 𝓤 H A (B κs)) r (u ∷ []) (λ is.
         land ! (from ! (stop !)) (init ! 11 refl (LL.lawful (T.the-type αᵉ) (T′.the-laws αᵉ) 𝓤 H A W .typed r _ is .0)) $
