@@ -19,7 +19,7 @@ use Rattle.frame.specs.declared.Kind.the-variants.{Message, Ack, Nak}
 use Rattle.frame.specs.declared.decoder.Found.{Found}
 use Rattle.frame.specs.declared.decoder.Found.the-variants as found
 use Rattle.frame.specs.Frame.{Frame}
-use Rattle.frame.specs.Decoder.{takenOf}
+use Rattle.frame.specs.Decoder.{freshDecoder, takenOf}
 use Rattle.frame.specs.Run.{foundMeans, outcomeOf}
 use Rattle.frame.proofs.Laws.{idled-done}
 use Rattle.message.specs.declared.Read.{Read}
@@ -45,7 +45,7 @@ use Rattle.controller.specs.Handling as handling
 use Rattle.controller.specs.Handling.{setAs, unlessUnread, runAs, queryTimesAs, queryPlanAs, queryRunningAs, handlingOf}
 use Rattle.controller.specs.Replies.{Call, sent, refusedCall, errOf, naks, acks, forUs, isAnswer, repliesOf, CanFind, ResultAndBook, unchanged, leaves, repliedOf, messageOf, eventFor, broughtOf, madeOf, octetOf}
 use Rattle.controller.specs.Seconds.{startedOf, secondOf, noSecond}
-use Rattle.controller.specs.Demand1.{Sound, SoundAsItIs, OctetRefused, InDone, OctetsAnswered, SecondRefused, SecondsAnswered, IdlesAnswered, StartsAnswered, RefusedLeavesBook, OutputsLeft, NumbersAsSaid}
+use Rattle.controller.specs.Demand1.{Sound, SoundAsItIs, OctetRefused, CallRefused, InDone, OctetsAnswered, SecondRefused, ShownRefused, SecondsAnswered, IdlesAnswered, StartsAnswered, RefusedLeavesBook, OutputsLeft, NumbersAsSaid}
 use Rattle.controller.proofs.Laws.{octet-7, octet-8, octet-9, octet-brings, idle-7, idle-done, second-7, second-8, second-done}
 use Rattle.controller.proofs.Judging.{RunningParts, SoundParts, sound-parts, parts-sound}
 use Rattle.controller.proofs.Keeping.{fresh-sound}
@@ -82,7 +82,7 @@ sound-as-it-is s o = record { from = λ h. from (sound-parts s h); to = λ h. pa
 -- The fresh start
 
 pub starts-answered : StartsAnswered
-unfolding startedOf soundOf freshOf
+unfolding startedOf soundOf freshOf freshDecoder
 starts-answered own =
     record {
       state = refl;
@@ -95,18 +95,24 @@ starts-answered own =
 pub idles-answered : IdlesAnswered
 idles-answered s =
     record {
-      refused = idle-7 s;
-      done = λ h. rw (idle-done s h, idled-done (s .decoder) (sound-parts s h .decoder));
+      refused = λ h. rw (idle-7 s h) (record { refusal = refl; state = refl; parameter = refl; event = refl; count = refl });
+      done = λ h.
+          rw (idle-done s h, idled-done (s .decoder) (sound-parts s h .decoder))
+          (record { refusal = refl; state = refl; parameter = refl; event = refl; count = refl });
     }
 
 -- The second call
 
 pub seconds-answered : SecondsAnswered
+unfolding noSecond
 seconds-answered s book = record { refused = λ n r. refused r; done = λ h n. rw (second-done s book h n); either = by (soundOf s) refl (ℕ-discrete (length book) bookLen) }
   where
-    refused : {n : ℕ} → SecondRefused s book n → secondOf s book ≡ noSecond s n
-    refused (SecondRefused.unsound h) = second-7 s book h
-    refused (SecondRefused.book h n) = second-8 s book h n
+    dark : {n : ℕ} → ShownRefused s n (noSecond s n)
+    dark = record { refusal = refl; state = refl; plan = refl; step = refl; left = refl; steady = refl; flashing = refl }
+
+    refused : {n : ℕ} → SecondRefused s book n → ShownRefused s n (secondOf s book)
+    refused (SecondRefused.unsound h) = rw (second-7 s book h) dark
+    refused (SecondRefused.book h n) = rw (second-8 s book h n) dark
 
     by : (t : Bool) → soundOf s ≡ t → Dec (length book ≡ bookLen) → ((n : ℕ) × SecondRefused s book n) ⊎ ((soundOf s ≡ true) × (length book ≡ bookLen))
     by false h d = inl (refusal.stateUnsound, SecondRefused.unsound h)
@@ -267,6 +273,11 @@ module _ (s : State) (book out : List ℕ) (b : ℕ) where
       let t = takenOf (s .decoder) b in
       brought-right (s .own) (s .seq) (s .requested) (s .running) book (p .running) hb (t .found) (t .decoder .info) (can-find (s .decoder) b (p .decoder))
 
+octet-refused : (s : State) (book out : List ℕ) (b : ℕ) {n : ℕ} → OctetRefused s book out n → octetOf s book out b ≡ refusedCall s n book out
+octet-refused s book out b (OctetRefused.unsound h) = octet-7 s book out b h
+octet-refused s book out b (OctetRefused.book h n) = octet-8 s book out b h n
+octet-refused s book out b (OctetRefused.output h e l) = octet-9 s book out b h e l
+
 pub octets-answered : OctetsAnswered
 octets-answered s book out b =
     record {
@@ -275,10 +286,8 @@ octets-answered s book out b =
       either = by (soundOf s) refl (ℕ-discrete (length book) bookLen) (decLt (length out) outputLen);
     }
   where
-    refused : {n : ℕ} → OctetRefused s book out n → octetOf s book out b ≡ refusedCall s n book out
-    refused (OctetRefused.unsound h) = octet-7 s book out b h
-    refused (OctetRefused.book h n) = octet-8 s book out b h n
-    refused (OctetRefused.output h e l) = octet-9 s book out b h e l
+    refused : {n : ℕ} → OctetRefused s book out n → CallRefused s book out n (octetOf s book out b)
+    refused r = rw (octet-refused s book out b r) (record { answer = record { refusal = refl; state = refl; parameter = refl; event = refl; count = refl }; book = refl; out = refl })
 
     by : (t : Bool) → soundOf s ≡ t → Dec (length book ≡ bookLen) → Dec (length out < outputLen)
         → ((n : ℕ) × OctetRefused s book out n) ⊎ ((soundOf s ≡ true) × (length book ≡ bookLen) × (outputLen ≤ length out))
@@ -293,7 +302,7 @@ octet-by : (P : Call → Type 0) (s : State) (book out : List ℕ) (b : ℕ) →
 octet-by P s book out b r d = by (octets-answered s book out b .either)
   where
     by : ((n : ℕ) × OctetRefused s book out n) ⊎ ((soundOf s ≡ true) × (length book ≡ bookLen) × (outputLen ≤ length out)) → P (octetOf s book out b)
-    by (inl x) = rw (octets-answered s book out b .refused (x .0) (x .1)) (r (x .0))
+    by (inl x) = rw (octet-refused s book out b (x .1)) (r (x .0))
     by (inr x) = rw (octet-brings s book out b (x .0) (x .1) (x .2) refl) (d (x .2) (brought s book out b) (octet-right s book out b (x .0) (x .1)))
 
 -- What is left alone

@@ -54,7 +54,7 @@ use Rattle.controller.specs.Handling as handling
 use Rattle.controller.specs.Handling.{Handling, carriedOutCode, refusedCode, runCode, queryTimesCode, queryPlanCode, queryRunningCode, carriedOutReply, setAs, runAs, queryTimesAs, queryPlanAs, queryRunningAs, handlingOf}
 use Rattle.controller.specs.Replies.{Call, sent, errOf, naks, forUs, isAnswer, repliesOf, ResultAndBook, repliedOf, handledOf, messageOf, broughtOf, madeOf, octetOf}
 use Rattle.controller.specs.Demand1.{InDone}
-use Rattle.controller.specs.Demand2.{Wrote, Err, IsAnswer, RepliesSo, Replies, Answers, CarriedOut, Reported, Refused, HandledSo, Handles, SecondsShow}
+use Rattle.controller.specs.Demand2.{Wrote, Err, IsAnswer, RecordOfPlan, RepliesSo, Replies, Answers, CarriedOut, Reported, Refused, HandledSo, Handles, SecondsShow}
 use Rattle.controller.proofs.Judging.{RunningParts, sound-parts, record-octets}
 use Rattle.controller.proofs.Keeping.{second-left}
 use Rattle.controller.proofs.Laws.{octet-brings, message-other, message-answer, message-handled, second-done}
@@ -379,6 +379,11 @@ module _ (u : Running) (requested : ℕ) (book info : List ℕ) where
     unfolding handlingOf queryRunningAs
     at-query-running e = rw (e, eq-eqb (readOf info .refusal) refusal.none r)
 
+-- what holds of the record that the calls read holds of the plan's
+of-plan : {book : List ℕ} {p : ℕ} {q : List ℕ} (P : List ℕ → Type 0) → RecordOfPlan book p q → P (planRecord book p) → P q
+of-plan P RecordOfPlan.zero x = x
+of-plan P (RecordOfPlan.other p n) x = rw (ne-eqb p 0 n) at x
+
 -- What a message does
 
 module _ (s : State) (seq addr : ℕ) (book info : List ℕ) (w : Call) where
@@ -449,20 +454,23 @@ module _ (s : State) (seq addr : ℕ) (book info : List ℕ) (w : Call) where
               let b = plan-octets book info hb ob c m in
               refused-as x (b .0) (b .1) (j .kept m);
           unread = λ c n. refused-as (by (at-unread (s .running) (s .requested) book info c n)) (read-octet info) (read-field info) refl;
-          run = λ c r h.
-              let x = by (at-run (s .running) (s .requested) book info r c (stands .readyTo h)) in
-              carried-out x;
-          noRun = λ c r n. refused-as (by (at-no-run (s .running) (s .requested) book info r c (not-ready n))) (omega arith) (omega arith) refl;
-          queryTimes = λ c r h.
+          run = λ q c r k. of-plan (λ q. Ready q → CarriedOut s seq addr (planIn (bodyIn info)) book info w) k (λ h. carried-out (by (at-run (s .running) (s .requested) book info r c (stands .readyTo h))));
+          noRun = λ q c r k.
+              of-plan (λ q. (Ready q → ⊥) → Refused s seq addr 13 1 book info w) k (λ n. refused-as (by (at-no-run (s .running) (s .requested) book info r c (not-ready n))) (omega arith) (omega arith) refl);
+          queryTimes = λ q c r k.
+              of-plan (λ q. HasTimes q → Reported s seq addr book (timesInfo q (planIn (bodyIn info))) w) k (λ h.
               let n = has-stands rec ro h in
               let x = by (at-query-times (s .running) (s .requested) book info r c n) in
-              reported x (times-info rec (planIn (bodyIn info)) ro (most n) n);
-          noTimesYet = λ c r n. refused-as (by (at-no-times (s .running) (s .requested) book info r c (no-times n))) (omega arith) (omega arith) refl;
-          queryPlan = λ c r h.
+              reported x (times-info rec (planIn (bodyIn info)) ro (most n) n));
+          noTimesYet = λ q c r k.
+              of-plan (λ q. (HasTimes q → ⊥) → Refused s seq addr 13 1 book info w) k (λ n. refused-as (by (at-no-times (s .running) (s .requested) book info r c (no-times n))) (omega arith) (omega arith) refl);
+          queryPlan = λ q c r k.
+              of-plan (λ q. Ready q → Reported s seq addr book (planInfo q (planIn (bodyIn info)) 0x5FC5) w) k (λ h.
               let e = stands .readyTo h in
               let x = by (at-query-plan (s .running) (s .requested) book info r c e) in
-              reported x (plan-info rec (planIn (bodyIn info)) ro (most (λ z. absurd (omega arith))) reportPlanCode e (inl refl) (omega arith));
-          noPlanYet = λ c r n. refused-as (by (at-no-plan (s .running) (s .requested) book info r c (not-ready n))) (omega arith) (omega arith) refl;
+              reported x (plan-info rec (planIn (bodyIn info)) ro (most (λ z. absurd (omega arith))) reportPlanCode e (inl refl) (omega arith)));
+          noPlanYet = λ q c r k.
+              of-plan (λ q. (Ready q → ⊥) → Refused s seq addr 13 1 book info w) k (λ n. refused-as (by (at-no-plan (s .running) (s .requested) book info r c (not-ready n))) (omega arith) (omega arith) refl);
           queryRunning = λ c r.
               let x = by (at-query-running (s .running) (s .requested) book info r c) in
               reported x (plan-info (s .running .copy) (s .running .plan) oc (u .plan) reportRunningCode (u .checks) (inr refl) (omega arith));

@@ -6,33 +6,35 @@ use mathlib.Core.Path.{_≡_}
 use mathlib.Core.Bool.{true, false}
 use mathlib.Core.Logic.{_⊎_}
 use mathlib.Core.List.{List}
-use lib.ListN.{length, drop}
+use lib.ListN.{length, drop, replicate}
 use Rattle.octets.specs.Octet.{Octets}
-use Rattle.octets.specs.Refusal as refusal
+use Rattle.frame.specs.declared.Kind.the-variants.{Message}
 use Rattle.frame.specs.declared.decoder.Place.the-variants.{Idle}
 use Rattle.frame.specs.Decoder.{possibleOf}
-use Rattle.frame.specs.Promises.{placedAt}
 use Rattle.record.specs.Record.{recordLen, plansMost, bookLen, cycleOf, Ready}
 use Rattle.plan.specs.BuiltIn.{builtIn}
 use Rattle.controller.specs.declared.Running.{Running}
 use Rattle.controller.specs.declared.State.{State}
-use Rattle.controller.specs.State.{all, outputLen, freshOf, soundOf, withDecoder}
-use Rattle.controller.specs.Replies.{quiet, refusedCall, octetOf, lineIdleOf}
-use Rattle.controller.specs.Seconds.{startedOf, noSecond, secondOf}
+use Rattle.controller.specs.declared.Event.the-variants as event
+use Rattle.controller.specs.declared.Answer.{Answer}
+use Rattle.controller.specs.declared.Shown.{Shown}
+use Rattle.controller.specs.State.{all, outputLen, soundOf}
+use Rattle.controller.specs.Replies.{Call, octetOf, lineIdleOf}
+use Rattle.controller.specs.Seconds.{startedOf, secondOf}
 
 -- Which states are sound
 
 -- "position outside the cycle, running plan over 48, failing the checks, or numbered 0 and unlike the built-in": none of these
 pub record RunningSound (u : Running) : Type 0 where
   pub position : u .position < cycleOf (u .copy)
-  pub plan : u .plan ≤ plansMost
+  pub plan : u .plan ≤ 48
   pub checks : Ready (u .copy)
   pub zero : u .plan ≡ 0 → u .copy ≡ builtIn
 
 -- nor "own address FFFF, requested plan over 48, .. impossible decoder place"
 pub record Sound (s : State) : Type 0 where
-  pub own : s .own ≡ all → ⊥
-  pub requested : s .requested ≤ plansMost
+  pub own : s .own ≡ 0xFFFF → ⊥
+  pub requested : s .requested ≤ 48
   pub decoder : possibleOf (s .decoder .head) ≡ true
   pub running : RunningSound (s .running)
 
@@ -44,54 +46,119 @@ pub record SoundJudged (s : State) : Type 0 where
 abbrev pub SoundAsItIs : Type 0
 SoundAsItIs = (s : State) → Octets (s .running .copy) → SoundJudged s
 
--- Refused calls
+-- Octet calls
 
 -- refusals 7, 8 and 9 of an octet call: "When, and only then", "Order: 7, 8, 9 in a call"
 pub data OctetRefused (s : State) (book out : List ℕ) : ℕ → Type 0 where
-  unsound : soundOf s ≡ false → OctetRefused s book out refusal.stateUnsound
-  book : soundOf s ≡ true → (length book ≡ bookLen → ⊥) → OctetRefused s book out refusal.bookWrong
-  output : soundOf s ≡ true → length book ≡ bookLen → length out < outputLen → OctetRefused s book out refusal.outputShort
+  -- "state handed in is unsound"
+  unsound : soundOf s ≡ false → OctetRefused s book out 7
+  -- "plan book is not 3,840 octets"
+  book : soundOf s ≡ true → (length book ≡ 3840 → ⊥) → OctetRefused s book out 8
+  -- "output too short: 544 for an octet call"
+  output : soundOf s ≡ true → length book ≡ 3840 → length out < 544 → OctetRefused s book out 9
 
--- a number that a done call may name: none, a refused frame's, a refused message's
+-- "same state, nothing written"; "Other numbers in a refused call's result are 0": no parameter, no count, and no event
+pub record AnswerRefused (s : State) (n : ℕ) (a : Answer) : Type 0 where
+  pub refusal : a .refusal ≡ n
+  pub state : a .state ≡ s
+  pub parameter : a .parameter ≡ 0
+  pub event : a .event ≡ event.Nothing
+  pub count : a .count ≡ 0
+
+-- "leaves book and output as they came"
+pub record CallRefused (s : State) (lent output : List ℕ) (n : ℕ) (w : Call) : Type 0 where
+  pub answer : AnswerRefused s n (w .answer)
+  pub book : w .book ≡ lent
+  pub out : w .out ≡ output
+
+-- a number that a done call may name: none, a refused frame's 1 to 3, a refused message's 10 to 14
 abbrev pub InDone : ℕ → Type 0
-InDone n = (n ≤ refusal.lenWrong) ⊎ ((refusal.codeNotHandled ≤ n) × (n ≤ refusal.disagree))
+InDone n = (n ≤ 3) ⊎ ((10 ≤ n) × (n ≤ 14))
 
 pub record OctetAnswered (s : State) (book out : List ℕ) (b : ℕ) : Type 0 where
-  -- "same state, nothing written"; "Other numbers in a refused call's result are 0"
-  pub refused : (n : ℕ) → OctetRefused s book out n → octetOf s book out b ≡ refusedCall s n book out
-  pub done : soundOf s ≡ true → length book ≡ bookLen → outputLen ≤ length out → InDone (octetOf s book out b .answer .refusal)
+  pub refused : (n : ℕ) → OctetRefused s book out n → CallRefused s book out n (octetOf s book out b)
+  pub done : soundOf s ≡ true → length book ≡ 3840 → 544 ≤ length out → InDone (octetOf s book out b .answer .refusal)
   -- every call is one or the other
-  pub either : ((n : ℕ) × OctetRefused s book out n) ⊎ ((soundOf s ≡ true) × (length book ≡ bookLen) × (outputLen ≤ length out))
+  pub either : ((n : ℕ) × OctetRefused s book out n) ⊎ ((soundOf s ≡ true) × (length book ≡ 3840) × (544 ≤ length out))
 
 abbrev pub OctetsAnswered : Type 0
 OctetsAnswered = (s : State) (book out : List ℕ) (b : ℕ) → OctetAnswered s book out b
 
+-- Second calls
+
 -- refusals 7 and 8 of a second call
 pub data SecondRefused (s : State) (book : List ℕ) : ℕ → Type 0 where
-  unsound : soundOf s ≡ false → SecondRefused s book refusal.stateUnsound
-  book : soundOf s ≡ true → (length book ≡ bookLen → ⊥) → SecondRefused s book refusal.bookWrong
+  unsound : soundOf s ≡ false → SecondRefused s book 7
+  book : soundOf s ≡ true → (length book ≡ 3840 → ⊥) → SecondRefused s book 8
+
+-- "same state"; "Other numbers in a refused call's result are 0": no plan, no step, no seconds left, and all lamps dark
+pub record ShownRefused (s : State) (n : ℕ) (w : Shown) : Type 0 where
+  pub refusal : w .refusal ≡ n
+  pub state : w .state ≡ s
+  pub plan : w .plan ≡ 0
+  pub step : w .row .step ≡ 0
+  pub left : w .row .left ≡ 0
+  pub steady : w .row .steady ≡ 0
+  pub flashing : w .row .flashing ≡ 0
 
 pub record SecondAnswered (s : State) (book : List ℕ) : Type 0 where
-  pub refused : (n : ℕ) → SecondRefused s book n → secondOf s book ≡ noSecond s n
-  pub done : soundOf s ≡ true → length book ≡ bookLen → secondOf s book .refusal ≡ refusal.none
-  pub either : ((n : ℕ) × SecondRefused s book n) ⊎ ((soundOf s ≡ true) × (length book ≡ bookLen))
+  pub refused : (n : ℕ) → SecondRefused s book n → ShownRefused s n (secondOf s book)
+  pub done : soundOf s ≡ true → length book ≡ 3840 → secondOf s book .refusal ≡ 0
+  pub either : ((n : ℕ) × SecondRefused s book n) ⊎ ((soundOf s ≡ true) × (length book ≡ 3840))
 
 abbrev pub SecondsAnswered : Type 0
 SecondsAnswered = (s : State) (book : List ℕ) → SecondAnswered s book
 
--- "A line-idle call .. returns the decoder to idle and changes nothing else"; refusal 7 of it
+-- Line-idle calls
+
+-- "A line-idle call .. returns the decoder to idle and changes nothing else", in the decoder too
+abbrev pub AtIdle : State → State → Type 0
+AtIdle s t =
+    let h = s .decoder .head in
+    t ≡ record {
+      own = s .own;
+      seq = s .seq;
+      requested = s .requested;
+      decoder = record {
+        head = record { place = Idle; kind = h .kind; seq = h .seq; err = h .err; addr = h .addr; len = h .len; filled = h .filled };
+        info = s .decoder .info;
+      };
+      running = s .running;
+    }
+
+pub record IdleDone (s : State) (a : Answer) : Type 0 where
+  pub refusal : a .refusal ≡ 0
+  pub state : AtIdle s (a .state)
+  pub parameter : a .parameter ≡ 0
+  pub event : a .event ≡ event.Nothing
+  pub count : a .count ≡ 0
+
+-- refusal 7 of it
 pub record IdleAnswered (s : State) : Type 0 where
-  pub refused : soundOf s ≡ false → lineIdleOf s ≡ quiet s refusal.stateUnsound
-  pub done : soundOf s ≡ true → lineIdleOf s ≡ quiet (withDecoder s (placedAt Idle (s .decoder))) refusal.none
+  pub refused : soundOf s ≡ false → AnswerRefused s 7 (lineIdleOf s)
+  pub done : soundOf s ≡ true → IdleDone s (lineIdleOf s)
 
 abbrev pub IdlesAnswered : Type 0
 IdlesAnswered = (s : State) → IdleAnswered s
 
+-- The fresh start
+
+-- "A fresh start runs and requests plan 0 at position 0"; "Our SEQ starts at 0"; its decoder is idle, and nothing is kept in it
+abbrev pub FreshAt : ℕ → State → Type 0
+FreshAt own t =
+    t ≡ record {
+      own = own;
+      seq = 0;
+      requested = 0;
+      decoder = record { head = record { place = Idle; kind = Message; seq = 0; err = 0; addr = 0; len = 0; filled = 0 }; info = replicate 256 0 };
+      running = record { plan = 0; position = 0; copy = builtIn };
+    }
+
 -- "fresh start with address FFFF": "a fresh state but for own address FFFF, so unsound"
 pub record StartAnswered (own : ℕ) : Type 0 where
-  pub state : startedOf own .state ≡ freshOf own
-  pub refused : own ≡ all → (startedOf own .refusal ≡ refusal.startWrong) × (soundOf (freshOf own) ≡ false)
-  pub done : (own ≡ all → ⊥) → (startedOf own .refusal ≡ refusal.none) × (soundOf (freshOf own) ≡ true)
+  pub state : FreshAt own (startedOf own .state)
+  pub refused : own ≡ 0xFFFF → (startedOf own .refusal ≡ 6) × (soundOf (startedOf own .state) ≡ false)
+  pub done : (own ≡ 0xFFFF → ⊥) → (startedOf own .refusal ≡ 0) × (soundOf (startedOf own .state) ≡ true)
 
 abbrev pub StartsAnswered : Type 0
 StartsAnswered = (own : ℕ) → StartAnswered own
@@ -100,14 +167,14 @@ StartsAnswered = (own : ℕ) → StartAnswered own
 
 -- "a refused message alters no plan", nor does a refused frame or call: whatever is refused, the book is as it came
 abbrev pub RefusedLeavesBook : Type 0
-RefusedLeavesBook = (s : State) (book out : List ℕ) (b : ℕ) → (octetOf s book out b .answer .refusal ≡ refusal.none → ⊥) → octetOf s book out b .book ≡ book
+RefusedLeavesBook = (s : State) (book out : List ℕ) (b : ℕ) → (octetOf s book out b .answer .refusal ≡ 0 → ⊥) → octetOf s book out b .book ≡ book
 
 -- "A call writes only the octets that its result counts; the output beyond them stays."
 pub record OutputLeft (s : State) (book out : List ℕ) (b : ℕ) : Type 0 where
   pub beyond : (let n = octetOf s book out b .answer .count in drop n (octetOf s book out b .out) ≡ drop n out)
   pub long : length (octetOf s book out b .out) ≡ length out
   pub within : octetOf s book out b .answer .count ≤ length out
-  pub most : octetOf s book out b .answer .count ≤ outputLen
+  pub most : octetOf s book out b .answer .count ≤ 544
 
 abbrev pub OutputsLeft : Type 0
 OutputsLeft = (s : State) (book out : List ℕ) (b : ℕ) → OutputLeft s book out b
@@ -121,7 +188,7 @@ pub record SoundKeptBy (s : State) : Type 0 where
 abbrev pub SoundKept : Type 0
 SoundKept = (s : State) → SoundKeptBy s
 
--- The numbers that the demands name: "Plan p, 1 to 48, has 80 octets", "plan book is not 3,840 octets", "544 for an octet call",
--- "FFFF is for all"
+-- The numbers that have names: "Plan p, 1 to 48, has 80 octets", "plan book is not 3,840 octets", "544 for an octet call", "FFFF is
+-- for all"
 abbrev pub NumbersAsSaid : Type 0
 NumbersAsSaid = (recordLen ≡ 80) × (plansMost ≡ 48) × (bookLen ≡ 3840) × (outputLen ≡ 544) × (all ≡ 0xFFFF)

@@ -5,45 +5,48 @@ use Prim.Native.Nat.{ℕ, _+_, _%_, _≤_}
 use mathlib.Core.Path.{_≡_}
 use mathlib.Core.Bool.{true}
 use mathlib.Core.Logic.{_⊎_}
-use mathlib.Core.List.{List, [], _∷_}
+use mathlib.Core.List.{List, [], _∷_, _++_}
 use lib.ListN.{length, take}
 use Rattle.octets.specs.Octet.{Octets}
-use Rattle.octets.specs.Refusal as refusal
 use Rattle.octets.specs.Word.{highOf, lowOf}
 use Rattle.frame.specs.declared.Kind.{Kind}
 use Rattle.frame.specs.declared.Kind.the-variants.{Message}
-use Rattle.frame.specs.Frame.{Frame, message, ack, nak}
+use Rattle.frame.specs.Frame.{Frame, message, ack, nak, written}
 use Rattle.frame.specs.Decoder.{takenOf}
 use Rattle.frame.specs.Run.{Outcome, nothing, refused, sound, outcomeOf}
-use Rattle.message.specs.Names.{planAt}
 use Rattle.message.specs.Reader.{codeIn, bodyIn, readOf}
-use Rattle.record.specs.Record.{bookLen, orderOf, Ready}
+use Rattle.record.specs.Record.{orderOf, Ready}
+use Rattle.plan.specs.BuiltIn.{builtIn}
 use Rattle.plan.specs.Promises.{HasTimes, Fit14, Fit15}
 use Rattle.plan.specs.Reading.{recordAt}
-use Rattle.plan.specs.Setting.{setTimesCode, setPlanCode, setTimesOf, setPlanOf, planIn}
-use Rattle.plan.specs.Reporting.{reportPlanCode, reportRunningCode, timesInfo, planInfo}
+use Rattle.plan.specs.Setting.{setTimesOf, setPlanOf, planIn}
+use Rattle.plan.specs.Reporting.{timesInfo, planInfo}
 use Rattle.lamps.specs.Rows.{secondsOf, stepsOfPlan}
 use Rattle.lamps.specs.Promises.{Due}
 use Rattle.controller.specs.declared.State.{State}
 use Rattle.controller.specs.declared.Event.{Event}
 use Rattle.controller.specs.declared.Event.the-variants as event
-use Rattle.controller.specs.State.{all, outputLen, soundOf, planRecord, withDecoder, withRunning}
-use Rattle.controller.specs.Handling.{runCode, queryTimesCode, queryPlanCode, queryRunningCode}
-use Rattle.controller.specs.Replies.{Call, sent, octetOf}
+use Rattle.controller.specs.State.{soundOf}
+use Rattle.controller.specs.Replies.{Call, octetOf}
 use Rattle.controller.specs.Seconds.{secondOf}
 
 -- What is written
 
+-- the octets of frames, one after another
+abbrev pub onLine : List Frame → List ℕ
+onLine [] = []
+onLine (f ∷ fs) = written f ++ onLine fs
+
 -- the call wrote these frames, and counts them
 pub record Wrote (w : Call) (fs : List Frame) : Type 0 where
-  pub count : w .answer .count ≡ length (sent fs)
-  pub octets : take (w .answer .count) (w .out) ≡ sent fs
+  pub count : w .answer .count ≡ length (onLine fs)
+  pub octets : take (w .answer .count) (w .out) ≡ onLine fs
 
 -- "NAK, ERR 01", "NAK, ERR 02", "NAK, ERR 04": the ERR that answers a refusal
 pub data Err : ℕ → ℕ → Type 0 where
-  cks : Err refusal.cksWrong 0x01
-  closing : Err refusal.closingWrong 0x02
-  len : Err refusal.lenWrong 0x04
+  cks : Err 1 0x01
+  closing : Err 2 0x02
+  len : Err 3 0x04
 
 -- "0F 80 or 0F 81"
 abbrev pub IsAnswer : List ℕ → Type 0
@@ -51,7 +54,8 @@ IsAnswer info = (codeIn info ≡ 0x0F80) ⊎ (codeIn info ≡ 0x0F81)
 
 -- nothing but the decoder has changed: the book is as it came, and no parameter is named
 pub record OnlyTaken (s : State) (before : List ℕ) (b : ℕ) (w : Call) : Type 0 where
-  pub state : w .answer .state ≡ withDecoder s (takenOf (s .decoder) b .decoder)
+  pub state : w .answer .state
+      ≡ record { own = s .own; seq = s .seq; requested = s .requested; decoder = takenOf (s .decoder) b .decoder; running = s .running }
   pub book : w .book ≡ before
   pub parameter : w .answer .parameter ≡ 0
 
@@ -67,7 +71,7 @@ Hands s fs w = eventFrames (s .own) (w .answer .event) ≡ fs
 
 -- an octet call that is done, by what the octet brought, `o`
 pub record RepliesSo (s : State) (book : List ℕ) (b : ℕ) (o : Outcome) (w : Call) : Type 0 where
-  pub quiet : o ≡ nothing → Wrote w [] × (w .answer .refusal ≡ refusal.none) × OnlyTaken s book b w × Hands s [] w
+  pub quiet : o ≡ nothing → Wrote w [] × (w .answer .refusal ≡ 0) × OnlyTaken s book b w × Hands s [] w
   -- "Refusals 1 to 3 of a message frame write one NAK with the received SEQ, if the received ADDR is ours"
   pub nakForUs : (n err seq : ℕ) → Err n err → o ≡ refused n Message seq (s .own) → Wrote w (nak seq (s .own) err ∷ [])
   -- "Faulty ACK and NAK frames are never replied to."
@@ -76,25 +80,25 @@ pub record RepliesSo (s : State) (book : List ℕ) (b : ℕ) (o : Outcome) (w : 
   pub named : (n : ℕ) (k : Kind) (seq addr : ℕ) → o ≡ refused n k seq addr → (w .answer .refusal ≡ n) × OnlyTaken s book b w × Hands s [] w
   -- "A received 0F 80 or 0F 81 of any length gets the ACK only (nothing for FFFF) and is no refusal."
   pub ackOnly : (seq : ℕ) (info : List ℕ) → o ≡ sound (message seq (s .own) info) → IsAnswer info
-      → Wrote w (ack seq (s .own) ∷ []) × (w .answer .refusal ≡ refusal.none) × OnlyTaken s book b w
+      → Wrote w (ack seq (s .own) ∷ []) × (w .answer .refusal ≡ 0) × OnlyTaken s book b w
   -- "A sound message frame for us writes an ACK with the received SEQ, then one message frame with our next SEQ .. grows by one per
   -- message frame written, and after 255 comes 0."
   pub replied : (seq : ℕ) (info : List ℕ) → o ≡ sound (message seq (s .own) info) → (IsAnswer info → ⊥)
       → (reply : List ℕ) × Wrote w (ack seq (s .own) ∷ message (s .seq) (s .own) reply ∷ []) × (w .answer .state .seq ≡ (s .seq + 1) % 256)
   -- "FFFF is for all: carried out, never replied to."
-  pub forAll : (seq : ℕ) (info : List ℕ) → o ≡ sound (message seq all info) → Wrote w [] × (w .answer .state .seq ≡ s .seq)
+  pub forAll : (seq : ℕ) (info : List ℕ) → o ≡ sound (message seq 0xFFFF info) → Wrote w [] × (w .answer .state .seq ≡ s .seq)
   -- of 0F 80 and 0F 81: "(nothing for FFFF) and is no refusal"
-  pub answerForAll : (seq : ℕ) (info : List ℕ) → o ≡ sound (message seq all info) → IsAnswer info → (w .answer .refusal ≡ refusal.none) × OnlyTaken s book b w
+  pub answerForAll : (seq : ℕ) (info : List ℕ) → o ≡ sound (message seq 0xFFFF info) → IsAnswer info → (w .answer .refusal ≡ 0) × OnlyTaken s book b w
   -- "A sound frame for another address is dropped silently."; "Address is judged after CKS."
-  pub dropped : (seq addr : ℕ) (info : List ℕ) → o ≡ sound (message seq addr info) → (addr ≡ s .own → ⊥) → (addr ≡ all → ⊥)
-      → Wrote w [] × (w .answer .refusal ≡ refusal.none) × OnlyTaken s book b w
+  pub dropped : (seq addr : ℕ) (info : List ℕ) → o ≡ sound (message seq addr info) → (addr ≡ s .own → ⊥) → (addr ≡ 0xFFFF → ⊥)
+      → Wrote w [] × (w .answer .refusal ≡ 0) × OnlyTaken s book b w
   -- no message is an event
   pub noEvent : (seq addr : ℕ) (info : List ℕ) → o ≡ sound (message seq addr info) → Hands s [] w
   -- "A sound ACK or NAK for us is handed to the host as an event and changes nothing; one to FFFF is dropped."
   pub ackEvent : (seq : ℕ) → o ≡ sound (ack seq (s .own)) → Hands s (ack seq (s .own) ∷ []) w
   pub nakEvent : (seq err : ℕ) → o ≡ sound (nak seq (s .own) err) → Hands s (nak seq (s .own) err ∷ []) w
-  pub ackQuiet : (seq addr : ℕ) → o ≡ sound (ack seq addr) → Wrote w [] × (w .answer .refusal ≡ refusal.none) × OnlyTaken s book b w
-  pub nakQuiet : (seq addr err : ℕ) → o ≡ sound (nak seq addr err) → Wrote w [] × (w .answer .refusal ≡ refusal.none) × OnlyTaken s book b w
+  pub ackQuiet : (seq addr : ℕ) → o ≡ sound (ack seq addr) → Wrote w [] × (w .answer .refusal ≡ 0) × OnlyTaken s book b w
+  pub nakQuiet : (seq addr err : ℕ) → o ≡ sound (nak seq addr err) → Wrote w [] × (w .answer .refusal ≡ 0) × OnlyTaken s book b w
   pub ackOther : (seq addr : ℕ) → o ≡ sound (ack seq addr) → (addr ≡ s .own → ⊥) → Hands s [] w
   pub nakOther : (seq addr err : ℕ) → o ≡ sound (nak seq addr err) → (addr ≡ s .own → ⊥) → Hands s [] w
   -- whatever it brought: the octet is taken, and own address and running plan stay
@@ -103,7 +107,7 @@ pub record RepliesSo (s : State) (book : List ℕ) (b : ℕ) (o : Outcome) (w : 
 
 abbrev pub Replies : Type 0
 Replies =
-    (s : State) (book out : List ℕ) (b : ℕ) → soundOf s ≡ true → length book ≡ bookLen → outputLen ≤ length out
+    (s : State) (book out : List ℕ) (b : ℕ) → soundOf s ≡ true → length book ≡ 3840 → 544 ≤ length out
     → RepliesSo s book b (outcomeOf (takenOf (s .decoder) b)) (octetOf s book out b)
 
 -- What a message does
@@ -123,13 +127,13 @@ pub record Answers (s : State) (seq addr n m : ℕ) (info : List ℕ) (w : Call)
 
 -- "carried out": 0F 80, the plan p then requested, and the book then so
 pub record CarriedOut (s : State) (seq addr p : ℕ) (after info : List ℕ) (w : Call) : Type 0 where
-  pub answers : Answers s seq addr refusal.none 0 (info80 (codeIn info)) w
+  pub answers : Answers s seq addr 0 0 (info80 (codeIn info)) w
   pub book : w .book ≡ after
   pub requested : w .answer .state .requested ≡ p
 
 -- a query answered with this INFO; book and request are as they came
 pub record Reported (s : State) (seq addr : ℕ) (before info : List ℕ) (w : Call) : Type 0 where
-  pub answers : Answers s seq addr refusal.none 0 info w
+  pub answers : Answers s seq addr 0 0 info w
   pub book : w .book ≡ before
   pub requested : w .answer .state .requested ≡ s .requested
 
@@ -139,46 +143,50 @@ pub record Refused (s : State) (seq addr n m : ℕ) (before info : List ℕ) (w 
   pub book : w .book ≡ before
   pub requested : w .answer .state .requested ≡ s .requested
 
+-- rec is the record of plan p: "Plan 0 is built in", every other plan has its own in the book
+pub data RecordOfPlan (book : List ℕ) : ℕ → List ℕ → Type 0 where
+  zero : RecordOfPlan book 0 builtIn
+  other : (p : ℕ) → (p ≡ 0 → ⊥) → RecordOfPlan book p (recordAt book p)
+
 -- a sound message frame for us or for all, in an octet call that is done
 pub record HandledSo (s : State) (seq addr : ℕ) (book info : List ℕ) (w : Call) : Type 0 where
   -- 5F 14: stored and replied to with 0F 80 exactly when the listed checks pass; else refused by the first that fails
-  pub times : codeIn info ≡ setTimesCode → Fit14 (bodyIn info) → CarriedOut s seq addr (s .requested) (setTimesOf book info .book) info w
-  pub noTimes : codeIn info ≡ setTimesCode → (Fit14 (bodyIn info) → ⊥)
+  pub times : codeIn info ≡ 0x5F14 → Fit14 (bodyIn info) → CarriedOut s seq addr (s .requested) (setTimesOf book info .book) info w
+  pub noTimes : codeIn info ≡ 0x5F14 → (Fit14 (bodyIn info) → ⊥)
       → Refused s seq addr (setTimesOf book info .answer .refusal) (setTimesOf book info .answer .field) book info w
   -- 5F 15
-  pub plan : codeIn info ≡ setPlanCode → Fit15 (recordAt book (planIn (bodyIn info))) (bodyIn info) → CarriedOut s seq addr (s .requested) (setPlanOf book info .book) info w
-  pub noPlan : codeIn info ≡ setPlanCode → (Fit15 (recordAt book (planIn (bodyIn info))) (bodyIn info) → ⊥)
+  pub plan : codeIn info ≡ 0x5F15 → Fit15 (recordAt book (planIn (bodyIn info))) (bodyIn info) → CarriedOut s seq addr (s .requested) (setPlanOf book info .book) info w
+  pub noPlan : codeIn info ≡ 0x5F15 → (Fit15 (recordAt book (planIn (bodyIn info))) (bodyIn info) → ⊥)
       → Refused s seq addr (setPlanOf book info .answer .refusal) (setPlanOf book info .answer .field) book info w
   -- what the message reader refuses of the others
-  pub unread : (codeIn info ≡ runCode) ⊎ ((codeIn info ≡ queryTimesCode) ⊎ ((codeIn info ≡ queryPlanCode) ⊎ (codeIn info ≡ queryRunningCode)))
-      → (readOf info .refusal ≡ refusal.none → ⊥) → Refused s seq addr (readOf info .refusal) (readOf info .field) book info w
+  pub unread : (codeIn info ≡ 0x5F18) ⊎ ((codeIn info ≡ 0x5F44) ⊎ ((codeIn info ≡ 0x5F45) ⊎ (codeIn info ≡ 0x5F48)))
+      → (readOf info .refusal ≡ 0 → ⊥) → Refused s seq addr (readOf info .refusal) (readOf info .field) book info w
   -- 5F 18: "notes the requested plan", 13 for one not ready
-  pub run : codeIn info ≡ runCode → readOf info .refusal ≡ refusal.none → Ready (planRecord book (planIn (bodyIn info)))
+  pub run : (rec : List ℕ) → codeIn info ≡ 0x5F18 → readOf info .refusal ≡ 0 → RecordOfPlan book (planIn (bodyIn info)) rec → Ready rec
       → CarriedOut s seq addr (planIn (bodyIn info)) book info w
-  pub noRun : codeIn info ≡ runCode → readOf info .refusal ≡ refusal.none → (Ready (planRecord book (planIn (bodyIn info))) → ⊥)
-      → Refused s seq addr refusal.notReady planAt book info w
+  pub noRun : (rec : List ℕ) → codeIn info ≡ 0x5F18 → readOf info .refusal ≡ 0 → RecordOfPlan book (planIn (bodyIn info)) rec → (Ready rec → ⊥)
+      → Refused s seq addr 13 1 book info w
   -- 5F 44: the report 5F C4, 13 for an empty plan
-  pub queryTimes : codeIn info ≡ queryTimesCode → readOf info .refusal ≡ refusal.none → HasTimes (planRecord book (planIn (bodyIn info)))
-      → Reported s seq addr book (timesInfo (planRecord book (planIn (bodyIn info))) (planIn (bodyIn info))) w
-  pub noTimesYet : codeIn info ≡ queryTimesCode → readOf info .refusal ≡ refusal.none → (HasTimes (planRecord book (planIn (bodyIn info))) → ⊥)
-      → Refused s seq addr refusal.notReady planAt book info w
+  pub queryTimes : (rec : List ℕ) → codeIn info ≡ 0x5F44 → readOf info .refusal ≡ 0 → RecordOfPlan book (planIn (bodyIn info)) rec → HasTimes rec
+      → Reported s seq addr book (timesInfo rec (planIn (bodyIn info))) w
+  pub noTimesYet : (rec : List ℕ) → codeIn info ≡ 0x5F44 → readOf info .refusal ≡ 0 → RecordOfPlan book (planIn (bodyIn info)) rec → (HasTimes rec → ⊥)
+      → Refused s seq addr 13 1 book info w
   -- 5F 45: the report 5F C5, 13 for one not ready
-  pub queryPlan : codeIn info ≡ queryPlanCode → readOf info .refusal ≡ refusal.none → Ready (planRecord book (planIn (bodyIn info)))
-      → Reported s seq addr book (planInfo (planRecord book (planIn (bodyIn info))) (planIn (bodyIn info)) reportPlanCode) w
-  pub noPlanYet : codeIn info ≡ queryPlanCode → readOf info .refusal ≡ refusal.none → (Ready (planRecord book (planIn (bodyIn info))) → ⊥)
-      → Refused s seq addr refusal.notReady planAt book info w
+  pub queryPlan : (rec : List ℕ) → codeIn info ≡ 0x5F45 → readOf info .refusal ≡ 0 → RecordOfPlan book (planIn (bodyIn info)) rec → Ready rec
+      → Reported s seq addr book (planInfo rec (planIn (bodyIn info)) 0x5FC5) w
+  pub noPlanYet : (rec : List ℕ) → codeIn info ≡ 0x5F45 → readOf info .refusal ≡ 0 → RecordOfPlan book (planIn (bodyIn info)) rec → (Ready rec → ⊥)
+      → Refused s seq addr 13 1 book info w
   -- 5F 48: the report 5F C8 of the running copy
-  pub queryRunning : codeIn info ≡ queryRunningCode → readOf info .refusal ≡ refusal.none
-      → Reported s seq addr book (planInfo (s .running .copy) (s .running .plan) reportRunningCode) w
+  pub queryRunning : codeIn info ≡ 0x5F48 → readOf info .refusal ≡ 0 → Reported s seq addr book (planInfo (s .running .copy) (s .running .plan) 0x5FC8) w
   -- "code not handled": 10, parameter 0; "a report sent to it is refusal 10"
-  pub unknown : (codeIn info ≡ setTimesCode → ⊥) → (codeIn info ≡ setPlanCode → ⊥) → (codeIn info ≡ runCode → ⊥) → (codeIn info ≡ queryTimesCode → ⊥)
-      → (codeIn info ≡ queryPlanCode → ⊥) → (codeIn info ≡ queryRunningCode → ⊥) → Refused s seq addr refusal.codeNotHandled 0 book info w
+  pub unknown : (codeIn info ≡ 0x5F14 → ⊥) → (codeIn info ≡ 0x5F15 → ⊥) → (codeIn info ≡ 0x5F18 → ⊥) → (codeIn info ≡ 0x5F44 → ⊥)
+      → (codeIn info ≡ 0x5F45 → ⊥) → (codeIn info ≡ 0x5F48 → ⊥) → Refused s seq addr 10 0 book info w
 
 abbrev pub Handles : Type 0
 Handles =
-    (s : State) (book out : List ℕ) (b seq addr : ℕ) (info : List ℕ) → soundOf s ≡ true → length book ≡ bookLen → outputLen ≤ length out
+    (s : State) (book out : List ℕ) (b seq addr : ℕ) (info : List ℕ) → soundOf s ≡ true → length book ≡ 3840 → 544 ≤ length out
     → Octets book → Octets (s .running .copy)
-    → outcomeOf (takenOf (s .decoder) b) ≡ sound (message seq addr info) → (addr ≡ s .own) ⊎ (addr ≡ all) → (IsAnswer info → ⊥)
+    → outcomeOf (takenOf (s .decoder) b) ≡ sound (message seq addr info) → (addr ≡ s .own) ⊎ (addr ≡ 0xFFFF) → (IsAnswer info → ⊥)
     → HandledSo s seq addr book info (octetOf s book out b)
 
 -- What a second shows
@@ -188,7 +196,8 @@ Handles =
 pub record ShowsStep (s : State) (book : List ℕ) : Type 0 where
   pub plan : secondOf s book .plan ≡ s .running .plan
   pub row : Due (secondsOf (s .running .copy)) (orderOf (s .running .copy)) (stepsOfPlan (s .running .copy)) (s .running .position) (secondOf s book .row)
-  pub rest : secondOf s book .state ≡ withRunning s (secondOf s book .state .running)
+  pub rest : secondOf s book .state
+      ≡ record { own = s .own; seq = s .seq; requested = s .requested; decoder = s .decoder; running = secondOf s book .state .running }
 
 abbrev pub SecondsShow : Type 0
-SecondsShow = (s : State) (book : List ℕ) → soundOf s ≡ true → length book ≡ bookLen → Octets (s .running .copy) → ShowsStep s book
+SecondsShow = (s : State) (book : List ℕ) → soundOf s ≡ true → length book ≡ 3840 → Octets (s .running .copy) → ShowsStep s book

@@ -1,5 +1,6 @@
 -- 01, "Replies": the refusals by number, and 0 for none.
 use Prim.Native.Nat.{ℕ}
+use mathlib.Core.Path.{_≡_}
 
 abbrev pub none : ℕ
 none = 0
@@ -59,3 +60,9 @@ notReady = 13
 -- "fields disagree"
 abbrev pub disagree : ℕ
 disagree = 14
+
+-- Each has the number of its row in 01's table: no statement that names one can mean another.
+abbrev pub RefusalsAsSaid : Type 0
+RefusalsAsSaid =
+    (none ≡ 0) × (cksWrong ≡ 1) × (closingWrong ≡ 2) × (lenWrong ≡ 3) × (infoWrong ≡ 4) × (fieldWrong ≡ 5) × (startWrong ≡ 6) × (stateUnsound ≡ 7)
+    × (bookWrong ≡ 8) × (outputShort ≡ 9) × (codeNotHandled ≡ 10) × (infoLengthWrong ≡ 11) × (outOfRange ≡ 12) × (notReady ≡ 13) × (disagree ≡ 14)
