@@ -37,7 +37,7 @@ use Rattle.controller.specs.Seconds.{pickedOf, movedOn, secondShown, noS
 use Rattle.controller.specs.declared.Answer.{Answer}
 use Rattle.controller.specs.declared.Shown.{Shown}
 use Rattle.controller.specs.Demand1.{SoundKept}
-use Rattle.controller.specs.Demand3.{runIn, latestAfter}
+use Rattle.controller.specs.Demand3.{mayRun, runIn, latestAfter}
 use Rattle.controller.proofs.Judging.{four, RunningParts, sound-parts, parts-sound}
 use Rattle.controller.proofs.Laws.{idle-done, moved-within, moved-ends, second-8, second-done}
 
@@ -108,6 +108,14 @@ module _ (u : Running) (requested : ℕ) (book info : List ℕ) where
       (λ _. pick-by P (eqb code queryPlanCode) (λ _. other-leaves plan-leaves d)
       (λ _. pick-by P (eqb code queryRunningCode) (λ _. other-leaves running-leaves d) (λ _. other-leaves refl d))))))
 
+-- a plan that may run is ready, and the other way round: "Plan 0 is ready"
+pub may-run : (book : List ℕ) (p : ℕ) → mayRun book p ≡ readyIn book p
+may-run book p = by (eqb p 0)
+  where
+    by : (t : Bool) → pick t true (eqb (standingOf (recordAt book p)) 2) ≡ eqb (standingOf (pick t builtIn (recordAt book p))) ready
+    by true = sym (eq-eqb (standingOf builtIn) ready built-in-stands)
+    by false = refl
+
 module _ (own ours requested : ℕ) (u : Running) (book : List ℕ) where
   message-asks : (seq addr : ℕ) (info : List ℕ)
       → messageOf own ours requested u seq addr info book .result .requested ≡ latestAfter own book requested (sound (message seq addr info))
@@ -115,7 +123,7 @@ module _ (own ours requested : ℕ) (u : Running) (book : List ℕ) where
   message-asks seq addr info =
       let P : ResultAndBook → Type 0 = λ w. w .result .requested ≡ latestAfter own book requested (sound (message seq addr info)) in
       pick-by P (forUs own addr)
-      (λ f. pick-by P (isAnswer (codeIn info)) (λ a. rw (f, ne-eqb (codeIn info) runCode (answers a))) (λ _. rw f (handled-leaves u requested book info)))
+      (λ f. pick-by P (isAnswer (codeIn info)) (λ a. rw (f, ne-eqb (codeIn info) runCode (answers a))) (λ _. rw (f, may-run book (planIn (bodyIn info))) (handled-leaves u requested book info)))
       (λ f. rw f)
     where
       answers : isAnswer (codeIn info) ≡ true → codeIn info ≡ runCode → ⊥
@@ -176,7 +184,7 @@ latest-most own book latest (refused r k seq addr) n h = h
 latest-most own book latest (sound (message seq addr info)) n h =
     let p = planIn (bodyIn info) in
     pick-by (λ (q : ℕ). q ≤ plansMost) (runIn own book addr info)
-    (λ t. ready-most book p n (four (forUs own addr) (eqb (codeIn info) runCode) (eqb (readOf info .refusal) refusal.none) (readyIn book p) t .3))
+    (λ t. ready-most book p n (sym (may-run book p) ∙ four (forUs own addr) (eqb (codeIn info) runCode) (eqb (readOf info .refusal) refusal.none) (mayRun book p) t .3))
     (λ _. h)
 latest-most own book latest (sound (ack seq addr)) n h = h
 latest-most own book latest (sound (nak seq addr err)) n h = h

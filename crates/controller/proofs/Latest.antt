@@ -14,7 +14,7 @@ use Rattle.controller.specs.declared.Answer.{Answer}
 use Rattle.controller.specs.declared.Running.{Running}
 use Rattle.controller.specs.declared.State.{State}
 use Rattle.controller.specs.State.{all, freshOf, soundOf}
-use Rattle.controller.specs.Seconds.{movedOn, pickedOf, noSecond}
+use Rattle.controller.specs.Seconds.{startedOf, movedOn, pickedOf, noSecond}
 use Rattle.controller.specs.Demand3.{HostCall, octet, lineIdle, second, next, goesOn, run, Heard, hearsOctet, hears, hearsOn, LatestKept}
 use Rattle.controller.proofs.Laws.{idle-done, moved-within, moved-ends}
 use Rattle.controller.proofs.Judging.{octets-built-in, record-octets}
@@ -83,7 +83,7 @@ kept-on own s h [] k = k
 kept-on own s h (e ∷ es) k = kept-on own (next s e) (hears own h e) es (kept-next own s h e k)
 
 pub run-kept : (own : ℕ) → (own ≡ all → ⊥) → (es : List HostCall) → Kept own (run own es) (hearsOn own (record { decoder = freshDecoder; latest = 0 }) es)
-unfolding freshOf
+unfolding startedOf freshOf
 run-kept own n es =
     kept-on own (freshOf own) (record { decoder = freshDecoder; latest = 0 }) es
     (record { own = refl; sound = fresh-sound own n; octets = octets-built-in; decoder = refl; latest = refl })

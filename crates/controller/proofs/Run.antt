@@ -31,12 +31,12 @@ use Rattle.controller.specs.declared.Shown.{Shown}
 use Rattle.controller.specs.declared.State.{State}
 use Rattle.controller.specs.State.{all, freshOf, soundOf, readyIn}
 use Rattle.controller.specs.Replies.{octetOf, lineIdleOf}
-use Rattle.controller.specs.Seconds.{pickedOf, noSecond, secondOf}
-use Rattle.controller.specs.Demand3.{HostCall, octet, lineIdle, second, next, goesOn, run, Second, secondOfPlan, secondAccepted, says, saysOn, seconds, latestRun, cycleOfPlan, Chosen, OneChoice, CyclesInRun, unfinished, whole, RunsWholeCycles, HoldsWhole, AnyWindow, NoSecond, SetsNeverAlter, leftOf, crossing, CrossingCycles, CrossingHolds}
+use Rattle.controller.specs.Seconds.{startedOf, pickedOf, noSecond, secondOf}
+use Rattle.controller.specs.Demand3.{HostCall, octet, lineIdle, second, next, goesOn, run, Second, secondOfPlan, secondAccepted, says, saysOn, seconds, latestRun, cycleOfPlan, Chosen, OneChoice, SecondsLeave, CyclesInRun, unfinished, whole, RunsWholeCycles, HoldsWhole, AnyWindow, NoSecond, SetsNeverAlter, leftOf, crossing, CrossingCycles, CrossingHolds}
 use Rattle.plan.proofs.Cases.{built-in-stands}
 use Rattle.controller.proofs.Laws.{picked-ready, picked-stays, moved-within, moved-ends, second-8, second-done}
 use Rattle.controller.proofs.Judging.{RunningParts, sound-parts}
-use Rattle.controller.proofs.Keeping.{octet-running, idle-left, by-picked}
+use Rattle.controller.proofs.Keeping.{octet-running, idle-left, second-left, by-picked}
 use Rattle.controller.proofs.Latest.{run-kept}
 
 -- The rule
@@ -116,6 +116,26 @@ module _ (u : Running) (r : Ready (u .copy)) (l : u .position < cycleOf (u .copy
         c .most,
       )
 
+-- What a second leaves
+
+pub seconds-leave : SecondsLeave
+seconds-leave s book h hb o =
+    let u = s .running in
+    let e = second-left s book in
+    let m = ap (λ (w : Shown). w .state .running) (second-done s book h hb) in
+    let picked : cycleOf (u .copy) ≤ u .position + 1 → secondOf s book .state .running ≡ pickedOf u (s .requested) book = λ l. m ∙ moved-ends u (s .requested) book l in
+    record {
+      own = ap (λ (t : State). t .own) e;
+      seq = ap (λ (t : State). t .seq) e;
+      requested = ap (λ (t : State). t .requested) e;
+      decoder = ap (λ (t : State). t .decoder) e;
+      onward = λ l. m ∙ moved-within u (s .requested) book l;
+      over = λ l. (
+        ap (λ (v : Running). v .position) (picked l) ∙ by-picked u (s .requested) book (λ v. v .position ≡ 0) (λ _. refl) (λ _. refl),
+        chosen book (s .requested) o u (secondOf s book .state .running) (picked l),
+      );
+    }
+
 -- A run in two parts
 
 goes-on-append : (s : State) (xs ys : List HostCall) → goesOn s (xs ++ ys) ≡ goesOn (goesOn s xs) ys
@@ -124,7 +144,7 @@ goes-on-append s (e ∷ xs) ys = goes-on-append (next s e) xs ys
 
 module _ (own : ℕ) where
   run-next : (past : List HostCall) (e : HostCall) → run own (past ++ (e ∷ [])) ≡ next (run own past) e
-  run-next past e = goes-on-append (freshOf own) past (e ∷ [])
+  run-next past e = goes-on-append (startedOf own .state) past (e ∷ [])
 
   after-is : (past es : List HostCall) → after (crossing own) past es ≡ past ++ es
   after-is past [] = sym (append-nil past)
@@ -265,13 +285,13 @@ pub crossing-cycles : CrossingCycles
 crossing-cycles own n es = cycles-run.whole-cycles (crossing own) (λ past. Unit) (ways own n) [] tt es
 
 pub runs-whole-cycles : RunsWholeCycles
-unfolding freshOf
+unfolding startedOf freshOf
 runs-whole-cycles own n es = cycles-due own n (crossing-cycles own n es) refl
 
 -- Any 1,799
 
 pub crossing-holds : CrossingHolds
-unfolding freshOf
+unfolding startedOf freshOf
 crossing-holds own n es = window 900 (crossing own) (λ past. Unit) (ways own n) (λ past _. most own n past) [] tt refl es
 
 holds-whole : (own : ℕ) → (own ≡ all → ⊥) → (es : List HostCall) (n : ℕ) → HoldsCycle (crossing own) [] es n 900 1799 → HoldsWhole own es n
@@ -326,4 +346,4 @@ between-running s (second book o ∷ es) q = absurd q
 pub sets-never-alter : SetsNeverAlter
 sets-never-alter own n past between book o q =
     same-shown (run own (past ++ between)) (run own past) book (sound own n (past ++ between)) (sound own n past)
-    (ap (λ (s : State). s .running) (goes-on-append (freshOf own) past between) ∙ between-running (run own past) between q)
+    (ap (λ (s : State). s .running) (goes-on-append (startedOf own .state) past between) ∙ between-running (run own past) between q)

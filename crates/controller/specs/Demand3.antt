@@ -5,21 +5,21 @@
 -- all-red."
 use Prim.Native.Nat.{ℕ, _+_, _≤_, _<_}
 use mathlib.Core.Path.{_≡_}
-use mathlib.Core.Bool.{Bool}
+use mathlib.Core.Bool.{Bool, true}
 use mathlib.Core.List.{List, [], _∷_, _++_, map}
 use mathlib.Core.Option.{Option, none, some}
 use lib.Dec.{eqb, leb}
 use lib.ListN.{length, drop}
 use Rattle.octets.specs.Choice.{pick, both}
 use Rattle.octets.specs.Octet.{Octets}
-use Rattle.octets.specs.Refusal as refusal
 use Rattle.frame.specs.declared.decoder.Decoder.{Decoder}
 use Rattle.frame.specs.declared.decoder.Taken.{Taken}
 use Rattle.frame.specs.Frame.{message, ack, nak}
 use Rattle.frame.specs.Decoder.{freshDecoder, takenOf, idledOf}
 use Rattle.frame.specs.Run.{Outcome, nothing, refused, sound, outcomeOf}
 use Rattle.message.specs.Reader.{codeIn, bodyIn, readOf}
-use Rattle.record.specs.Record.{bookLen, kOf, Ready}
+use Rattle.record.specs.Record.{kOf, cycleOf, Ready}
+use Rattle.checks.specs.Standing.{standingOf}
 use Rattle.plan.specs.BuiltIn.{builtIn}
 use Rattle.plan.specs.Reading.{recordAt}
 use Rattle.plan.specs.Setting.{planIn}
@@ -31,10 +31,9 @@ use Rattle.cycles.specs.Cycles.{Cycles, HoldsCycle}
 use Rattle.controller.specs.declared.Running.{Running}
 use Rattle.controller.specs.declared.State.{State}
 use Rattle.controller.specs.declared.Shown.{Shown}
-use Rattle.controller.specs.State.{all, outputLen, freshOf, readyIn}
-use Rattle.controller.specs.Handling.{runCode}
-use Rattle.controller.specs.Replies.{forUs, octetOf, lineIdleOf}
-use Rattle.controller.specs.Seconds.{secondOf}
+use Rattle.controller.specs.State.{soundOf}
+use Rattle.controller.specs.Replies.{octetOf, lineIdleOf}
+use Rattle.controller.specs.Seconds.{startedOf, secondOf}
 
 -- A run
 
@@ -55,7 +54,7 @@ goesOn s [] = s
 goesOn s (e ∷ es) = goesOn (next s e) es
 
 abbrev pub run : ℕ → List HostCall → State
-run own es = goesOn (freshOf own) es
+run own es = goesOn (startedOf own .state) es
 
 -- what an secondAccepted second shows: the plan, the step, the seconds left and both words
 pub record Second : Type 0 where
@@ -66,7 +65,7 @@ abbrev pub secondOfPlan : ℕ → Row → Second
 secondOfPlan p r = record { plan = p; row = r }
 
 abbrev pub secondAccepted : Shown → Option Second
-secondAccepted a = pick (eqb (a .refusal) refusal.none) (some (secondOfPlan (a .plan) (a .row))) none
+secondAccepted a = pick (eqb (a .refusal) 0) (some (secondOfPlan (a .plan) (a .row))) none
 
 abbrev pub says : State → HostCall → Option Second
 says s (octet b _ book out _) = none
@@ -88,13 +87,17 @@ pub record Heard : Type 0 where
   pub decoder : Decoder
   pub latest : ℕ
 
+-- "if it is plan 0 or ready in the book"
+abbrev pub mayRun : List ℕ → ℕ → Bool
+mayRun book p = pick (eqb p 0) true (eqb (standingOf (recordAt book p)) 2)
+
 -- a sound message frame, for us or for all, with a 5F 18 that is not refused: its plan is the latest
 abbrev pub runIn : ℕ → List ℕ → ℕ → List ℕ → Bool
 runIn own book addr info =
-    both (forUs own addr)
-    (both (eqb (codeIn info) runCode)
-    (both (eqb (readOf info .refusal) refusal.none)
-    (readyIn book (planIn (bodyIn info)))))
+    both (pick (eqb addr own) true (eqb addr 0xFFFF))
+    (both (eqb (codeIn info) 0x5F18)
+    (both (eqb (readOf info .refusal) 0)
+    (mayRun book (planIn (bodyIn info)))))
 
 abbrev pub latestAfter : ℕ → List ℕ → ℕ → Outcome → ℕ
 latestAfter own book latest nothing = latest
@@ -109,7 +112,7 @@ hearsOctet own book h t = record { decoder = t .decoder; latest = latestAfter ow
 -- an octet is taken where book and output are long enough; a line-idle call returns the decoder to idle
 abbrev pub hears : ℕ → Heard → HostCall → Heard
 hears own h (octet b _ book out _) =
-    pick (both (eqb (length book) bookLen) (leb outputLen (length out))) (hearsOctet own book h (takenOf (h .decoder) b)) h
+    pick (both (eqb (length book) 3840) (leb 544 (length out))) (hearsOctet own book h (takenOf (h .decoder) b)) h
 hears own h lineIdle = record { decoder = idledOf (h .decoder) .decoder; latest = h .latest }
 hears own h (second book _) = h
 
@@ -122,7 +125,7 @@ latestRun own es = hearsOn own (record { decoder = freshDecoder; latest = 0 }) e
 
 -- it is what the state keeps
 abbrev pub LatestKept : Type 0
-LatestKept = (own : ℕ) → (own ≡ all → ⊥) → (es : List HostCall) → run own es .requested ≡ latestRun own es
+LatestKept = (own : ℕ) → (own ≡ 0xFFFF → ⊥) → (es : List HostCall) → run own es .requested ≡ latestRun own es
 
 -- Whole cycles
 
@@ -143,6 +146,21 @@ OneChoice =
     (latest : ℕ) (book : List ℕ) (p : ℕ) (rec : List ℕ) (p₁ p₂ : ℕ) (rec₁ rec₂ : List ℕ) → Octets book
     → Chosen latest book p rec p₁ rec₁ → Chosen latest book p rec p₂ rec₂ → (p₁ ≡ p₂) × (rec₁ ≡ rec₂)
 
+-- "A second call answers .., then moves on. The call that answers a cycle's last second also picks the next plan": what a second
+-- leaves, by the fields of the state; "the request stays"
+pub record SecondLeft (s : State) (book : List ℕ) (t : State) : Type 0 where
+  pub own : t .own ≡ s .own
+  pub seq : t .seq ≡ s .seq
+  pub requested : t .requested ≡ s .requested
+  pub decoder : t .decoder ≡ s .decoder
+  pub onward : s .running .position + 1 < cycleOf (s .running .copy)
+      → t .running ≡ record { plan = s .running .plan; position = s .running .position + 1; copy = s .running .copy }
+  pub over : cycleOf (s .running .copy) ≤ s .running .position + 1
+      → (t .running .position ≡ 0) × Chosen (s .requested) book (s .running .plan) (s .running .copy) (t .running .plan) (t .running .copy)
+
+abbrev pub SecondsLeave : Type 0
+SecondsLeave = (s : State) (book : List ℕ) → soundOf s ≡ true → length book ≡ 3840 → Octets book → SecondLeft s book (secondOf s book .state)
+
 -- After the events `past` a cycle of plan p with record rec is due; the secondAccepted seconds of the events es are that cycle and
 -- others after it, one by one.
 pub data CyclesInRun (own : ℕ) : ℕ → List ℕ → List HostCall → List HostCall → Type 0 where
@@ -159,7 +177,7 @@ pub data CyclesInRun (own : ℕ) : ℕ → List ℕ → List HostCall → List H
 
 -- "The first is plan 0"
 abbrev pub RunsWholeCycles : Type 0
-RunsWholeCycles = (own : ℕ) → (own ≡ all → ⊥) → (es : List HostCall) → CyclesInRun own 0 builtIn [] es
+RunsWholeCycles = (own : ℕ) → (own ≡ 0xFFFF → ⊥) → (es : List HostCall) → CyclesInRun own 0 builtIn [] es
 
 -- Any 1,799
 
@@ -178,7 +196,7 @@ pub record HoldsWhole (own : ℕ) (es : List HostCall) (n : ℕ) : Type 0 where
   pub phases : (i : ℕ) → i < kOf rec → PhaseWhole rec i
 
 abbrev pub AnyWindow : Type 0
-AnyWindow = (own : ℕ) → (own ≡ all → ⊥) → (es : List HostCall) (n : ℕ) → n + 1799 ≤ length (seconds own [] es) → HoldsWhole own es n
+AnyWindow = (own : ℕ) → (own ≡ 0xFFFF → ⊥) → (es : List HostCall) (n : ℕ) → n + 1799 ≤ length (seconds own [] es) → HoldsWhole own es n
 
 -- Sets
 
@@ -193,7 +211,7 @@ NoSecond (second book _ ∷ es) = ⊥
 -- without them
 abbrev pub SetsNeverAlter : Type 0
 SetsNeverAlter =
-    (own : ℕ) → (own ≡ all → ⊥) → (past between : List HostCall) (book : List ℕ) (o : Octets book) → NoSecond between
+    (own : ℕ) → (own ≡ 0xFFFF → ⊥) → (past between : List HostCall) (book : List ℕ) (o : Octets book) → NoSecond between
     → says (run own (past ++ between)) (second book o) ≡ says (run own past) (second book o)
 
 -- The controller as a machine of the crate `cycles`, from whose theorems whole cycles and the window follow
@@ -226,9 +244,9 @@ crossing own = record {
 }
 
 abbrev pub CrossingCycles : Type 0
-CrossingCycles = (own : ℕ) → (own ≡ all → ⊥) → (es : List HostCall) → Cycles (crossing own) [] es
+CrossingCycles = (own : ℕ) → (own ≡ 0xFFFF → ⊥) → (es : List HostCall) → Cycles (crossing own) [] es
 
 abbrev pub CrossingHolds : Type 0
 CrossingHolds =
-    (own : ℕ) → (own ≡ all → ⊥) → (es : List HostCall) (n : ℕ) → n + 1799 ≤ length (answers (crossing own) [] es)
+    (own : ℕ) → (own ≡ 0xFFFF → ⊥) → (es : List HostCall) (n : ℕ) → n + 1799 ≤ length (answers (crossing own) [] es)
     → HoldsCycle (crossing own) [] es n 900 1799
