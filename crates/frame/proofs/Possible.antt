@@ -6,6 +6,7 @@ use mathlib.Core.List.{List}
 use native.Mathlib.Omega.{arith}
 use borrow.Author.Tests.{eq-eqb, lt-ltb, leb-true, leb-false, ltb-true, ltb-false}
 use lib.Dec.{eqb, ltb}
+use lib.ListN.{length-replicate}
 use Rattle.octets.specs.Choice.{pick, both}
 use Rattle.octets.specs.Refusal as refusal
 use Rattle.octets.specs.Word.{lowOf, wordOf}
@@ -21,7 +22,7 @@ use Rattle.frame.specs.declared.decoder.Found.the-variants as found
 use Rattle.frame.specs.declared.decoder.Stepped.{Stepped}
 use Rattle.frame.specs.Frame.{lenFits, messageLen}
 use Rattle.frame.specs.Decoder.{headOf, possibleAt, possibleOf, freshDecoder, infoDue, infoWhole, errDue, cksDue, afterLen, afterAa, kept, stepAt, stepOf, takenOf, idledOf, cksIn}
-use Rattle.frame.specs.Promises.{CallsOf, CallsAnswered, PossibleFrom, PossibleKept}
+use Rattle.frame.specs.Promises.{CallsOf, CallsAnswered, FreshAtRest, PossibleFrom, PossibleKept}
 use Rattle.frame.proofs.Laws.{message-len, taken-7, taken-done, idled-7, idled-done}
 
 -- a decoder with all its fields given
@@ -98,6 +99,10 @@ calls-answered d =
       idleRefused = idled-7 d;
       idleDone = idled-done d;
     }
+
+pub fresh-at-rest : FreshAtRest
+unfolding freshDecoder
+fresh-at-rest = (record { idle = refl; long = length-replicate {A = ℕ} 256 0 }, refl)
 
 pub possible-kept : PossibleKept
 unfolding possibleOf freshDecoder

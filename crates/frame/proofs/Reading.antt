@@ -24,22 +24,23 @@ use Rattle.frame.specs.declared.decoder.Found.the-variants as found
 use Rattle.frame.specs.declared.decoder.Taken.{Taken}
 use Rattle.frame.specs.Frame.{Frame, message, ack, nak, InOctets, ackLen, nakLen, infoLeast, kindOf, seqOf, addrOf, lenOf, messageLen, infoMost, lenFits, infoFits, opener, front, frontOf, bodyOf, sentOf, cksOf, twice, doubled, written}
 use Rattle.frame.specs.Decoder.{headOf, possibleOf, possibleAt, afterLen, afterInfo, opened, stepOf, takenOf, cksIn, frontIn, taken, takenAs}
-use Rattle.frame.specs.Run.{Outcome, nothing, refused, sound, outcomeOf, outcomes, decoderAfter, AtRest}
+use Rattle.frame.specs.Run.{Outcome, nothing, refused, sound, outcomeOf, outcomes, decoderAfter, AtRest, drops, NothingDropped}
 use Rattle.frame.specs.Promises.{ReadBack, ReadingFramesUndoesWriting}
 use Rattle.frame.proofs.Laws.{message-len, twice-aa, twice-other, taken-done}
+use Rattle.frame.proofs.Fitting.{in-fits}
 use Rattle.frame.proofs.Possible.{at, step-possible}
 
--- the octets take the one decoder to the other, and bring nothing on the way
+-- the octets take the one decoder to the other; none is dropped, and they bring nothing on the way
 pub data Quiet : Decoder → List ℕ → Decoder → Type 0 where
   done : {d : Decoder} → Quiet d [] d
-  more : {d e f : Decoder} {x : ℕ} {xs : List ℕ} → stepOf d x ≡ taken (e .head) (e .info) found.Nothing → Quiet e xs f → Quiet d (x ∷ xs) f
+  more : {d e f : Decoder} {x : ℕ} {xs : List ℕ} → drops (d .head .place) x ≡ false → stepOf d x ≡ taken (e .head) (e .info) found.Nothing → Quiet e xs f → Quiet d (x ∷ xs) f
 
 pub quiet-then : {d e f : Decoder} {xs ys : List ℕ} → Quiet d xs e → Quiet e ys f → Quiet d (xs ++ ys) f
 quiet-then done q = q
-quiet-then (more s p) q = more s (quiet-then p q)
+quiet-then (more k s p) q = more k s (quiet-then p q)
 
-pub once : {d f : Decoder} {x : ℕ} → stepOf d x ≡ taken (f .head) (f .info) found.Nothing → Quiet d (x ∷ []) f
-once p = more p done
+pub once : {d f : Decoder} {x : ℕ} → drops (d .head .place) x ≡ false → stepOf d x ≡ taken (f .head) (f .info) found.Nothing → Quiet d (x ∷ []) f
+once k p = more k p done
 
 module _ (s e a n : ℕ) where
   -- one octet of INFO as sent
@@ -47,12 +48,12 @@ module _ (s e a n : ℕ) where
       → Quiet (at Info Message s e a n g l) (twice x) (at (afterInfo n (g + 1)) Message s e a n (g + 1) (set l g x))
   unfolding stepOf
   twice-by true g l x t =
-      let q : Quiet (at InfoAa Message s e a n g l) (0xAA ∷ []) (at (afterInfo n (g + 1)) Message s e a n (g + 1) (set l g 0xAA)) = once refl in
+      let q : Quiet (at InfoAa Message s e a n g l) (0xAA ∷ []) (at (afterInfo n (g + 1)) Message s e a n (g + 1) (set l g 0xAA)) = once refl refl in
       rw (twice-aa x (eqb-true x 0xAA t), eqb-true x 0xAA t)
-      (more refl q)
+      (more refl refl q)
   twice-by false g l x t =
       rw (twice-other x (eqb-false x 0xAA t))
-      (once (rw t))
+      (once refl (rw t))
 
   twice-run : (g : ℕ) (l : List ℕ) (x : ℕ) {p : Place} → afterInfo n (g + 1) ≡ p
       → Quiet (at Info Message s e a n g l) (twice x) (at p Message s e a n (suc g) (set l g x))
@@ -83,27 +84,50 @@ module _ (s e a n : ℕ) where
 pub word : (a : ℕ) → a < 65536 → wordOf (lowOf (highOf a)) (lowOf a) ≡ a
 word a h = omega arith
 
--- the octet decoderAfter AA opens its kind
+-- the octet after AA opens its kind
+open-kept : (k : Kind) → drops LoneAa (opener k) ≡ false
+open-kept Message = refl
+open-kept Ack = refl
+open-kept Nak = refl
+
 open-run : (k : Kind) (d : Decoder) → d .head .place ≡ LoneAa → stepOf d (opener k) ≡ takenAs d (opener k) (opened (d .head) k found.Nothing)
 unfolding stepOf
 open-run Message d h = rw h
 open-run Ack d h = rw h
 open-run Nak d h = rw h
 
--- from the first AA to LEN's high octet, and to LEN where it is right
-module _ (k₀ : Kind) (s₀ e a₀ n₀ g₀ : ℕ) (k : Kind) (s a n : ℕ) (l : List ℕ) (ha : a < 65536) where
-  pub front-six : Quiet (at Idle k₀ s₀ e a₀ n₀ g₀ l) (0xAA ∷ opener k ∷ s ∷ highOf a ∷ lowOf a ∷ highOf n ∷ []) (at LenLow k s e a (highOf n) g₀ l)
+-- from the first AA on, octet by octet
+module _ (k₀ : Kind) (s₀ e a₀ n₀ g₀ : ℕ) (k : Kind) (s : ℕ) (l : List ℕ) where
+  pub lone-run : Quiet (at Idle k₀ s₀ e a₀ n₀ g₀ l) (0xAA ∷ []) (at LoneAa k₀ s₀ e a₀ n₀ g₀ l)
   unfolding stepOf
-  front-six =
-      let o = open-run k (at LoneAa k₀ s₀ e a₀ n₀ g₀ l) refl in
-      let r : stepOf (at AddrLow k s e (highOf a) n₀ g₀ l) (lowOf a) ≡ taken (headOf LenHigh k s e a n₀ g₀) l found.Nothing = rw (word a ha) in
-      more refl (more o (more refl (more refl (more r (more refl done)))))
+  lone-run = once refl refl
 
+  pub opened-run : Quiet (at Idle k₀ s₀ e a₀ n₀ g₀ l) (0xAA ∷ opener k ∷ []) (at Seq k s₀ e a₀ n₀ g₀ l)
+  opened-run = quiet-then lone-run (once (open-kept k) (open-run k (at LoneAa k₀ s₀ e a₀ n₀ g₀ l) refl))
+
+  pub seq-run : Quiet (at Idle k₀ s₀ e a₀ n₀ g₀ l) (0xAA ∷ opener k ∷ s ∷ []) (at AddrHigh k s e a₀ n₀ g₀ l)
+  unfolding stepOf
+  seq-run = quiet-then opened-run (once refl refl)
+
+  pub addr-high-run : (x : ℕ) → Quiet (at Idle k₀ s₀ e a₀ n₀ g₀ l) (0xAA ∷ opener k ∷ s ∷ x ∷ []) (at AddrLow k s e x n₀ g₀ l)
+  unfolding stepOf
+  addr-high-run x = quiet-then seq-run (once refl refl)
+
+  pub addr-run : (a : ℕ) → a < 65536 → Quiet (at Idle k₀ s₀ e a₀ n₀ g₀ l) (0xAA ∷ opener k ∷ s ∷ highOf a ∷ lowOf a ∷ []) (at LenHigh k s e a n₀ g₀ l)
+  unfolding stepOf
+  addr-run a ha = quiet-then (addr-high-run (highOf a)) (once refl (rw (word a ha)))
+
+  pub len-high-run : (a : ℕ) → a < 65536 → (x : ℕ) → Quiet (at Idle k₀ s₀ e a₀ n₀ g₀ l) (0xAA ∷ opener k ∷ s ∷ highOf a ∷ lowOf a ∷ x ∷ []) (at LenLow k s e a x g₀ l)
+  unfolding stepOf
+  len-high-run a ha x = quiet-then (addr-run a ha) (once refl refl)
+
+-- to LEN, where it is right
+module _ (k₀ : Kind) (s₀ e a₀ n₀ g₀ : ℕ) (k : Kind) (s a n : ℕ) (l : List ℕ) (ha : a < 65536) where
   pub front-run : n < 65536 → lenFits k n ≡ true → Quiet (at Idle k₀ s₀ e a₀ n₀ g₀ l) (front k s a n) (at (afterLen k) k s e a n 0 l)
   unfolding stepOf
   front-run hn f =
-      let q : Quiet (at LenLow k s e a (highOf n) g₀ l) (lowOf n ∷ []) (at (afterLen k) k s e a n 0 l) = once (rw (word n hn, f)) in
-      quiet-then front-six q
+      let q : Quiet (at LenLow k s e a (highOf n) g₀ l) (lowOf n ∷ []) (at (afterLen k) k s e a n 0 l) = once refl (rw (word n hn, f)) in
+      quiet-then (len-high-run k₀ s₀ e a₀ n₀ g₀ k s l a ha (highOf n)) q
 
 -- the decoder that has all of a frame but CKS
 unfoldable pub ready : Frame → ℕ → List ℕ → Decoder
@@ -141,10 +165,10 @@ module _ (k₀ : Kind) (s₀ e a₀ n₀ g₀ : ℕ) (l : List ℕ) where
   sent-run (message s a (x ∷ xs)) h =
       let b = info-bounds (x ∷ xs) h in
       let n = messageLen + length (x ∷ xs) in
-      let q : Quiet (at CloseAa Message s e a n (length (x ∷ xs)) (sets l 0 (x ∷ xs))) (0xAA ∷ 0xCC ∷ []) (ready (message s a (x ∷ xs)) e l) = more refl (more refl done) in
+      let q : Quiet (at CloseAa Message s e a n (length (x ∷ xs)) (sets l 0 (x ∷ xs))) (0xAA ∷ 0xCC ∷ []) (ready (message s a (x ∷ xs)) e l) = more refl refl (once refl refl) in
       quiet-then (rw zero-add at (info-run s e a n x xs 0 l (omega arith))) q
   sent-run (ack s a) h = done
-  sent-run (nak s a e₁) h = once refl
+  sent-run (nak s a e₁) h = once refl refl
 
   pub most-run : (f : Frame) → infoFits f ≡ true → addrOf f < 65536 → Quiet (at Idle k₀ s₀ e a₀ n₀ g₀ l) (frontOf f ++ sentOf f) (ready f e l)
   unfolding frontOf
@@ -164,7 +188,7 @@ pub quiet-outcomes : {d e : Decoder} {xs : List ℕ} (ys : List ℕ) → Quiet d
     → outcomes d (xs ++ ys) ≡ replicate (length xs) nothing ++ outcomes e ys
 unfolding outcomes
 quiet-outcomes ys done p o = refl
-quiet-outcomes {d} ys (more {e = e} {x = x} {xs = xs} q r) p o =
+quiet-outcomes {d} ys (more {e = e} {x = x} {xs = xs} _ q r) p o =
     let t : takenOf d x ≡ taken (e .head) (e .info) found.Nothing = taken-done d x p ∙ q in
     let p₁ : possibleOf (e .head) ≡ true = rw q at (step-possible d x (o .0) p) in
     ap (λ (t : Taken). outcomeOf t ∷ outcomes (t .decoder) (xs ++ ys)) t ∙ ap (λ (l : List Outcome). nothing ∷ l) (quiet-outcomes ys r p₁ (o .1))
@@ -173,14 +197,22 @@ pub quiet-after : {d e : Decoder} {xs : List ℕ} (ys : List ℕ) → Quiet d xs
     → (decoderAfter d (xs ++ ys) ≡ decoderAfter e ys) × (possibleOf (e .head) ≡ true)
 unfolding decoderAfter
 quiet-after ys done p o = (refl, p)
-quiet-after {d} ys (more {e = e} {x = x} {xs = xs} q r) p o =
+quiet-after {d} ys (more {e = e} {x = x} {xs = xs} _ q r) p o =
     let t : takenOf d x ≡ taken (e .head) (e .info) found.Nothing = taken-done d x p ∙ q in
     let p₁ : possibleOf (e .head) ≡ true = rw q at (step-possible d x (o .0) p) in
     let w = quiet-after ys r p₁ (o .1) in
     (ap (λ (t : Taken). decoderAfter (t .decoder) (xs ++ ys)) t ∙ w .0, w .1)
 
+pub quiet-undropped : {d e : Decoder} {xs : List ℕ} → Quiet d xs e → possibleOf (d .head) ≡ true → Octets xs → NothingDropped d xs
+unfolding NothingDropped
+quiet-undropped done p o = tt
+quiet-undropped {d} (more {e = e} {x = x} {xs = xs} k q r) p o =
+    let t : takenOf d x ≡ taken (e .head) (e .info) found.Nothing = taken-done d x p ∙ q in
+    let p₁ : possibleOf (e .head) ≡ true = rw q at (step-possible d x (o .0) p) in
+    (k, ap outcomeOf t, subst (λ (t : Taken). NothingDropped (t .decoder) xs) (sym t) (quiet-undropped r p₁ (o .1)))
+
 -- all octets of a frame but CKS are octets
-doubled-octets : (i : List ℕ) → Octets i → Octets (doubled i)
+pub doubled-octets : (i : List ℕ) → Octets i → Octets (doubled i)
 unfolding doubled twice
 doubled-octets [] o = o
 doubled-octets (x ∷ xs) o =
@@ -188,15 +220,15 @@ doubled-octets (x ∷ xs) o =
     (pick-by Octets (eqb x 0xAA) (λ _. (omega arith, (omega arith, tt))) (λ _. (o .0, tt)))
     (doubled-octets xs (o .1))
 
-opener-octet : (k : Kind) → opener k < 256
+pub opener-octet : (k : Kind) → opener k < 256
 opener-octet Message = omega arith
 opener-octet Ack = omega arith
 opener-octet Nak = omega arith
 
-front-octets : (k : Kind) (s a n : ℕ) → s < 256 → a < 65536 → n < 65536 → Octets (front k s a n)
+pub front-octets : (k : Kind) (s a n : ℕ) → s < 256 → a < 65536 → n < 65536 → Octets (front k s a n)
 front-octets k s a n hs ha hn = (omega arith, (opener-octet k, (hs, (omega arith, (omega arith, (omega arith, (omega arith, tt)))))))
 
-most-octets : (f : Frame) → InOctets f → infoFits f ≡ true → Octets (frontOf f ++ sentOf f)
+pub most-octets : (f : Frame) → InOctets f → infoFits f ≡ true → Octets (frontOf f ++ sentOf f)
 unfolding frontOf sentOf
 most-octets (message s a i) o h =
     octets-append (front Message s a (messageLen + length i)) (doubled i ++ (0xAA ∷ 0xCC ∷ [])) (front-octets Message s a (messageLen + length i) (o .0) (o .1) (len-fits (message s a i) h .1))
@@ -246,4 +278,4 @@ pub reading-undoes-writing : ReadingFramesUndoesWriting
 reading-undoes-writing d f r o h =
     let q = d .head in
     subst (λ (p : Place). ReadBack (at p (q .kind) (q .seq) (q .err) (q .addr) (q .len) (q .filled) (d .info)) f) (sym (r .idle))
-    (read-back (q .kind) (q .seq) (q .err) (q .addr) (q .len) (q .filled) (d .info) f (r .long) o h)
+    (read-back (q .kind) (q .seq) (q .err) (q .addr) (q .len) (q .filled) (d .info) f (r .long) o (in-fits f h))

@@ -2,12 +2,12 @@
 use Prim.Native.Nat.{ℕ}
 use mathlib.Core.Path.{_≡_, refl, ap, _∙_}
 use mathlib.Core.Bool.{Bool, true, false}
-use borrow.Author.Tests.{ne-eqb}
+use borrow.Author.Tests.{ne-eqb, eqb-false, not-true}
 use lib.Dec.{eqb}
 use Rattle.octets.specs.Choice.{pick}
 use Rattle.octets.specs.Refusal as refusal
 use Rattle.octets.specs.Word.{lowOf, wordOf}
-use Rattle.octets.proofs.Laws.{pick-by}
+use Rattle.octets.proofs.Laws.{pick-by, clash}
 use Rattle.frame.specs.declared.decoder.Place.{Place}
 use Rattle.frame.specs.declared.decoder.Place.the-variants.{Idle, LoneAa, Seq, AddrHigh, AddrLow, LenHigh, LenLow, Info, InfoAa, CloseAa, CloseCc, Err, Cks}
 use Rattle.frame.specs.declared.decoder.Decoder.{Decoder}
@@ -15,11 +15,26 @@ use Rattle.frame.specs.declared.decoder.Found.{Found}
 use Rattle.frame.specs.declared.decoder.Found.the-variants as found
 use Rattle.frame.specs.declared.decoder.Stepped.{Stepped}
 use Rattle.frame.specs.Frame.{lenFits}
-use Rattle.frame.specs.Decoder.{possibleOf, afterAa, refusedBy, stepOf, stepAt, takenAs, takenOf, cksIn}
+use Rattle.frame.specs.Decoder.{possibleOf, idleDrops, afterAa, refusedBy, stepOf, stepAt, takenAs, takenOf, cksIn}
 use Rattle.frame.specs.Run.{nothing, outcomeOf}
 use Rattle.frame.specs.Promises.{placedAt, WaitsFrom, Waits, resumedAt, Resumes}
 use Rattle.frame.proofs.Laws.{taken-done}
 use Rattle.frame.proofs.Refusing.{after-aa-outcome}
+
+said-only : (b : ℕ) (p : Place) → idleDrops p b ≡ true → (p ≡ Idle) × (b ≡ 0xAA → ⊥)
+said-only b Idle h = (refl, eqb-false b 0xAA (not-true (eqb b 0xAA) h))
+said-only b LoneAa h = absurd (clash refl h)
+said-only b Seq h = absurd (clash refl h)
+said-only b AddrHigh h = absurd (clash refl h)
+said-only b AddrLow h = absurd (clash refl h)
+said-only b LenHigh h = absurd (clash refl h)
+said-only b LenLow h = absurd (clash refl h)
+said-only b Info h = absurd (clash refl h)
+said-only b InfoAa h = absurd (clash refl h)
+said-only b CloseAa h = absurd (clash refl h)
+said-only b CloseCc h = absurd (clash refl h)
+said-only b Err h = absurd (clash refl h)
+said-only b Cks h = absurd (clash refl h)
 
 pub waits : Waits
 unfolding takenOf stepOf possibleOf
@@ -32,6 +47,8 @@ waits d =
       opensNak = refl;
       stays = refl;
       returns = λ b bb dd ee aa. rw (ne-eqb b 0xAA aa, ne-eqb b 0xBB bb, ne-eqb b 0xDD dd, ne-eqb b 0xEE ee);
+      saidDropped = λ b aa. rw (ne-eqb b 0xAA aa);
+      saidOnly = λ b. said-only b (d .head .place);
     }
 
 -- two choices by one test

@@ -8,8 +8,8 @@ use native.Mathlib.Numerals.{add-one}
 use native.Mathlib.Omega.{arith}
 use borrow.Author.Tests.{eqb-true, eqb-false, ltb-true, leb-true, le-leb}
 use lib.Dec.{eqb, ltb, leb}
-use lib.ListN.{length, set, take, length-set}
-use lib.Seq.{take-suc-set, length-take-le, append-snoc}
+use lib.ListN.{length, set, take, length-set, length-append}
+use lib.Seq.{take-suc-set, length-take-le, take-at, append-snoc}
 use Rattle.octets.specs.Choice.{pick, both}
 use Rattle.octets.specs.Octet.{Octets}
 use Rattle.octets.specs.Refusal as refusal
@@ -28,10 +28,12 @@ use Rattle.frame.specs.Frame.{Frame, message, ack, nak, kindOf, seqOf, a
 use Rattle.frame.specs.Decoder.{headOf, possibleOf, possibleAt, infoDue, infoWhole, afterAa, afterLen, cksDue, soundBy, stepOf, stepAt, takenAs, takenOf, cksIn, frontIn}
 use Rattle.frame.specs.Decoder as decoder
 use Rattle.frame.specs.Run.{Outcome, nothing, refused, sound, outcomeOf, outcomes, decoderAfter, AtRest, drops, NothingDropped}
-use Rattle.frame.specs.Promises.{WrittenBack, WritingFramesUndoesReading, Refusable, len, doubling, closingAa, closingCc, cks, RefusedFor, RefusedOnlyThen}
-use Rattle.frame.proofs.Laws.{message-len, twice-aa, twice-other, possible-at, taken-done}
+use Rattle.frame.specs.Promises.{WrittenBack, WritingFramesUndoesReading, Refusable, lenMessage, lenAck, lenNak, doubling, closingAa, closingCc, cksMessage, cksAck, cksNak, RefusedFor, RefusedOnlyThen}
+use Rattle.frame.proofs.Laws.{message-len, info-len, twice-aa, twice-other, possible-at, taken-done}
+use Rattle.frame.proofs.Fitting.{fits-in, len-message}
 use Rattle.frame.proofs.Possible.{at, step-possible}
-use Rattle.frame.proofs.Refusing.{after-aa-outcome}
+use Rattle.frame.proofs.Reading.{whole, most-run, quiet-undropped}
+use Rattle.frame.proofs.Refusing.{after-aa-outcome, addr-front}
 
 -- as sent, by the kind
 abbrev sentBy : Kind → ℕ → List ℕ → List ℕ
@@ -77,7 +79,7 @@ doubled-more : (l : List ℕ) (g b : ℕ) → g < length l → doubled (take (g 
 unfolding doubled
 doubled-more l g b h = rw (add-one g, take-suc-set l g b h, doubled-append (take g l) (b ∷ []), append-nil (twice b))
 
--- decoderAfter an AA: what stood before it is lost, and the AA too unless the octet goes with it
+-- after an AA: what stood before it is lost, and the AA too unless the octet goes with it
 after-aa-held : (d : Decoder) (b : ℕ) (f : Found) (y : List ℕ) → (pre : List ℕ) × ((y ++ (0xAA ∷ [])) ++ (b ∷ []) ≡ pre ++ held (takenAs d b (afterAa (d .head) b f) .decoder))
 unfolding held
 after-aa-held d b f y =
@@ -91,6 +93,18 @@ after-aa-held d b f y =
 -- the octets of a number of two
 word-octets : (x b : ℕ) → x < 256 → b < 256 → (highOf (wordOf (lowOf x) b) ≡ x) × (lowOf (wordOf (lowOf x) b) ≡ b)
 word-octets x b h o = (omega arith, omega arith)
+
+-- octets that are refused for LEN, and for CKS
+len-why : (k : Kind) (s a n : ℕ) → lenFits k n ≡ false → Refusable refusal.lenWrong k s a (front k s a n)
+len-why Message s a n t = lenMessage s a n (λ p q. clash t (len-message n p q))
+len-why Ack s a n t = lenAck s a n (eqb-false n 8 t)
+len-why Nak s a n t = lenNak s a n (eqb-false n 9 t)
+
+cks-why : (f : Frame) (x : ℕ) → infoFits f ≡ true → (x ≡ cksOf f → ⊥) → Refusable refusal.cksWrong (kindOf f) (seqOf f) (addrOf f) (frontOf f ++ (sentOf f ++ (x ∷ [])))
+unfolding frontOf sentOf
+cks-why (message s a i) x h hx = let b = fits-in (message s a i) h in rw (append-assoc (doubled i) (0xAA ∷ 0xCC ∷ []) (x ∷ [])) (cksMessage s a x i (b .0) (b .1) hx)
+cks-why (ack s a) x h hx = cksAck s a x hx
+cks-why (nak s a e) x h hx = cksNak s a e x hx
 
 module _ (s e a n g : ℕ) (l : List ℕ) (hl : length l ≡ infoMost) (b : ℕ) (octet : b < 256) where
   abbrev Goes : Place → Kind → Stepped → Type 0
@@ -136,7 +150,7 @@ module _ (s e a n g : ℕ) (l : List ℕ) (hl : length l ≡ infoMost) (b : ℕ)
       let q : held (at LenLow k s e a n g l) ++ (b ∷ []) ≡ front k s a (wordOf (lowOf n) b) = rw (w .0, w .1) in
       pick-by (Goes LenLow k) (lenFits k (wordOf (lowOf n) b))
       (λ _. kept refl (rw q (after-front k (wordOf (lowOf n) b))))
-      (λ t. refuse refusal.lenWrong k s a (front k s a (wordOf (lowOf n) b)) refl (rw (q, append-nil (front k s a (wordOf (lowOf n) b)))) (rw q (len k s a (wordOf (lowOf n) b) t)))
+      (λ t. refuse refusal.lenWrong k s a (front k s a (wordOf (lowOf n) b)) refl (rw (q, append-nil (front k s a (wordOf (lowOf n) b)))) (rw q (len-why k s a (wordOf (lowOf n) b) t)))
     where
       after-front : (k : Kind) (m : ℕ) → front k s a m ≡ heldAt (afterLen k) k s e a m []
       after-front Message m = refl
@@ -173,7 +187,7 @@ module _ (s e a n g : ℕ) (l : List ℕ) (hl : length l ≡ infoMost) (b : ℕ)
       pick-by (Goes InfoAa Message) (eqb b 0xAA)
       (λ t. let q = eqb-true b 0xAA t in at-stored InfoAa (held d) h (z ∙ ap (λ (v : List ℕ). front Message s a n ++ (doubled (take g l) ++ v)) (ap (λ (c : ℕ). 0xAA ∷ c ∷ []) q ∙ sym (twice-aa b q))) refl)
       (λ t. refuse refusal.closingWrong Message s a (w .0) (after-aa-outcome d b (found.Refused refusal.closingWrong Message s a)) (ap (λ (v : List ℕ). v ++ (b ∷ [])) r ∙ w .1)
-      (rw z (doubling s a n b (take g l) (u .0) (omega (arith, length-take-le g l (omega arith))) (eqb-false b 0xAA t))))
+      (let f = info-len Message n (u .0) in rw z (doubling s a n b (take g l) (f .0) (f .1) (omega (arith, length-take-le g l (omega arith))) (eqb-false b 0xAA t))))
 
   at-close-aa : infoWhole Message n g ≡ true → Goes CloseAa Message (stepAt CloseAa (headOf CloseAa Message s e a n g) l b)
   unfolding held
@@ -184,7 +198,7 @@ module _ (s e a n g : ℕ) (l : List ℕ) (hl : length l ≡ infoMost) (b : ℕ)
       pick-by (Goes CloseAa Message) (eqb b 0xAA)
       (λ t. kept refl (rw (eqb-true b 0xAA t) (append-assoc f i (0xAA ∷ []))))
       (λ t. refuse refusal.closingWrong Message s a ((f ++ i) ++ (b ∷ [])) refl (sym (append-nil ((f ++ i) ++ (b ∷ []))))
-      (rw (append-assoc f i (b ∷ [])) (closingAa s a n b (take g l) (u .0) (u .1) (eqb-false b 0xAA t))))
+      (let m = info-len Message n (u .0) in rw (append-assoc f i (b ∷ []), ← u .1) (closingAa s a b (take g l) (omega (arith, u .1)) (omega (arith, u .1)) (eqb-false b 0xAA t))))
 
   at-close-cc : infoWhole Message n g ≡ true → Goes CloseCc Message (stepAt CloseCc (headOf CloseCc Message s e a n g) l b)
   unfolding held
@@ -198,7 +212,7 @@ module _ (s e a n g : ℕ) (l : List ℕ) (hl : length l ≡ infoMost) (b : ℕ)
       pick-by (Goes CloseCc Message) (eqb b 0xCC)
       (λ t. kept refl (z ∙ ap (λ (c : ℕ). front Message s a n ++ (doubled (take g l) ++ (0xAA ∷ c ∷ []))) (eqb-true b 0xCC t)))
       (λ t. refuse refusal.closingWrong Message s a (w .0) (after-aa-outcome d b (found.Refused refusal.closingWrong Message s a)) (ap (λ (v : List ℕ). v ++ (b ∷ [])) r ∙ w .1)
-      (rw z (closingCc s a n b (take g l) (u .0) (u .1) (eqb-false b 0xCC t))))
+      (let m = info-len Message n (u .0) in rw (z, ← u .1) (closingCc s a b (take g l) (omega (arith, u .1)) (omega (arith, u .1)) (eqb-false b 0xCC t))))
 
   idle-held : (k : Kind) → held (at Idle k s e a n g l) ≡ []
   unfolding held
@@ -216,7 +230,7 @@ module _ (s e a n g : ℕ) (l : List ℕ) (hl : length l ≡ infoMost) (b : ℕ)
       pick-by (Goes Cks k) (eqb c b)
       (λ t. ended f ho (z ∙ ap (λ (x : ℕ). frontOf f ++ (sentOf f ++ (x ∷ []))) (sym (eqb-true c b t) ∙ hc)) (idle-held k) hf)
       (λ t. refuse refusal.cksWrong k s a (held d ++ (b ∷ [])) refl (rw (idle-held k) (sym (append-nil (held d ++ (b ∷ [])))))
-      (rw (z, ← hk, ← hs, ← ha) (cks f b hf (λ q. eqb-false c b t (hc ∙ sym q)))))
+      (rw (z, ← hk, ← hs, ← ha) (cks-why f b hf (λ q. eqb-false c b t (hc ∙ sym q)))))
 
   at-cks : (k : Kind) → cksDue k n g ≡ true → Goes Cks k (stepAt Cks (headOf Cks k s e a n g) l b)
   unfolding held frontOf sentOf cksIn cksOf frontIn bodyOf
@@ -319,6 +333,22 @@ left d (x ∷ xs) o r =
       runs = v .runs;
     }
 
+-- two lists with one octet more each
+snoc-left : (xs ys : List ℕ) (x y : ℕ) → xs ++ (x ∷ []) ≡ ys ++ (y ∷ []) → xs ≡ ys
+snoc-left xs ys x y p =
+    let n : length xs ≡ length ys = omega (arith, length-append xs (x ∷ []), length-append ys (y ∷ []), ap length p) in
+    sym (take-at xs (x ∷ []) (length xs) refl) ∙ ap (take (length xs)) p ∙ take-at ys (y ∷ []) (length xs) (sym n)
+
+-- a frame as written, through a decoder at rest: nothing is dropped
+undropped-back : (d : Decoder) (xs : List ℕ) (x : ℕ) (f : Frame) → AtRest d → Octets (xs ++ (x ∷ [])) → infoFits f ≡ true → xs ++ (x ∷ []) ≡ written f → NothingDropped d xs
+unfolding possibleOf
+undropped-back d xs x f r o w p =
+    let h = d .head in
+    let e : xs ≡ frontOf f ++ sentOf f = snoc-left xs (frontOf f ++ sentOf f) x (cksOf f) (p ∙ whole f) in
+    let v = octets-left xs (x ∷ []) o in
+    subst (λ (q : Place). NothingDropped (at q (h .kind) (h .seq) (h .err) (h .addr) (h .len) (h .filled) (d .info)) xs) (sym (r .idle))
+    (rw e (quiet-undropped (most-run (h .kind) (h .seq) (h .err) (h .addr) (h .len) (h .filled) (d .info) f w (addr-front f (sentOf f) (rw e at v))) refl (rw e at v)))
+
 -- from rest, with one octet more
 module _ (d : Decoder) (xs : List ℕ) (x : ℕ) (r : AtRest d) (o : Octets (xs ++ (x ∷ []))) where
   at-rest : (held d ≡ []) × Runs d
@@ -345,7 +375,9 @@ module _ (d : Decoder) (xs : List ℕ) (x : ℕ) (r : AtRest d) (o : Octets (xs 
   written-back h (refuse n k s a pre p q w) = absurd (refused-sound (sym p ∙ h))
   written-back {f} h (ended f₁ p q z w) =
       let e : f₁ ≡ f = cc in
-      record { before = run .pre; ends = rw (← e) (ends-in q); clean = run .clean; fits = rw (← e) w }
+      let z : xs ++ (x ∷ []) ≡ run .pre ++ written f = rw (← e) (ends-in q) in
+      let v : infoFits f ≡ true = rw (← e) w in
+      record { before = run .pre; ends = z; clean = run .clean; whole = λ n. undropped-back d xs x f r o v (z ∙ ap (λ (u : List ℕ). u ++ written f) n); fits = fits-in f v }
 
   refused-for : {n : ℕ} {k : Kind} {s a : ℕ} → outcomeOf (takenOf last x) ≡ refused n k s a → Went (held last) x (drops (last .head .place) x) (takenOf last x) → RefusedFor xs x n k s a
   refused-for h (kept p q) = absurd (nothing-refused (sym p ∙ h))

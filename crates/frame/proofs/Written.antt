@@ -1,31 +1,51 @@
--- What LEN and CKS of a frame as written are; and the writers refuse when, and only when, 01 says so.
+-- What the octets, LEN and CKS of a frame as written are: by its definition; and the writers refuse when, and only when, 01 says so.
 use Prim.Native.Nat.{ℕ, suc, _+_, _-_, _≤_, _<_}
 use mathlib.Core.Path.{_≡_, refl, sym, ap, _∙_}
 use mathlib.Core.Bool.{Bool, true, false}
 use mathlib.Core.List.{List, [], _∷_, _++_, append-assoc}
 use native.Mathlib.Omega.{arith}
-use borrow.Author.Tests.{leb-true, leb-false, le-leb, lt-leb}
+use borrow.Author.Tests.{ne-eqb, leb-true, leb-false, le-leb, lt-leb}
 use lib.Dec.{leb}
 use lib.ListN.{length, take, drop, getD, length-append}
 use lib.Seq.{getD-append-seam, sets-eq}
-use Rattle.octets.specs.ExclusiveOr.{exclusiveOr}
+use Rattle.octets.specs.ExclusiveOr.{xor, exclusiveOr}
 use Rattle.octets.specs.Writing.{Writing, writtenAs}
 use Rattle.octets.specs.Word.{highOf, lowOf, wordOf}
 use Rattle.octets.proofs.Laws.{pick-by, both-left, both-right, clash, exclusive-or-closed, word-back}
-use Rattle.frame.specs.Frame.{Frame, message, ack, nak, lenOf, messageLen, infoFits, frontOf, bodyOf, sentOf, cksOf, undoubled, written}
+use Rattle.frame.specs.Frame.{Frame, message, ack, nak, infoFits, frontOf, bodyOf, sentOf, cksOf, twice, doubled, undoubled, written}
 use Rattle.frame.specs.Writer.{writeFrame}
-use Rattle.frame.specs.Promises.{LenCounts, CksCovers, InfoFits, FrameWriteJudged, infoWrong, outputShort, stored, FramesWrittenSo}
+use Rattle.frame.specs.Promises.{FramesAsSaid, FrameNumbersAsSaid, LenCounts, CksCovers, FrameWriteJudged, infoWrong, outputShort, stored, FramesWrittenSo}
+use Rattle.frame.proofs.Fitting.{fits-in, in-fits, not-in}
 use Rattle.frame.proofs.Reading.{whole}
 
-undoubled-length : (f : Frame) → length (undoubled f) ≡ lenOf f
-unfolding undoubled frontOf bodyOf
-undoubled-length (message s a i) = simp length-append (omega arith)
-undoubled-length (ack s a) = refl
-undoubled-length (nak s a e) = refl
+pub frames-as-said : FramesAsSaid
+unfolding written undoubled frontOf bodyOf sentOf cksOf doubled twice exclusiveOr xor
+frames-as-said =
+    record {
+      aaTwice = λ xs. refl;
+      otherOnce = λ x xs h. rw (ne-eqb x 0xAA h);
+      noneNone = refl;
+      orMore = λ c x xs. refl;
+      orNone = λ c. refl;
+      messageSent = λ s a i. simp append-assoc;
+      messageBefore = λ s a i. simp append-assoc;
+      messageCks = λ s a i. refl;
+      ackSent = λ s a. refl;
+      ackBefore = λ s a. refl;
+      ackCks = λ s a. refl;
+      nakSent = λ s a e. refl;
+      nakBefore = λ s a e. refl;
+      nakCks = λ s a e. refl;
+    }
+
+pub frame-numbers-as-said : FrameNumbersAsSaid
+frame-numbers-as-said = (refl, refl, refl, refl, refl, refl, refl, refl)
 
 pub len-counts : LenCounts
-unfolding written frontOf
-len-counts f = (undoubled-length f, word-back (lenOf f))
+unfolding written undoubled frontOf bodyOf
+len-counts (message s a i) = record { counts = simp length-append (omega arith); stands = word-back (10 + length i); named = refl }
+len-counts (ack s a) = record { counts = refl; stands = refl; named = refl }
+len-counts (nak s a e) = record { counts = refl; stands = refl; named = refl }
 
 last-of : (xs : List ℕ) (x : ℕ) → getD (xs ++ (x ∷ [])) (length (xs ++ (x ∷ [])) - 1) 0 ≡ x
 last-of xs x =
@@ -35,24 +55,6 @@ last-of xs x =
 pub cks-covers : CksCovers
 unfolding undoubled cksOf
 cks-covers f = (rw (← append-assoc (frontOf f) (bodyOf f) (cksOf f ∷ [])) (exclusive-or-closed (frontOf f ++ bodyOf f)), rw (whole f) (last-of (frontOf f ++ sentOf f) (cksOf f)))
-
--- the test of INFO is the one of 01
-fits-in : (f : Frame) → infoFits f ≡ true → InfoFits f
-fits-in (message s a i) h = let n = length i in (leb-true 2 n (both-left (leb 2 n) (leb n 256) h), leb-true n 256 (both-right (leb 2 n) (leb n 256) h))
-fits-in (ack s a) h = tt
-fits-in (nak s a e) h = tt
-
-in-fits : (f : Frame) → InfoFits f → infoFits f ≡ true
-in-fits (message s a i) h = rw (le-leb 2 (length i) (h .0), le-leb (length i) 256 (h .1))
-in-fits (ack s a) h = refl
-in-fits (nak s a e) h = refl
-
-not-in : (f : Frame) → (InfoFits f → ⊥) → infoFits f ≡ false
-not-in f n = by (infoFits f) refl
-  where
-    by : (b : Bool) → infoFits f ≡ b → b ≡ false
-    by true e = absurd (n (fits-in f e))
-    by false e = refl
 
 module _ (f : Frame) (at : ℕ) (out : List ℕ) where
   abbrev vs : List ℕ

@@ -1,51 +1,144 @@
--- What 01 demands of frames, stated from outside.
-use Prim.Native.Nat.{ℕ, _+_, _-_, _≤_, _<_}
+-- What 01 demands of frames, stated from outside: in 01's octets, numbers and words, in its order. Where a name of a
+-- definition stands in a later statement, `FramesAsSaid` has tied it to 01's table.
+use Prim.Native.Nat.{ℕ, _+_, _-_, _*_, _/_, _%_, _≤_, _<_}
 use mathlib.Core.Path.{_≡_}
 use mathlib.Core.Bool.{true, false}
 use mathlib.Core.List.{List, [], _∷_, _++_}
+use lib.Bits.{bitXor}
 use lib.ListN.{length, take, drop, replicate, getD}
 use Rattle.octets.specs.ExclusiveOr.{exclusiveOr}
 use Rattle.octets.specs.Octet.{Octets}
-use Rattle.octets.specs.Refusal as refusal
-use Rattle.octets.specs.Word.{wordOf}
-use Rattle.octets.specs.Writing.{Writing, nothingWritten}
+use Rattle.octets.specs.Writing.{Writing}
 use Rattle.frame.specs.declared.Kind.{Kind}
 use Rattle.frame.specs.declared.Kind.the-variants.{Message, Ack, Nak}
 use Rattle.frame.specs.declared.decoder.Place.{Place}
 use Rattle.frame.specs.declared.decoder.Place.the-variants.{Idle, LoneAa, Seq, AddrHigh, AddrLow, LenHigh, LenLow, Info, InfoAa, CloseAa, CloseCc, Err, Cks}
+use Rattle.frame.specs.declared.decoder.Head.{Head}
 use Rattle.frame.specs.declared.decoder.Decoder.{Decoder}
 use Rattle.frame.specs.declared.decoder.Found.the-variants as found
 use Rattle.frame.specs.declared.decoder.Taken.{Taken}
-use Rattle.frame.specs.Frame.{Frame, message, ack, nak, messageLen, InOctets, kindOf, seqOf, addrOf, lenFits, lenOf, infoFits, front, frontOf, sentOf, doubled, cksOf, undoubled, written}
-use Rattle.frame.specs.Decoder.{headOf, possibleOf, freshDecoder, takenOf, idledOf}
+use Rattle.frame.specs.Frame.{Frame, message, ack, nak, InOctets, opener, infoLeast, infoMost, messageLen, ackLen, nakLen, lenOf, doubled, cksOf, undoubled, written}
+use Rattle.frame.specs.Decoder.{possibleOf, freshDecoder, idleDrops, takenOf, idledOf}
 use Rattle.frame.specs.Writer.{writeFrame}
 use Rattle.frame.specs.Run.{Outcome, nothing, refused, sound, outcomeOf, outcomes, decoderAfter, AtRest, NothingDropped}
 
--- d at another place, or of another kind too: nothing else of it changes
+-- What a frame is
+
+-- AA, the octet of the kind, SEQ, ADDR(2) and LEN(2), "high octet first"
+abbrev pub upToLen : ℕ → ℕ → ℕ → ℕ → List ℕ
+upToLen x s a n = 0xAA ∷ x ∷ s ∷ a / 256 ∷ a % 256 ∷ n / 256 ∷ n % 256 ∷ []
+
+-- 01's table: the octets of each kind in order, as they are sent and before doubling, and CKS
+pub record FramesSo : Type 0 where
+  -- "Only an AA within INFO is sent twice"
+  pub aaTwice : (xs : List ℕ) → doubled (0xAA ∷ xs) ≡ 0xAA ∷ 0xAA ∷ doubled xs
+  pub otherOnce : (x : ℕ) (xs : List ℕ) → (x ≡ 0xAA → ⊥) → doubled (x ∷ xs) ≡ x ∷ doubled xs
+  pub noneNone : doubled [] ≡ []
+  -- "the exclusive or of all": one by one, bit by bit, from 0
+  pub orMore : (c x : ℕ) (xs : List ℕ) → exclusiveOr c (x ∷ xs) ≡ exclusiveOr (bitXor c x) xs
+  pub orNone : (c : ℕ) → exclusiveOr c [] ≡ c
+  -- message: AA BB SEQ ADDR(2) LEN(2) INFO(n) AA CC CKS, LEN 10+n
+  pub messageSent : (s a : ℕ) (i : List ℕ) → written (message s a i) ≡ upToLen 0xBB s a (10 + length i) ++ (doubled i ++ (0xAA ∷ 0xCC ∷ cksOf (message s a i) ∷ []))
+  pub messageBefore : (s a : ℕ) (i : List ℕ) → undoubled (message s a i) ≡ upToLen 0xBB s a (10 + length i) ++ (i ++ (0xAA ∷ 0xCC ∷ cksOf (message s a i) ∷ []))
+  -- "CKS is the exclusive or of all earlier octets of the frame before doubling."
+  pub messageCks : (s a : ℕ) (i : List ℕ) → cksOf (message s a i) ≡ exclusiveOr 0 (upToLen 0xBB s a (10 + length i) ++ (i ++ (0xAA ∷ 0xCC ∷ [])))
+  -- ACK: AA DD SEQ ADDR(2) LEN(2) CKS, LEN 8
+  pub ackSent : (s a : ℕ) → written (ack s a) ≡ upToLen 0xDD s a 8 ++ (cksOf (ack s a) ∷ [])
+  pub ackBefore : (s a : ℕ) → undoubled (ack s a) ≡ written (ack s a)
+  pub ackCks : (s a : ℕ) → cksOf (ack s a) ≡ exclusiveOr 0 (upToLen 0xDD s a 8)
+  -- NAK: AA EE SEQ ADDR(2) LEN(2) ERR CKS, LEN 9
+  pub nakSent : (s a e : ℕ) → written (nak s a e) ≡ upToLen 0xEE s a 9 ++ (e ∷ cksOf (nak s a e) ∷ [])
+  pub nakBefore : (s a e : ℕ) → undoubled (nak s a e) ≡ written (nak s a e)
+  pub nakCks : (s a e : ℕ) → cksOf (nak s a e) ≡ exclusiveOr 0 (upToLen 0xEE s a 9 ++ (e ∷ []))
+
+abbrev pub FramesAsSaid : Type 0
+FramesAsSaid = FramesSo
+
+-- the numbers of the table: "10+n, n from 2 to 256", 8 and 9; BB, DD and EE
+abbrev pub FrameNumbersAsSaid : Type 0
+FrameNumbersAsSaid =
+    (messageLen ≡ 10) × (infoLeast ≡ 2) × (infoMost ≡ 256) × (ackLen ≡ 8) × (nakLen ≡ 9)
+    × (opener Message ≡ 0xBB) × (opener Ack ≡ 0xDD) × (opener Nak ≡ 0xEE)
+
+-- LEN of its kind's row
+abbrev pub lenDue : Frame → ℕ
+lenDue (message s a i) = 10 + length i
+lenDue (ack s a) = 8
+lenDue (nak s a e) = 9
+
+-- "LEN counts the whole frame before doubling": it is as many as the frame has octets then, and it is what stands in
+-- the two octets after ADDR.
+pub record LenOf (f : Frame) : Type 0 where
+  pub counts : length (undoubled f) ≡ lenDue f
+  pub stands : getD (written f) 5 0 * 256 + getD (written f) 6 0 ≡ lenDue f
+  pub named : lenOf f ≡ lenDue f
+
+abbrev pub LenCounts : Type 0
+LenCounts = (f : Frame) → LenOf f
+
+-- "CKS is the exclusive or of all earlier octets of the frame before doubling": with it they cancel, and it is what the
+-- frame ends in.
+abbrev pub CksCovers : Type 0
+CksCovers = (f : Frame) → (exclusiveOr 0 (undoubled f) ≡ 0) × (getD (written f) (length (written f) - 1) 0 ≡ cksOf f)
+
+-- What a frame writer does
+
+-- INFO as in the frame's row: "n from 2 to 256"; an ACK and a NAK have none
+abbrev pub InfoFits : Frame → Type 0
+InfoFits (message s a i) = (2 ≤ length i) × (length i ≤ 256)
+InfoFits (ack s a) = Unit
+InfoFits (nak s a e) = Unit
+
+-- What writing comes to, and why: "4 or 5 before 9 in a writer"
+pub data FrameWriteJudged (f : Frame) (at : ℕ) (out : List ℕ) : Writing → Type 0 where
+  -- 4, "frame writer given INFO not 2 to 256 long": "nothing written"
+  infoWrong : (InfoFits f → ⊥) → FrameWriteJudged f at out (record { answer = record { refusal = 4; count = 0 }; out = out })
+  -- 9, "output too short: .. exact need for a writer"
+  outputShort : InfoFits f → length out < at + length (written f)
+      → FrameWriteJudged f at out (record { answer = record { refusal = 9; count = 0 }; out = out })
+  -- "A call writes only the octets that its result counts; the output beyond them stays."
+  stored : InfoFits f → at + length (written f) ≤ length out
+      → FrameWriteJudged f at out (record {
+        answer = record { refusal = 0; count = length (written f) };
+        out = take at out ++ (written f ++ drop (at + length (written f)) out);
+      })
+
+-- "When, and only then": refusals 4 and 9.
+abbrev pub FramesWrittenSo : Type 0
+FramesWrittenSo = (f : Frame) (at : ℕ) (out : List ℕ) (w : Writing) → (FrameWriteJudged f at out w → w ≡ writeFrame f at out) × (w ≡ writeFrame f at out → FrameWriteJudged f at out w)
+
+-- The decoder's calls
+
+-- d at another place, or of another kind too: nothing else of it changes, INFO neither
 abbrev pub placedAs : Place → Kind → Decoder → Decoder
-placedAs p k d = let h = d .head in record { head = headOf p k (h .seq) (h .err) (h .addr) (h .len) (h .filled); info = d .info }
+placedAs p k d =
+    let h = d .head in
+    record { head = record { place = p; kind = k; seq = h .seq; err = h .err; addr = h .addr; len = h .len; filled = h .filled }; info = d .info }
 
 abbrev pub placedAt : Place → Decoder → Decoder
 placedAt p d = placedAs p (d .head .kind) d
 
--- a call that gives d back and brings nothing: done, or refused 7
-abbrev pub broughtNothing : Decoder → Taken
-broughtNothing d = record { refusal = refusal.none; decoder = d; found = found.Nothing }
-
-abbrev pub refusedDecoder : Decoder → Taken
-refusedDecoder d = record { refusal = refusal.stateUnsound; decoder = d; found = found.Nothing }
+-- a call that is done, brings nothing and leaves d
+abbrev pub doneWith : Decoder → Taken
+doneWith d = record { refusal = 0; decoder = d; found = found.Nothing }
 
 -- Refusal 7 of the decoder's calls, "When, and only then": "state handed in is unsound (.. impossible decoder place)",
 -- "same state"
 pub record CallsOf (d : Decoder) : Type 0 where
-  pub octetRefused : (b : ℕ) → possibleOf (d .head) ≡ false → takenOf d b ≡ refusedDecoder d
-  pub octetDone : (b : ℕ) → possibleOf (d .head) ≡ true → takenOf d b .refusal ≡ refusal.none
-  pub idleRefused : possibleOf (d .head) ≡ false → idledOf d ≡ refusedDecoder d
+  pub octetRefused : (b : ℕ) → possibleOf (d .head) ≡ false → takenOf d b ≡ record { refusal = 7; decoder = d; found = found.Nothing }
+  pub octetDone : (b : ℕ) → possibleOf (d .head) ≡ true → takenOf d b .refusal ≡ 0
+  pub idleRefused : possibleOf (d .head) ≡ false → idledOf d ≡ record { refusal = 7; decoder = d; found = found.Nothing }
   -- "A line-idle call, made by the host, returns the decoder to idle and changes nothing else."
-  pub idleDone : possibleOf (d .head) ≡ true → idledOf d ≡ broughtNothing (placedAt Idle d)
+  pub idleDone : possibleOf (d .head) ≡ true → idledOf d ≡ doneWith (placedAt Idle d)
 
 abbrev pub CallsAnswered : Type 0
 CallsAnswered = (d : Decoder) → CallsOf d
+
+-- A fresh decoder is at rest, so what is said of a decoder at rest is said of a fresh start; each number of it is 0.
+abbrev pub FreshAtRest : Type 0
+FreshAtRest =
+    AtRest freshDecoder
+    × (freshDecoder ≡ record { head = record { place = Idle; kind = Message; seq = 0; err = 0; addr = 0; len = 0; filled = 0 }; info = replicate 256 0 })
 
 -- A fresh decoder is possible, and whatever octet comes, or the line falls idle, a possible one stays so: no refusal 7
 -- comes of states handed back as given.
@@ -56,49 +149,74 @@ pub record PossibleFrom (d : Decoder) : Type 0 where
 abbrev pub PossibleKept : Type 0
 PossibleKept = (possibleOf (freshDecoder .head) ≡ true) × ((d : Decoder) → PossibleFrom d)
 
--- "LEN counts the whole frame before doubling": it is as many as the frame has octets then, and it is what stands in
--- the two octets decoderAfter ADDR.
-abbrev pub LenCounts : Type 0
-LenCounts = (f : Frame) → (length (undoubled f) ≡ lenOf f) × (wordOf (getD (written f) 5 0) (getD (written f) 6 0) ≡ lenOf f)
+-- Which decoders are possible
 
--- "CKS is the exclusive or of all earlier octets of the frame before doubling": with it they cancel, and it is what the
--- frame ends in.
-abbrev pub CksCovers : Type 0
-CksCovers = (f : Frame) → (exclusiveOr 0 (undoubled f) ≡ 0) × (getD (written f) (length (written f) - 1) 0 ≡ cksOf f)
+-- a kind by its octet
+abbrev pub kindOctet : Kind → ℕ
+kindOctet Message = 0xBB
+kindOctet Ack = 0xDD
+kindOctet Nak = 0xEE
 
--- INFO as in the frame's row: "n from 2 to 256"; an ACK and a NAK have none
-abbrev pub InfoFits : Frame → Type 0
-InfoFits (message s a i) = (2 ≤ length i) × (length i ≤ 256)
-InfoFits (ack s a) = Unit
-InfoFits (nak s a e) = Unit
+-- The fields that matter at each place, in the order in which they came in: the kind, SEQ, ADDR, LEN, how much of INFO is in
+-- and its octets, ERR. Where the low octet of ADDR or LEN is due the field has the high one.
+abbrev pub partsAt : Place → Kind → Head → List ℕ → List ℕ
+partsAt Idle k h i = []
+partsAt LoneAa k h i = []
+partsAt Seq k h i = kindOctet k ∷ []
+partsAt AddrHigh k h i = kindOctet k ∷ h .seq ∷ []
+partsAt AddrLow k h i = kindOctet k ∷ h .seq ∷ h .addr ∷ []
+partsAt LenHigh k h i = kindOctet k ∷ h .seq ∷ h .addr ∷ []
+partsAt LenLow k h i = kindOctet k ∷ h .seq ∷ h .addr ∷ h .len ∷ []
+partsAt Info k h i = kindOctet k ∷ h .seq ∷ h .addr ∷ h .len ∷ h .filled ∷ take (h .filled) i
+partsAt InfoAa k h i = kindOctet k ∷ h .seq ∷ h .addr ∷ h .len ∷ h .filled ∷ take (h .filled) i
+partsAt CloseAa k h i = kindOctet k ∷ h .seq ∷ h .addr ∷ h .len ∷ h .filled ∷ take (h .filled) i
+partsAt CloseCc k h i = kindOctet k ∷ h .seq ∷ h .addr ∷ h .len ∷ h .filled ∷ take (h .filled) i
+partsAt Err k h i = kindOctet k ∷ h .seq ∷ h .addr ∷ h .len ∷ []
+partsAt Cks Message h i = 0xBB ∷ h .seq ∷ h .addr ∷ h .len ∷ h .filled ∷ take (h .filled) i
+partsAt Cks Ack h i = 0xDD ∷ h .seq ∷ h .addr ∷ h .len ∷ []
+partsAt Cks Nak h i = 0xEE ∷ h .seq ∷ h .addr ∷ h .len ∷ h .err ∷ []
 
--- What writing comes to, and why: "4 or 5 before 9 in a writer"
-pub data FrameWriteJudged (f : Frame) (at : ℕ) (out : List ℕ) : Writing → Type 0 where
-  -- "frame writer given INFO not 2 to 256 long": "nothing written"
-  infoWrong : (InfoFits f → ⊥) → FrameWriteJudged f at out (nothingWritten refusal.infoWrong out)
-  -- "output too short: .. exact need for a writer"
-  outputShort : InfoFits f → length out < at + length (written f) → FrameWriteJudged f at out (nothingWritten refusal.outputShort out)
-  -- "A call writes only the octets that its result counts; the output beyond them stays."
-  stored : InfoFits f → at + length (written f) ≤ length out
-      → FrameWriteJudged f at out (record {
-        answer = record { refusal = refusal.none; count = length (written f) };
-        out = take at out ++ (written f ++ drop (at + length (written f)) out);
-      })
+abbrev pub partsOf : Decoder → List ℕ
+partsOf d = partsAt (d .head .place) (d .head .kind) (d .head) (d .info)
 
--- "When, and only then": refusals 4 and 9.
-abbrev pub FramesWrittenSo : Type 0
-FramesWrittenSo = (f : Frame) (at : ℕ) (out : List ℕ) (w : Writing) → (FrameWriteJudged f at out w → w ≡ writeFrame f at out) × (w ≡ writeFrame f at out → FrameWriteJudged f at out w)
+-- octets lead from r to d, in the place and the fields that matter there
+pub record LedTo (r d : Decoder) : Type 0 where
+  pub octets : List ℕ
+  pub each : Octets octets
+  pub place : decoderAfter r octets .head .place ≡ d .head .place
+  pub parts : partsOf (decoderAfter r octets) ≡ partsOf d
+
+-- the numbers that the fields can hold: SEQ and ERR an octet, ADDR two, INFO 256 octets
+pub record FieldsHold (d : Decoder) : Type 0 where
+  pub seq : d .head .seq < 256
+  pub err : d .head .err < 256
+  pub addr : d .head .addr < 65536
+  pub info : Octets (d .info)
+  pub long : length (d .info) ≡ 256
+
+-- "impossible decoder place": a decoder is possible when, and only when, octets lead to it from idle.
+pub record PossibleWhen (r d : Decoder) : Type 0 where
+  pub led : possibleOf (d .head) ≡ true → FieldsHold d → LedTo r d
+  pub only : LedTo r d → possibleOf (d .head) ≡ true
+
+abbrev pub PossibleExactly : Type 0
+PossibleExactly = (r d : Decoder) → AtRest r → PossibleWhen r d
+
+-- What an octet does
 
 -- "Idle: AA is remembered, all else is dropped. After a lone AA: BB, DD or EE opens a frame, AA stays remembered, all else
 -- returns to idle." Of an opened frame SEQ is due; nothing else of the decoder changes.
 pub record WaitsFrom (d : Decoder) : Type 0 where
-  pub remembered : takenOf (placedAt Idle d) 0xAA ≡ broughtNothing (placedAt LoneAa d)
-  pub dropped : (b : ℕ) → (b ≡ 0xAA → ⊥) → takenOf (placedAt Idle d) b ≡ broughtNothing (placedAt Idle d)
-  pub opensMessage : takenOf (placedAt LoneAa d) 0xBB ≡ broughtNothing (placedAs Seq Message d)
-  pub opensAck : takenOf (placedAt LoneAa d) 0xDD ≡ broughtNothing (placedAs Seq Ack d)
-  pub opensNak : takenOf (placedAt LoneAa d) 0xEE ≡ broughtNothing (placedAs Seq Nak d)
-  pub stays : takenOf (placedAt LoneAa d) 0xAA ≡ broughtNothing (placedAt LoneAa d)
-  pub returns : (b : ℕ) → (b ≡ 0xBB → ⊥) → (b ≡ 0xDD → ⊥) → (b ≡ 0xEE → ⊥) → (b ≡ 0xAA → ⊥) → takenOf (placedAt LoneAa d) b ≡ broughtNothing (placedAt Idle d)
+  pub remembered : takenOf (placedAt Idle d) 0xAA ≡ doneWith (placedAt LoneAa d)
+  pub dropped : (b : ℕ) → (b ≡ 0xAA → ⊥) → takenOf (placedAt Idle d) b ≡ doneWith (placedAt Idle d)
+  pub opensMessage : takenOf (placedAt LoneAa d) 0xBB ≡ doneWith (placedAs Seq Message d)
+  pub opensAck : takenOf (placedAt LoneAa d) 0xDD ≡ doneWith (placedAs Seq Ack d)
+  pub opensNak : takenOf (placedAt LoneAa d) 0xEE ≡ doneWith (placedAs Seq Nak d)
+  pub stays : takenOf (placedAt LoneAa d) 0xAA ≡ doneWith (placedAt LoneAa d)
+  pub returns : (b : ℕ) → (b ≡ 0xBB → ⊥) → (b ≡ 0xDD → ⊥) → (b ≡ 0xEE → ⊥) → (b ≡ 0xAA → ⊥) → takenOf (placedAt LoneAa d) b ≡ doneWith (placedAt Idle d)
+  -- an octet is said to be dropped in idle where it is, and nowhere else
+  pub saidDropped : (b : ℕ) → (b ≡ 0xAA → ⊥) → idleDrops Idle b ≡ true
+  pub saidOnly : (b : ℕ) → idleDrops (d .head .place) b ≡ true → (d .head .place ≡ Idle) × (b ≡ 0xAA → ⊥)
 
 abbrev pub Waits : Type 0
 Waits = (d : Decoder) → WaitsFrom d
@@ -110,15 +228,16 @@ pub record ReadBack (d : Decoder) (f : Frame) : Type 0 where
   pub rest : AtRest (decoderAfter d (written f))
 
 abbrev pub ReadingFramesUndoesWriting : Type 0
-ReadingFramesUndoesWriting = (d : Decoder) (f : Frame) → AtRest d → InOctets f → infoFits f ≡ true → ReadBack d f
+ReadingFramesUndoesWriting = (d : Decoder) (f : Frame) → AtRest d → InOctets f → InfoFits f → ReadBack d f
 
 -- Writing undoes reading: whatever octets bring a sound frame out of idle end in the octets that writing it gives; and
--- where nothing was dropped before it, they are those octets.
+-- where nothing was dropped before it, and only there, they are those octets.
 pub record WrittenBack (d : Decoder) (xs : List ℕ) (x : ℕ) (f : Frame) : Type 0 where
   pub before : List ℕ
   pub ends : xs ++ (x ∷ []) ≡ before ++ written f
   pub clean : NothingDropped d xs → before ≡ []
-  pub fits : infoFits f ≡ true
+  pub whole : before ≡ [] → NothingDropped d xs
+  pub fits : InfoFits f
 
 abbrev pub WritingFramesUndoesReading : Type 0
 WritingFramesUndoesReading =
@@ -127,21 +246,25 @@ WritingFramesUndoesReading =
     → WrittenBack d xs x f
 
 -- Refusals 1 to 3: "When, and only then", "3, 2, 1 as octets arrive". The octets of a frame that is refused, up to the one
--- that refuses it:
+-- that refuses it, with the refusal's number and the frame's kind, SEQ and ADDR:
 pub data Refusable : ℕ → Kind → ℕ → ℕ → List ℕ → Type 0 where
-  -- "LEN not as in its kind's row above"
-  len : (k : Kind) (s a n : ℕ) → lenFits k n ≡ false → Refusable refusal.lenWrong k s a (front k s a n)
-  -- "In INFO an AA followed by something else"
-  doubling : (s a n x : ℕ) (i : List ℕ) → lenFits Message n ≡ true → messageLen + length i < n → (x ≡ 0xAA → ⊥)
-      → Refusable refusal.closingWrong Message s a (front Message s a n ++ (doubled i ++ (0xAA ∷ x ∷ [])))
-  -- "a wrong octet at the AA or CC of the end"
-  closingAa : (s a n x : ℕ) (i : List ℕ) → lenFits Message n ≡ true → messageLen + length i ≡ n → (x ≡ 0xAA → ⊥)
-      → Refusable refusal.closingWrong Message s a (front Message s a n ++ (doubled i ++ (x ∷ [])))
-  closingCc : (s a n x : ℕ) (i : List ℕ) → lenFits Message n ≡ true → messageLen + length i ≡ n → (x ≡ 0xCC → ⊥)
-      → Refusable refusal.closingWrong Message s a (front Message s a n ++ (doubled i ++ (0xAA ∷ x ∷ [])))
-  -- "CKS wrong"
-  cks : (f : Frame) (x : ℕ) → infoFits f ≡ true → (x ≡ cksOf f → ⊥)
-      → Refusable refusal.cksWrong (kindOf f) (seqOf f) (addrOf f) (frontOf f ++ (sentOf f ++ (x ∷ [])))
+  -- 3, "LEN not as in its kind's row above": "10+n, n from 2 to 256"; 8; 9
+  lenMessage : (s a n : ℕ) → (12 ≤ n → n ≤ 266 → ⊥) → Refusable 3 Message s a (upToLen 0xBB s a n)
+  lenAck : (s a n : ℕ) → (n ≡ 8 → ⊥) → Refusable 3 Ack s a (upToLen 0xDD s a n)
+  lenNak : (s a n : ℕ) → (n ≡ 9 → ⊥) → Refusable 3 Nak s a (upToLen 0xEE s a n)
+  -- 2, "In INFO an AA followed by something else"
+  doubling : (s a n x : ℕ) (i : List ℕ) → 12 ≤ n → n ≤ 266 → 10 + length i < n → (x ≡ 0xAA → ⊥)
+      → Refusable 2 Message s a (upToLen 0xBB s a n ++ (doubled i ++ (0xAA ∷ x ∷ [])))
+  -- 2, "or a wrong octet at the AA or CC of the end"
+  closingAa : (s a x : ℕ) (i : List ℕ) → 2 ≤ length i → length i ≤ 256 → (x ≡ 0xAA → ⊥)
+      → Refusable 2 Message s a (upToLen 0xBB s a (10 + length i) ++ (doubled i ++ (x ∷ [])))
+  closingCc : (s a x : ℕ) (i : List ℕ) → 2 ≤ length i → length i ≤ 256 → (x ≡ 0xCC → ⊥)
+      → Refusable 2 Message s a (upToLen 0xBB s a (10 + length i) ++ (doubled i ++ (0xAA ∷ x ∷ [])))
+  -- 1, "CKS wrong"
+  cksMessage : (s a x : ℕ) (i : List ℕ) → 2 ≤ length i → length i ≤ 256 → (x ≡ cksOf (message s a i) → ⊥)
+      → Refusable 1 Message s a (upToLen 0xBB s a (10 + length i) ++ (doubled i ++ (0xAA ∷ 0xCC ∷ x ∷ [])))
+  cksAck : (s a x : ℕ) → (x ≡ cksOf (ack s a) → ⊥) → Refusable 1 Ack s a (upToLen 0xDD s a 8 ++ (x ∷ []))
+  cksNak : (s a e x : ℕ) → (x ≡ cksOf (nak s a e) → ⊥) → Refusable 1 Nak s a (upToLen 0xEE s a 9 ++ (e ∷ x ∷ []))
 
 -- such octets, from idle, bring nothing before the last and the refusal with it, and the frame's kind, SEQ and ADDR
 abbrev pub RefusedWhen : Type 0
@@ -178,7 +301,7 @@ resumedAt CloseCc d b = takenOf (placedAt LoneAa d) b .decoder
 resumedAt Err d b = placedAt Idle d
 resumedAt Cks d b = placedAt Idle d
 
--- "The wrong octet decoderAfter an AA is then judged as if it had followed a lone AA; a wrong octet where the closing AA was due
+-- "The wrong octet after an AA is then judged as if it had followed a lone AA; a wrong octet where the closing AA was due
 -- returns to idle. Refusals 1 and 3 and the end of a sound frame also leave it idle, with no AA remembered."
 abbrev pub Resumes : Type 0
 Resumes =

@@ -1,4 +1,4 @@
--- Octets taken one decoderAfter another: what each brings, and where the decoder then is.
+-- Octets taken one after another: what each brings, and where the decoder then is.
 use Prim.Native.Nat.{ℕ}
 use mathlib.Core.Path.{_≡_}
 use mathlib.Core.Bool.{Bool, true, false, not}
@@ -34,7 +34,7 @@ foundMeans (found.Nak s a e) i = sound (nak s a e)
 abbrev pub outcomeOf : Taken → Outcome
 outcomeOf t = foundMeans (t .found) (t .decoder .info)
 
--- the outcome of each octet, and the decoder decoderAfter the last
+-- the outcome of each octet, and the decoder after the last
 unfoldable pub outcomes : Decoder → List ℕ → List Outcome
 outcomes d [] = []
 outcomes d (x ∷ xs) = outcomeOf (takenOf d x) ∷ outcomes (takenOf d x .decoder) xs
