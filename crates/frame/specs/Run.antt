@@ -13,7 +13,7 @@ use Rattle.frame.specs.declared.decoder.Decoder.{Decoder}
 use Rattle.frame.specs.declared.decoder.Found.{Found}
 use Rattle.frame.specs.declared.decoder.Found.the-variants as found
 use Rattle.frame.specs.declared.decoder.Taken.{Taken}
-use Rattle.frame.specs.Frame.{Frame, message, ack, nak, infoMost}
+use Rattle.frame.specs.Frame.{Frame, message, ack, nak}
 use Rattle.frame.specs.Decoder.{takenOf}
 
 -- what an octet brings, in 01's terms: nothing; a frame refused, with the refusal's number and the frame's kind, SEQ and
@@ -43,11 +43,11 @@ unfoldable pub decoderAfter : Decoder → List ℕ → Decoder
 decoderAfter d [] = d
 decoderAfter d (x ∷ xs) = decoderAfter (takenOf d x .decoder) xs
 
--- "Demand 2's round trip starts from idle.": a decoder that waits for a frame; its `info` is an array, so as long as
--- every one
+-- "Demand 2's round trip starts from idle.": a decoder that waits for a frame, with no AA remembered; its `info` is an
+-- array of 256 octets
 pub record AtRest (d : Decoder) : Type 0 where
   pub idle : d .head .place ≡ Idle
-  pub long : length (d .info) ≡ infoMost
+  pub long : length (d .info) ≡ 256
 
 -- "Idle: AA is remembered, all else is dropped. After a lone AA: BB, DD or EE opens a frame": does the octet b leave
 -- octets behind that belong to no frame?
