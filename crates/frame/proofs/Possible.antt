@@ -1,13 +1,12 @@
 -- A possible decoder stays possible, place by place; an impossible one is refused.
-use Prim.Native.Nat.{ℕ, _+_, _-_, _≤_, _<_}
-use mathlib.Core.Path.{_≡_, refl, sym, ap, _∙_}
-use mathlib.Core.Bool.{Bool, true, false}
+use Prim.Native.Nat.{ℕ, _+_, _-_, _<_}
+use mathlib.Core.Path.{_≡_, refl}
+use mathlib.Core.Bool.{true}
 use mathlib.Core.List.{List}
 use native.Mathlib.Omega.{arith}
-use borrow.Author.Tests.{eq-eqb, lt-ltb, leb-true, leb-false, ltb-true, ltb-false}
+use borrow.Author.Tests.{eq-eqb, lt-ltb, ltb-true, ltb-false}
 use lib.Dec.{eqb, ltb}
 use lib.ListN.{length-replicate}
-use Rattle.octets.specs.Choice.{pick, both}
 use Rattle.octets.specs.Refusal as refusal
 use Rattle.octets.specs.Word.{lowOf, wordOf}
 use Rattle.octets.proofs.Laws.{pick-by, both-left, both-right}
@@ -21,8 +20,8 @@ use Rattle.frame.specs.declared.decoder.Found.{Found}
 use Rattle.frame.specs.declared.decoder.Found.the-variants as found
 use Rattle.frame.specs.declared.decoder.Stepped.{Stepped}
 use Rattle.frame.specs.Frame.{lenFits, messageLen}
-use Rattle.frame.specs.Decoder.{headOf, possibleAt, possibleOf, freshDecoder, infoDue, infoWhole, errDue, cksDue, afterLen, afterAa, kept, stepAt, stepOf, takenOf, idledOf, cksIn}
-use Rattle.frame.specs.Promises.{CallsOf, CallsAnswered, FreshAtRest, PossibleFrom, PossibleKept}
+use Rattle.frame.specs.Decoder.{headOf, possibleAt, possibleOf, freshDecoder, infoDue, infoWhole, errDue, cksDue, afterLen, afterAa, kept, stepAt, stepOf, cksIn}
+use Rattle.frame.specs.Promises.{CallsAnswered, FreshAtRest, PossibleKept}
 use Rattle.frame.proofs.Laws.{message-len, taken-7, taken-done, idled-7, idled-done}
 
 -- a decoder with all its fields given

@@ -1,7 +1,7 @@
 -- A decoder is possible exactly when octets lead to it from rest: its own fields tell the octets that do.
-use Prim.Native.Nat.{ℕ, _+_, _-_, _≤_, _<_}
+use Prim.Native.Nat.{ℕ, _-_, _≤_, _<_}
 use mathlib.Core.Path.{_≡_, refl, sym, ap, subst, _∙_}
-use mathlib.Core.Bool.{Bool, true, false}
+use mathlib.Core.Bool.{true}
 use mathlib.Core.List.{List, [], _∷_, _++_, append-nil}
 use native.Mathlib.Omega.{arith}
 use borrow.Author.Tests.{eqb-true, ltb-true}
@@ -9,22 +9,20 @@ use lib.Dec.{eqb, ltb}
 use lib.ListN.{length, take, drop, take-append-drop}
 use lib.Seq.{sets, length-take-le}
 use Rattle.octets.specs.Octet.{Octets}
-use Rattle.octets.specs.Word.{highOf, lowOf}
 use Rattle.octets.proofs.Laws.{both-left, both-right, clash, octets-append, octets-left}
 use Rattle.frame.specs.declared.Kind.{Kind}
 use Rattle.frame.specs.declared.Kind.the-variants.{Message, Ack, Nak}
 use Rattle.frame.specs.declared.decoder.Place.{Place}
 use Rattle.frame.specs.declared.decoder.Place.the-variants.{Idle, LoneAa, Seq, AddrHigh, AddrLow, LenHigh, LenLow, Info, InfoAa, CloseAa, CloseCc, Err, Cks}
-use Rattle.frame.specs.declared.decoder.Head.{Head}
 use Rattle.frame.specs.declared.decoder.Decoder.{Decoder}
-use Rattle.frame.specs.Frame.{Frame, message, ack, nak, messageLen, infoMost, ackLen, nakLen, lenFits, opener, front, frontOf, sentOf, doubled}
-use Rattle.frame.specs.Decoder.{headOf, possibleAt, possibleOf, infoDue, infoWhole, cksDue, stepOf, takenOf}
-use Rattle.frame.specs.Run.{decoderAfter, AtRest}
-use Rattle.frame.specs.Promises.{kindOctet, partsAt, partsOf, LedTo, FieldsHold, PossibleWhen, PossibleExactly}
+use Rattle.frame.specs.Frame.{messageLen, infoMost, ackLen, nakLen, lenFits, front, doubled}
+use Rattle.frame.specs.Decoder.{headOf, possibleOf, infoDue, infoWhole, stepOf, takenOf}
+use Rattle.frame.specs.Run.{decoderAfter}
+use Rattle.frame.specs.Promises.{partsOf, LedTo, PossibleExactly}
 use Rattle.frame.proofs.Laws.{info-len, possible-at}
-use Rattle.frame.proofs.Fitting.{in-fits}
 use Rattle.frame.proofs.Possible.{at, possible-kept}
-use Rattle.frame.proofs.Reading.{Quiet, done, more, once, quiet-then, quiet-after, lone-run, opened-run, seq-run, addr-high-run, addr-run, len-high-run, front-run, ready, most-run, stored-info, opener-octet, front-octets, most-octets, doubled-octets}
+use Rattle.frame.proofs.Agreeing.{alike}
+use Rattle.frame.proofs.Reading.{Quiet, done, once, quiet-then, quiet-after, lone-run, opened-run, seq-run, addr-high-run, addr-run, len-high-run, front-run, stored-info, opener-octet, front-octets, doubled-octets}
 use Rattle.frame.proofs.Refusing.{open-run, closed-run}
 
 -- Octets lead to every possible decoder
@@ -134,67 +132,6 @@ possible-after : (d : Decoder) (xs : List ℕ) → Octets xs → possibleOf (d .
 unfolding decoderAfter
 possible-after d [] o p = p
 possible-after d (x ∷ xs) o p = possible-after (takenOf d x .decoder) xs (o .1) (possible-kept .1 d .octet x (o .0) p)
-
-one-kind : (k k′ : Kind) → kindOctet k ≡ kindOctet k′ → k ≡ k′
-one-kind Message Message h = refl
-one-kind Message Ack h = absurd (omega arith)
-one-kind Message Nak h = absurd (omega arith)
-one-kind Ack Message h = absurd (omega arith)
-one-kind Ack Ack h = refl
-one-kind Ack Nak h = absurd (omega arith)
-one-kind Nak Message h = absurd (omega arith)
-one-kind Nak Ack h = absurd (omega arith)
-one-kind Nak Nak h = refl
-
--- two lists of the same parts: the kind, LEN and the count of INFO are the same
-same-parts : (P : Kind → ℕ → ℕ → Bool) {k₁ k₂ : Kind} {s₁ s₂ a₁ a₂ n₁ n₂ g₁ g₂ : ℕ} {i₁ i₂ : List ℕ}
-    → _≡_ {A = List ℕ} (kindOctet k₁ ∷ s₁ ∷ a₁ ∷ n₁ ∷ g₁ ∷ i₁) (kindOctet k₂ ∷ s₂ ∷ a₂ ∷ n₂ ∷ g₂ ∷ i₂) → P k₁ n₁ g₁ ≡ true → P k₂ n₂ g₂ ≡ true
-same-parts P {k₁} {k₂} {n₁ = n₁} {n₂ = n₂} {g₁ = g₁} {g₂ = g₂} q h =
-    let o : kindOctet k₁ ≡ kindOctet k₂ = cc in
-    let k = one-kind k₁ k₂ o in
-    let n : n₁ ≡ n₂ = cc in
-    let g : g₁ ≡ g₂ = cc in
-    rw (← k, ← n, ← g) h
-
-module _ (e d : Decoder) where
-  abbrev h₁ : Head
-  h₁ = e .head
-
-  abbrev h₂ : Head
-  h₂ = d .head
-
-  alike-at : (p : Place) (k₁ k₂ : Kind) → partsAt p k₁ h₁ (e .info) ≡ partsAt p k₂ h₂ (d .info)
-      → possibleAt p k₁ (h₁ .addr) (h₁ .len) (h₁ .filled) ≡ true → possibleAt p k₂ (h₂ .addr) (h₂ .len) (h₂ .filled) ≡ true
-  alike-at Idle k₁ k₂ q h = refl
-  alike-at LoneAa k₁ k₂ q h = refl
-  alike-at Seq k₁ k₂ q h = refl
-  alike-at AddrHigh k₁ k₂ q h = refl
-  alike-at AddrLow k₁ k₂ q h = let a : h₁ .addr ≡ h₂ .addr = cc in rw (← a) h
-  alike-at LenHigh k₁ k₂ q h = refl
-  alike-at LenLow k₁ k₂ q h = let n : h₁ .len ≡ h₂ .len = cc in rw (← n) h
-  alike-at Info k₁ k₂ q h = same-parts infoDue {k₁ = k₁} {k₂ = k₂} q h
-  alike-at InfoAa k₁ k₂ q h = same-parts infoDue {k₁ = k₁} {k₂ = k₂} q h
-  alike-at CloseAa k₁ k₂ q h = same-parts infoWhole {k₁ = k₁} {k₂ = k₂} q h
-  alike-at CloseCc k₁ k₂ q h = same-parts infoWhole {k₁ = k₁} {k₂ = k₂} q h
-  alike-at Err k₁ k₂ q h =
-      let o : kindOctet k₁ ≡ kindOctet k₂ = cc in
-      let k = one-kind k₁ k₂ o in
-      let n : h₁ .len ≡ h₂ .len = cc in
-      rw (← k, ← n) h
-  alike-at Cks Message Message q h = same-parts infoWhole {k₁ = Message} {k₂ = Message} q h
-  alike-at Cks Message Ack q h = let z : _≡_ {A = ℕ} 0xBB 0xDD = cc in absurd (omega arith)
-  alike-at Cks Message Nak q h = let z : _≡_ {A = ℕ} 0xBB 0xEE = cc in absurd (omega arith)
-  alike-at Cks Ack Message q h = let z : _≡_ {A = ℕ} 0xDD 0xBB = cc in absurd (omega arith)
-  alike-at Cks Ack Ack q h = let n : h₁ .len ≡ h₂ .len = cc in rw (← n) h
-  alike-at Cks Ack Nak q h = let z : _≡_ {A = ℕ} 0xDD 0xEE = cc in absurd (omega arith)
-  alike-at Cks Nak Message q h = let z : _≡_ {A = ℕ} 0xEE 0xBB = cc in absurd (omega arith)
-  alike-at Cks Nak Ack q h = let z : _≡_ {A = ℕ} 0xEE 0xDD = cc in absurd (omega arith)
-  alike-at Cks Nak Nak q h = let n : h₁ .len ≡ h₂ .len = cc in rw (← n) h
-
-  alike : h₁ .place ≡ h₂ .place → partsOf e ≡ partsOf d → possibleOf h₁ ≡ true → possibleOf h₂ ≡ true
-  unfolding possibleOf
-  alike p q h =
-      alike-at (h₂ .place) (h₁ .kind) (h₂ .kind) (subst (λ (u : Place). partsAt u (h₁ .kind) h₁ (e .info) ≡ partsOf d) p q) (sym (possible-at h₁ p) ∙ h)
 
 pub possible-exactly : PossibleExactly
 possible-exactly r d a =

@@ -1,32 +1,30 @@
 -- Reading undoes writing: the octets of a frame, as written, through a decoder at rest.
-use Prim.Native.Nat.{ℕ, suc, _+_, _-_, _*_, _/_, _%_, _≤_, _<_}
+use Prim.Native.Nat.{ℕ, suc, _+_, _-_, _≤_, _<_}
 use mathlib.Core.Path.{_≡_, refl, sym, ap, subst, _∙_}
 use mathlib.Core.Bool.{Bool, true, false}
 use mathlib.Core.List.{List, [], _∷_, _++_, append-assoc}
 use native.Mathlib.Nat.{zero-add, add-zero, add-suc, suc-add}
 use native.Mathlib.Numerals.{add-one}
 use native.Mathlib.Omega.{arith}
-use borrow.Author.Tests.{eq-eqb, ne-eqb, eqb-true, eqb-false, lt-ltb, le-ltb, le-leb, leb-true}
-use lib.Dec.{eqb, ltb, leb}
+use borrow.Author.Tests.{eq-eqb, eqb-true, eqb-false, lt-ltb, le-ltb, le-leb, leb-true}
+use lib.Dec.{eqb, leb}
 use lib.ListN.{length, set, take, drop, replicate, length-append}
 use lib.Seq.{sets, sets-eq, take-at, length-sets}
-use Rattle.octets.specs.Choice.{pick, both}
 use Rattle.octets.specs.Octet.{Octets}
 use Rattle.octets.specs.Word.{highOf, lowOf, wordOf}
 use Rattle.octets.proofs.Laws.{pick-by, both-left, both-right, octets-append}
 use Rattle.frame.specs.declared.Kind.{Kind}
 use Rattle.frame.specs.declared.Kind.the-variants.{Message, Ack, Nak}
 use Rattle.frame.specs.declared.decoder.Place.{Place}
-use Rattle.frame.specs.declared.decoder.Place.the-variants.{Idle, LoneAa, Seq, AddrHigh, AddrLow, LenHigh, LenLow, Info, InfoAa, CloseAa, CloseCc, Err, Cks}
+use Rattle.frame.specs.declared.decoder.Place.the-variants.{Idle, LoneAa, Seq, AddrHigh, AddrLow, LenHigh, LenLow, Info, InfoAa, CloseAa, Cks}
 use Rattle.frame.specs.declared.decoder.Decoder.{Decoder}
-use Rattle.frame.specs.declared.decoder.Found.{Found}
 use Rattle.frame.specs.declared.decoder.Found.the-variants as found
 use Rattle.frame.specs.declared.decoder.Taken.{Taken}
-use Rattle.frame.specs.Frame.{Frame, message, ack, nak, InOctets, ackLen, nakLen, infoLeast, kindOf, seqOf, addrOf, lenOf, messageLen, infoMost, lenFits, infoFits, opener, front, frontOf, bodyOf, sentOf, cksOf, twice, doubled, written}
-use Rattle.frame.specs.Decoder.{headOf, possibleOf, possibleAt, afterLen, afterInfo, opened, stepOf, takenOf, cksIn, frontIn, taken, takenAs}
-use Rattle.frame.specs.Run.{Outcome, nothing, refused, sound, outcomeOf, outcomes, decoderAfter, AtRest, drops, NothingDropped}
-use Rattle.frame.specs.Promises.{ReadBack, ReadingFramesUndoesWriting}
-use Rattle.frame.proofs.Laws.{message-len, twice-aa, twice-other, taken-done}
+use Rattle.frame.specs.Frame.{Frame, message, ack, nak, ackLen, nakLen, infoLeast, kindOf, seqOf, addrOf, lenOf, messageLen, infoMost, lenFits, infoFits, opener, front, frontOf, bodyOf, sentOf, cksOf, twice, doubled, written}
+use Rattle.frame.specs.Decoder.{possibleOf, afterLen, afterInfo, opened, stepOf, takenOf, cksIn, frontIn, taken, takenAs}
+use Rattle.frame.specs.Run.{Outcome, nothing, sound, outcomeOf, outcomes, decoderAfter, AtRest, drops, NothingDropped}
+use Rattle.frame.specs.Promises.{InOctets, ReadBack, ReadingFramesUndoesWriting}
+use Rattle.frame.proofs.Laws.{twice-aa, twice-other, taken-done}
 use Rattle.frame.proofs.Fitting.{in-fits}
 use Rattle.frame.proofs.Possible.{at, step-possible}
 

@@ -1,7 +1,7 @@
 -- Refusals 1 to 3, "when": the octets of a frame that is to be refused, through a decoder at rest.
-use Prim.Native.Nat.{ℕ, suc, _+_, _-_, _≤_, _<_}
-use mathlib.Core.Path.{_≡_, refl, sym, ap, subst, _∙_}
-use mathlib.Core.Bool.{Bool, true, false}
+use Prim.Native.Nat.{ℕ, _+_, _-_, _≤_, _<_}
+use mathlib.Core.Path.{_≡_, refl, sym, subst}
+use mathlib.Core.Bool.{true, false}
 use mathlib.Core.List.{List, [], _∷_, _++_, append-assoc}
 use native.Mathlib.Nat.{zero-add}
 use native.Mathlib.Omega.{arith}
@@ -16,19 +16,19 @@ use Rattle.octets.proofs.Laws.{pick-by, both-right, octets-left}
 use Rattle.frame.specs.declared.Kind.{Kind}
 use Rattle.frame.specs.declared.Kind.the-variants.{Message, Ack, Nak}
 use Rattle.frame.specs.declared.decoder.Place.{Place}
-use Rattle.frame.specs.declared.decoder.Place.the-variants.{Idle, LenLow, Info, InfoAa, CloseAa, CloseCc, Cks}
+use Rattle.frame.specs.declared.decoder.Place.the-variants.{Idle, LenLow, Info, InfoAa, CloseAa, CloseCc}
 use Rattle.frame.specs.declared.decoder.Decoder.{Decoder}
 use Rattle.frame.specs.declared.decoder.Found.{Found}
 use Rattle.frame.specs.declared.decoder.Found.the-variants as found
 use Rattle.frame.specs.declared.decoder.Stepped.{Stepped}
-use Rattle.frame.specs.Frame.{Frame, message, ack, nak, kindOf, seqOf, addrOf, lenOf, messageLen, infoLeast, infoMost, lenFits, infoFits, opener, front, frontOf, sentOf, cksOf, doubled}
+use Rattle.frame.specs.Frame.{Frame, message, ack, nak, kindOf, seqOf, addrOf, lenOf, messageLen, infoMost, lenFits, infoFits, opener, front, frontOf, sentOf, cksOf, doubled}
 use Rattle.frame.specs.Decoder.{possibleOf, afterAa, stepOf, takenAs}
-use Rattle.frame.specs.Run.{Outcome, nothing, refused, foundMeans, outcomeOf, outcomes, AtRest}
+use Rattle.frame.specs.Run.{Outcome, nothing, refused, foundMeans, outcomeOf, outcomes}
 use Rattle.frame.specs.Promises.{Refusable, lenMessage, lenAck, lenNak, doubling, closingAa, closingCc, cksMessage, cksAck, cksNak, RefusedWhen}
 use Rattle.frame.proofs.Laws.{message-len}
 use Rattle.frame.proofs.Fitting.{in-fits, len-message, len-not-message}
 use Rattle.frame.proofs.Possible.{at}
-use Rattle.frame.proofs.Reading.{Quiet, done, more, once, quiet-then, word, info-part, info-run, len-high-run, front-run, ready, most-run, cks-ready, end-outcome}
+use Rattle.frame.proofs.Reading.{Quiet, once, quiet-then, word, info-part, info-run, len-high-run, front-run, ready, most-run, cks-ready, end-outcome}
 
 -- what an octet after AA finds is what was found before it
 pub after-aa-outcome : (d : Decoder) (b : ℕ) (f : Found) → outcomeOf (takenAs d b (afterAa (d .head) b f)) ≡ foundMeans f (d .info)

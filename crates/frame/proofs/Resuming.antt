@@ -1,6 +1,6 @@
 -- Where the decoder is in idle and after a lone AA, and after a refusal or a sound frame, place by place.
 use Prim.Native.Nat.{ℕ}
-use mathlib.Core.Path.{_≡_, refl, ap, _∙_}
+use mathlib.Core.Path.{_≡_, refl}
 use mathlib.Core.Bool.{Bool, true, false}
 use borrow.Author.Tests.{ne-eqb, eqb-false, not-true}
 use lib.Dec.{eqb}
@@ -17,7 +17,7 @@ use Rattle.frame.specs.declared.decoder.Stepped.{Stepped}
 use Rattle.frame.specs.Frame.{lenFits}
 use Rattle.frame.specs.Decoder.{possibleOf, idleDrops, afterAa, refusedBy, stepOf, stepAt, takenAs, takenOf, cksIn}
 use Rattle.frame.specs.Run.{nothing, outcomeOf}
-use Rattle.frame.specs.Promises.{placedAt, WaitsFrom, Waits, resumedAt, Resumes}
+use Rattle.frame.specs.Promises.{placedAt, Waits, resumedAt, Resumes}
 use Rattle.frame.proofs.Laws.{taken-done}
 use Rattle.frame.proofs.Refusing.{after-aa-outcome}
 
@@ -52,7 +52,7 @@ waits d =
     }
 
 -- two choices by one test
-pick-two : {A : Type 0} (R : A → A → Type 0) (t : Bool) {a b a′ b′ : A} → R a a′ → R b b′ → R (pick t a b) (pick t a′ b′)
+pub pick-two : {A : Type 0} (R : A → A → Type 0) (t : Bool) {a b a′ b′ : A} → R a a′ → R b b′ → R (pick t a b) (pick t a′ b′)
 pick-two R true p q = p
 pick-two R false p q = q
 

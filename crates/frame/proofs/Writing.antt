@@ -1,6 +1,6 @@
 -- Writing undoes reading. What makes it so: at every place the decoder's own fields tell the octets that it holds of the
 -- open frame, as they came.
-use Prim.Native.Nat.{ℕ, suc, _+_, _-_, _≤_, _<_}
+use Prim.Native.Nat.{ℕ, _+_, _-_, _<_}
 use mathlib.Core.Path.{_≡_, refl, sym, ap, subst, _∙_}
 use mathlib.Core.Bool.{Bool, true, false}
 use mathlib.Core.List.{List, [], _∷_, _++_, append-assoc, append-nil}
@@ -10,7 +10,6 @@ use borrow.Author.Tests.{eqb-true, eqb-false, ltb-true, leb-true, le-leb}
 use lib.Dec.{eqb, ltb, leb}
 use lib.ListN.{length, set, take, length-set, length-append}
 use lib.Seq.{take-suc-set, length-take-le, take-at, append-snoc}
-use Rattle.octets.specs.Choice.{pick, both}
 use Rattle.octets.specs.Octet.{Octets}
 use Rattle.octets.specs.Refusal as refusal
 use Rattle.octets.specs.Word.{highOf, lowOf, wordOf}
@@ -24,10 +23,10 @@ use Rattle.frame.specs.declared.decoder.Found.{Found}
 use Rattle.frame.specs.declared.decoder.Found.the-variants as found
 use Rattle.frame.specs.declared.decoder.Taken.{Taken}
 use Rattle.frame.specs.declared.decoder.Stepped.{Stepped}
-use Rattle.frame.specs.Frame.{Frame, message, ack, nak, kindOf, seqOf, addrOf, lenOf, messageLen, ackLen, nakLen, infoLeast, infoMost, lenFits, infoFits, opener, front, frontOf, bodyOf, sentOf, cksOf, twice, doubled, written}
-use Rattle.frame.specs.Decoder.{headOf, possibleOf, possibleAt, infoDue, infoWhole, afterAa, afterLen, cksDue, soundBy, stepOf, stepAt, takenAs, takenOf, cksIn, frontIn}
+use Rattle.frame.specs.Frame.{Frame, message, ack, nak, kindOf, seqOf, addrOf, messageLen, ackLen, nakLen, infoLeast, infoMost, lenFits, infoFits, opener, front, frontOf, bodyOf, sentOf, cksOf, twice, doubled, written}
+use Rattle.frame.specs.Decoder.{headOf, possibleOf, infoDue, infoWhole, afterAa, afterLen, cksDue, soundBy, stepOf, stepAt, takenAs, takenOf, cksIn, frontIn}
 use Rattle.frame.specs.Decoder as decoder
-use Rattle.frame.specs.Run.{Outcome, nothing, refused, sound, outcomeOf, outcomes, decoderAfter, AtRest, drops, NothingDropped}
+use Rattle.frame.specs.Run.{nothing, refused, sound, outcomeOf, decoderAfter, AtRest, drops, NothingDropped}
 use Rattle.frame.specs.Promises.{WrittenBack, WritingFramesUndoesReading, Refusable, lenMessage, lenAck, lenNak, doubling, closingAa, closingCc, cksMessage, cksAck, cksNak, RefusedFor, RefusedOnlyThen}
 use Rattle.frame.proofs.Laws.{message-len, info-len, twice-aa, twice-other, possible-at, taken-done}
 use Rattle.frame.proofs.Fitting.{fits-in, len-message}

@@ -1,17 +1,15 @@
 -- What the octets, LEN and CKS of a frame as written are: by its definition; and the writers refuse when, and only when, 01 says so.
-use Prim.Native.Nat.{ℕ, suc, _+_, _-_, _≤_, _<_}
-use mathlib.Core.Path.{_≡_, refl, sym, ap, _∙_}
-use mathlib.Core.Bool.{Bool, true, false}
+use Prim.Native.Nat.{ℕ, _+_, _-_}
+use mathlib.Core.Path.{_≡_, refl}
 use mathlib.Core.List.{List, [], _∷_, _++_, append-assoc}
 use native.Mathlib.Omega.{arith}
 use borrow.Author.Tests.{ne-eqb, leb-true, leb-false, le-leb, lt-leb}
 use lib.Dec.{leb}
-use lib.ListN.{length, take, drop, getD, length-append}
+use lib.ListN.{length, getD, length-append}
 use lib.Seq.{getD-append-seam, sets-eq}
 use Rattle.octets.specs.ExclusiveOr.{xor, exclusiveOr}
 use Rattle.octets.specs.Writing.{Writing, writtenAs}
-use Rattle.octets.specs.Word.{highOf, lowOf, wordOf}
-use Rattle.octets.proofs.Laws.{pick-by, both-left, both-right, clash, exclusive-or-closed, word-back}
+use Rattle.octets.proofs.Laws.{pick-by, clash, exclusive-or-closed, word-back}
 use Rattle.frame.specs.Frame.{Frame, message, ack, nak, infoFits, frontOf, bodyOf, sentOf, cksOf, twice, doubled, undoubled, written}
 use Rattle.frame.specs.Writer.{writeFrame}
 use Rattle.frame.specs.Promises.{FramesAsSaid, FrameNumbersAsSaid, LenCounts, CksCovers, FrameWriteJudged, infoWrong, outputShort, stored, FramesWrittenSo}

@@ -5,14 +5,13 @@
 -- | message | AA BB SEQ ADDR(2) LEN(2) INFO(n) AA CC CKS | 10+n, n from 2 to 256 |
 -- | ACK | AA DD SEQ ADDR(2) LEN(2) CKS | 8 |
 -- | NAK | AA EE SEQ ADDR(2) LEN(2) ERR CKS | 9 |
-use Prim.Native.Nat.{ℕ, _+_, _<_}
+use Prim.Native.Nat.{ℕ, _+_}
 use mathlib.Core.Bool.{Bool, true}
 use mathlib.Core.List.{List, [], _∷_, _++_}
 use lib.Dec.{eqb, leb}
 use lib.ListN.{length}
 use Rattle.octets.specs.Choice.{pick, both}
 use Rattle.octets.specs.ExclusiveOr.{exclusiveOr}
-use Rattle.octets.specs.Octet.{Octets}
 use Rattle.octets.specs.Word.{highOf, lowOf}
 use Rattle.frame.specs.declared.Kind.{Kind}
 use Rattle.frame.specs.declared.Kind.the-variants.{Message, Ack, Nak}
@@ -36,12 +35,6 @@ abbrev pub addrOf : Frame → ℕ
 addrOf (message s a i) = a
 addrOf (ack s a) = a
 addrOf (nak s a e) = a
-
--- SEQ and ERR are an octet, ADDR is two, and INFO is octets
-abbrev pub InOctets : Frame → Type 0
-InOctets (message s a i) = (s < 256) × (a < 65536) × Octets i
-InOctets (ack s a) = (s < 256) × (a < 65536)
-InOctets (nak s a e) = (s < 256) × (a < 65536) × (e < 256)
 
 -- the second octet of a frame
 abbrev pub opener : Kind → ℕ

@@ -17,10 +17,10 @@ use Rattle.frame.specs.declared.decoder.Head.{Head}
 use Rattle.frame.specs.declared.decoder.Decoder.{Decoder}
 use Rattle.frame.specs.declared.decoder.Found.the-variants as found
 use Rattle.frame.specs.declared.decoder.Taken.{Taken}
-use Rattle.frame.specs.Frame.{Frame, message, ack, nak, InOctets, opener, infoLeast, infoMost, messageLen, ackLen, nakLen, lenOf, doubled, cksOf, undoubled, written}
+use Rattle.frame.specs.Frame.{Frame, message, ack, nak, opener, infoLeast, infoMost, messageLen, ackLen, nakLen, lenOf, doubled, cksOf, undoubled, written}
 use Rattle.frame.specs.Decoder.{possibleOf, freshDecoder, idleDrops, takenOf, idledOf}
 use Rattle.frame.specs.Writer.{writeFrame}
-use Rattle.frame.specs.Run.{Outcome, nothing, refused, sound, outcomeOf, outcomes, decoderAfter, AtRest, NothingDropped}
+use Rattle.frame.specs.Run.{nothing, refused, sound, outcomeOf, outcomes, decoderAfter, AtRest, NothingDropped}
 
 -- What a frame is
 
@@ -202,6 +202,19 @@ pub record PossibleWhen (r d : Decoder) : Type 0 where
 abbrev pub PossibleExactly : Type 0
 PossibleExactly = (r d : Decoder) → AtRest r → PossibleWhen r d
 
+-- The other fields do not matter: of two possible decoders that agree in these an octet brings the same, and they agree
+-- again. So what is said below of octets from idle decides what any possible decoder does.
+pub record SameFrom (d e : Decoder) (b : ℕ) : Type 0 where
+  pub outcome : outcomeOf (takenOf d b) ≡ outcomeOf (takenOf e b)
+  pub place : takenOf d b .decoder .head .place ≡ takenOf e b .decoder .head .place
+  pub parts : partsOf (takenOf d b .decoder) ≡ partsOf (takenOf e b .decoder)
+
+abbrev pub PartsDecide : Type 0
+PartsDecide =
+    (d e : Decoder) (b : ℕ) → possibleOf (d .head) ≡ true → length (d .info) ≡ 256 → length (e .info) ≡ 256
+    → d .head .place ≡ e .head .place → partsOf d ≡ partsOf e
+    → SameFrom d e b
+
 -- What an octet does
 
 -- "Idle: AA is remembered, all else is dropped. After a lone AA: BB, DD or EE opens a frame, AA stays remembered, all else
@@ -220,6 +233,12 @@ pub record WaitsFrom (d : Decoder) : Type 0 where
 
 abbrev pub Waits : Type 0
 Waits = (d : Decoder) → WaitsFrom d
+
+-- SEQ and ERR are an octet, ADDR is two, and INFO is octets
+abbrev pub InOctets : Frame → Type 0
+InOctets (message s a i) = (s < 256) × (a < 65536) × Octets i
+InOctets (ack s a) = (s < 256) × (a < 65536)
+InOctets (nak s a e) = (s < 256) × (a < 65536) × (e < 256)
 
 -- Reading undoes writing: octet by octet, from idle, a frame as written brings nothing before its last octet and the
 -- frame itself with it; "the end of a sound frame" leaves it idle, "with no AA remembered".
