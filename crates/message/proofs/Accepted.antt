@@ -15,7 +15,7 @@ use Rattle.message.specs.declared.Read.{Read}
 use Rattle.message.specs.declared.layout.Field.{Field}
 use Rattle.message.specs.Layouts.{layoutAt, codes, numberOf, rowsAt}
 use Rattle.message.specs.Values.{valuesOf, placed}
-use Rattle.message.specs.Reader.{readAs, kIn, partOf, codeIn, bodyIn, readOf, notRead}
+use Rattle.message.specs.Reader.{readAs, kIn, partOf, codeIn, bodyIn, readOf}
 use Rattle.message.specs.Writer.{numberIn, kOfMessage}
 use Rattle.message.specs.Promises.{accepted, Writable, RightAt, HasLayout, RightLength, unknown, wrongLength, outOfRange, Judged, short, body}
 use Rattle.message.proofs.Ranges.{placed-at, right-same}
@@ -33,7 +33,6 @@ pub record Accepted (info : List ℕ) (r : Read) : Type 0 where
   pub read : r ≡ readAs (partOf (numberOf (codeIn info)) (kIn (layoutAt (numberOf (codeIn info))) (bodyIn info)) (bodyIn info))
 
 accepted-as : {info : List ℕ} {r : Read} → Judged info r → r .refusal ≡ refusal.none → Accepted info r
-unfolding notRead
 accepted-as (short h) e = absurd (omega arith)
 accepted-as (body h (unknown n)) e = absurd (omega arith)
 accepted-as (body h (wrongLength kn n)) e = absurd (omega arith)

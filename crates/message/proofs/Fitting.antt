@@ -94,7 +94,7 @@ values-back (g ∷ fs) (v ∷ vs) h f =
     rw (value-front (twoOf g) v (octetsOf fs vs) (f 0 (omega arith)), drop-front (twoOf g) v (octetsOf fs vs), values-back fs vs (omega arith) (λ j l. f (suc j) (omega arith)))
 
 -- the fields' values, with 0 past the last, are all of a message's values
-length-placed : (vs : List ℕ) → length vs ≤ fieldsMost → length (placed vs) ≡ fieldsMost
+pub length-placed : (vs : List ℕ) → length vs ≤ fieldsMost → length (placed vs) ≡ fieldsMost
 unfolding placed
 length-placed vs h = simp (length-append, length-replicate) (omega arith)
 

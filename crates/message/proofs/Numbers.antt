@@ -1,7 +1,6 @@
 -- The layouts hold what 01's table lists, each field under its number and at its place.
 use Prim.Native.Nat.{ℕ, zero, suc, _+_, _*_, _-_, _≤_, _<_}
 use mathlib.Core.Path.{_≡_, refl, sym, ap, _∙_}
-use mathlib.Core.Bool.{false}
 use mathlib.Core.List.{List, [], _∷_, _++_, append-assoc}
 use native.Mathlib.Nat.{mul-le-mul-right, zero-mul, suc-mul}
 use native.Mathlib.Omega.{arith}
@@ -11,11 +10,12 @@ use lib.Seq.{getD-append-add, drop-append-add, getD-drop, take-add, take-append-
 use Rattle.octets.specs.First.{firstOf}
 use Rattle.octets.proofs.Search.{search-first}
 use Rattle.message.specs.declared.layout.Field.{Field}
+use Rattle.message.specs.declared.layout.Field.the-variants.{Octet}
 use Rattle.message.specs.Fields as field
-use Rattle.message.specs.Fields.{twoOf, noField}
+use Rattle.message.specs.Fields.{noField}
 use Rattle.message.specs.Layouts.{layouts, layoutAt, numberOf, rowsAt, layoutRows, repeated, times, greens, cycleOffset}
 use Rattle.message.specs.Values.{sizeOf, fieldStart}
-use Rattle.message.specs.Promises.{listed, CodesListed, FieldStands, PhaseFields, GreenFields, TimesFields, PlanFields, OnePlan, FieldNumbers, StoredParts}
+use Rattle.message.specs.Promises.{listed, CodesListed, FieldStands, PhaseFields, GreenFields, TimesFields, PlanFields, OnePlan, FieldNumbers, NamesAsSaid, StoredParts}
 use Rattle.message.proofs.Layouts.{length-repeated}
 use Rattle.message.proofs.Values.{size-append, size-repeated}
 
@@ -120,39 +120,33 @@ module _ (hs : List Field) (k : ℕ) where
         offset = in-tail hs greens cycleOffset k 1 (omega arith) (omega arith) (omega arith);
       }
 
-module _ (p : Field) (one : twoOf p ≡ false) (k : ℕ) where
+module _ (least k : ℕ) where
   abbrev timesHead : List Field
-  timesHead = p ∷ field.count ∷ []
+  timesHead = Octet least 48 ∷ field.count ∷ []
 
-  times-two : sizeOf timesHead ≡ 2
-  times-two = rw one
-
-  times-fields : TimesFields p k (timesHead ++ (repeated k times ++ []))
+  times-fields : TimesFields least k (timesHead ++ (repeated k times ++ []))
   times-fields =
       record {
         many = omega (arith, many timesHead times [] k);
-        size = omega (arith, size timesHead times [] k, times-two);
+        size = omega (arith, size timesHead times [] k);
         planned = in-head timesHead times [] k 0 (omega arith) refl refl;
-        count = in-head timesHead times [] k 1 (omega arith) refl (rw one);
-        phase = λ i h. phase timesHead k i h (omega arith) (omega (arith, times-two));
+        count = in-head timesHead times [] k 1 (omega arith) refl refl;
+        phase = λ i h. phase timesHead k i h (omega arith) (omega arith);
       }
 
   abbrev planHead : List Field
-  planHead = p ∷ field.direct ∷ field.order ∷ field.count ∷ []
+  planHead = Octet least 48 ∷ field.direct ∷ field.order ∷ field.count ∷ []
 
-  plan-four : sizeOf planHead ≡ 4
-  plan-four = rw one
-
-  plan-fields : PlanFields p k (planHead ++ (repeated k greens ++ cycleOffset))
+  plan-fields : PlanFields least k (planHead ++ (repeated k greens ++ cycleOffset))
   plan-fields =
       record {
         many = omega (arith, many planHead greens cycleOffset k);
-        size = omega (arith, size planHead greens cycleOffset k, plan-four);
+        size = omega (arith, size planHead greens cycleOffset k);
         planned = in-head planHead greens cycleOffset k 0 (omega arith) refl refl;
-        direct = in-head planHead greens cycleOffset k 1 (omega arith) refl (rw one);
-        order = in-head planHead greens cycleOffset k 2 (omega arith) refl (rw one);
-        count = in-head planHead greens cycleOffset k 3 (omega arith) refl (rw one);
-        greens = green planHead k refl (sym plan-four);
+        direct = in-head planHead greens cycleOffset k 1 (omega arith) refl refl;
+        order = in-head planHead greens cycleOffset k 2 (omega arith) refl refl;
+        count = in-head planHead greens cycleOffset k 3 (omega arith) refl refl;
+        greens = green planHead k refl refl;
       }
 
 -- a layout with no repeated field
@@ -163,29 +157,49 @@ abbrev refusalRows : List Field
 refusalRows = field.code ∷ field.errorNumber ∷ field.parameterNumber ∷ []
 
 one-plan : OnePlan (field.plan ∷ [])
-one-plan = record { many = refl; planned = alone (field.plan ∷ []) 0 refl (omega arith) refl }
+one-plan = record { many = refl; size = refl; planned = alone (field.plan ∷ []) 0 refl (omega arith) refl }
 
 pub field-numbers : FieldNumbers
 unfolding numberOf firstOf layouts layoutAt rowsAt layoutRows
 field-numbers =
     record {
-      carriedOut = record { many = refl; answered = alone (field.code ∷ []) 0 refl (omega arith) refl };
+      carriedOut = record { many = refl; size = refl; answered = alone (field.code ∷ []) 0 refl (omega arith) refl };
       refused =
           record {
             many = refl;
+            size = refl;
             answered = alone refusalRows 0 refl (omega arith) refl;
             error = alone refusalRows 1 refl (omega arith) refl;
             parameter = alone refusalRows 2 refl (omega arith) refl;
           };
-      setTimes = λ k. times-fields field.planSet refl k;
-      reportTimes = λ k. times-fields field.plan refl k;
-      setPlan = λ k. plan-fields field.planSet refl k;
-      reportPlan = λ k. plan-fields field.plan refl k;
-      reportRunning = λ k. plan-fields field.plan refl k;
+      setTimes = λ k. times-fields 1 k;
+      reportTimes = λ k. times-fields 0 k;
+      setPlan = λ k. plan-fields 1 k;
+      reportPlan = λ k. plan-fields 0 k;
+      reportRunning = λ k. plan-fields 0 k;
       run = one-plan;
       queryTimes = one-plan;
       queryPlan = one-plan;
       queryRunning = refl;
+    }
+
+pub names-as-said : NamesAsSaid
+names-as-said =
+    record {
+      answered = refl;
+      error = refl;
+      parameter = refl;
+      plan = refl;
+      timesCount = refl;
+      minimum = λ i. refl;
+      maximum = λ i. omega arith;
+      redMan = λ i. omega arith;
+      direct = refl;
+      order = refl;
+      planCount = refl;
+      green = λ i. refl;
+      cycle = λ k. refl;
+      offset = λ k. omega arith;
     }
 
 abbrev storedHead : List Field

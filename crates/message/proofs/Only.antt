@@ -7,8 +7,6 @@ use denote.Ref.{now}
 use Rattle.message.proofs.info.Reader.open as «open»
 use Rattle.message.proofs.info.Reader.octet as octet
 use Rattle.message.proofs.info.Reader.word as word
-use Rattle.message.proofs.info.Reader.left as left
-use Rattle.message.proofs.info.Reader.rest as rest
 use Rattle.message.proofs.layout.passes.Reads as passes
 use Rattle.message.proofs.reader.read.Reads as read
 use Rattle.message.proofs.writer.write.Reads as write
@@ -38,11 +36,3 @@ only-octet 𝓤 H κs A m n a x r s = agree 𝓤 (λ p q. p ∙ sym q)
 only-word : {M : Type 1} (𝓤 : URA M) (H : _) (κs : _) (A : _) (m : _) (n : _) (a x : _) (r s : _)
     → ent 𝓤 (conj 𝓤 (word.ensures-1 𝓤 H κs A m n a x r) (word.ensures-1 𝓤 H κs A m n a x s)) (fact 𝓤 (r ≡ s))
 only-word 𝓤 H κs A m n a x r s = agree 𝓤 (λ p q. p ∙ sym q)
-
-only-left : {M : Type 1} (𝓤 : URA M) (H : _) (κs : _) (A : _) (m : _) (n : _) (a x : _) (r s : _)
-    → ent 𝓤 (conj 𝓤 (left.ensures-1 𝓤 H κs A m n a x r) (left.ensures-1 𝓤 H κs A m n a x s)) (fact 𝓤 (r ≡ s))
-only-left 𝓤 H κs A m n a x r s = agree 𝓤 (λ p q. p ∙ sym q)
-
-only-rest : {M : Type 1} (𝓤 : URA M) (H : _) (κs : _) (A : _) (m : _) (n : _) (a x : _) (r s : _)
-    → ent 𝓤 (conj 𝓤 (rest.ensures-1 𝓤 H κs A m n a x r) (rest.ensures-1 𝓤 H κs A m n a x s)) (fact 𝓤 ((r .ptr ≡ s .ptr) × (now r ≡ now s)))
-only-rest 𝓤 H κs A m n a x r s = agree 𝓤 (λ p q. (p .place ∙ sym (q .place), p .octets ∙ sym (q .octets)))

@@ -1,32 +1,49 @@
 -- What is read is what stands there.
-use Prim.Native.Nat.{ℕ, zero, suc, _<_}
+use Prim.Native.Nat.{ℕ, zero, suc, _+_, _≤_, _<_}
 use mathlib.Core.Path.{_≡_, refl, _∙_}
 use mathlib.Core.List.{List, [], _∷_}
-use native.Mathlib.Numerals.{add-one}
 use native.Mathlib.Omega.{arith}
-use lib.ListN.{length, getD, drop}
+use lib.ListN.{length, getD, drop, List·getD-eq-default}
 use lib.Seq.{drop-drop}
 use Rattle.message.specs.declared.layout.Field.{Field}
+use Rattle.message.specs.declared.layout.Field.the-variants.{Octet, Two, Order}
 use Rattle.message.specs.Fields.{twoOf, widthOf, valueOf, noField}
-use Rattle.message.specs.Layouts.{rowsAt}
-use Rattle.message.specs.Values.{fieldStart, valuesOf, placed, numbered}
+use Rattle.message.specs.Values.{fieldStart, valuesOf}
 use Rattle.message.specs.Reader.{partOf, bodyIn, readOf}
-use Rattle.message.specs.Writer.{numberIn, kOfMessage}
-use Rattle.message.specs.Promises.{FieldStands, ValuesStand}
+use Rattle.message.specs.Promises.{valueThere, ValuesTaken, HoldsInfo, ValuesStand}
+use Rattle.message.proofs.Layouts.{rows-most}
+use Rattle.message.proofs.Values.{value-one, value-two, length-values}
 use Rattle.message.proofs.Ranges.{placed-at}
-use Rattle.message.proofs.Accepted.{Accepted, accepted-in, is-part, rows-is, readPart}
+use Rattle.message.proofs.Fitting.{length-placed}
+use Rattle.message.proofs.Accepted.{Accepted, accepted-in, is-part, code-is, rows-is, readRows, readValues, readPart}
 
 pub value-at : (fs : List Field) (os : List ℕ) (i : ℕ) → i < length fs → getD (valuesOf fs os) i 0 ≡ valueOf (twoOf (getD fs i noField)) (drop (fieldStart fs i) os)
 value-at [] os i h = absurd (omega arith)
 value-at (f ∷ fs) os zero h = refl
 value-at (f ∷ fs) os (suc i) h = value-at fs (drop (widthOf (twoOf f)) os) i (omega arith) ∙ simp drop-drop
 
-pub stand : {fs : List Field} {n s : ℕ} {f : Field} (os : List ℕ) → FieldStands fs n f s → numbered (placed (valuesOf fs os)) n ≡ valueOf (twoOf f) (drop s os)
-stand {fs} os t = rw (t .number, add-one, placed-at (valuesOf fs os) (t .place), value-at fs os (t .place) (t .within), t .there, t .start)
+-- by the field's octets: high octet first
+there : (f : Field) (os : List ℕ) (s : ℕ) → valueOf (twoOf f) (drop s os) ≡ valueThere f os s
+there (Octet least greatest) os s = value-one os s
+there (Two least greatest) os s = value-two os s
+there Order os s = value-one os s
 
-part-stands : (info : List ℕ) (h : Accepted info (readOf info)) {n s : ℕ} {f : Field} → (let m = readPart info h in FieldStands (rowsAt (numberIn m) (kOfMessage m)) n f s → numbered (m .values) n ≡ valueOf (twoOf f) (drop s (bodyIn info)))
+pub values-taken : ValuesTaken
+values-taken fs os j s f t =
+    let e : j ≡ t .place = omega (arith, t .number) in
+    rw (e, value-at fs os (t .place) (t .within), t .there, t .start) (there f os s)
+
+part-holds : (info : List ℕ) (h : Accepted info (readOf info)) → HoldsInfo info (readPart info h)
 unfolding partOf
-part-stands info h t = stand (bodyIn info) (rw (rows-is info h) at t)
+part-holds info h =
+    let vs = readValues info h in
+    record {
+      code = code-is info h;
+      fields = rw (rows-is info h);
+      values = λ j s f t. placed-at vs j ∙ values-taken (readRows info h) (bodyIn info) j s f (rw (rows-is info h) at t);
+      places = length-placed vs (rw length-values (rows-most _ _ (h .right .most)));
+      past = λ j l. placed-at vs j ∙ List·getD-eq-default vs 0 (rw length-values l);
+    }
 
 pub values-stand : ValuesStand
-values-stand info e n s f t = let h = accepted-in info e in rw (is-part info h) (part-stands info h (rw (is-part info h) at t))
+values-stand info e = let h = accepted-in info e in rw (is-part info h) (part-holds info h)

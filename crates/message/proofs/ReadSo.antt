@@ -8,19 +8,22 @@ use native.Mathlib.Omega.{arith}
 use borrow.Author.Tests.{le-leb, lt-ltb, leb-true, ltb-true}
 use lib.Dec.{leb, ltb}
 use lib.ListN.{length, getD, List·getD-eq-default}
-use Rattle.octets.specs.Part.{codeLen}
-use Rattle.octets.specs.Refusal as refusal
 use Rattle.octets.proofs.Laws.{both-left, both-right, clash}
 use Rattle.message.specs.declared.Read.{Read}
 use Rattle.message.specs.declared.layout.Field.{Field}
 use Rattle.message.specs.Layouts.{layouts, layoutAt, known, numberOf, rowsAt, kFits}
-use Rattle.message.specs.Values.{fieldsMost, sizeOf, valuesOf, placed, firstOut}
-use Rattle.message.specs.Reader.{notRead, readAs, kIn, partOf, rangedOf, readPartOf, codeIn, bodyIn, readOf}
-use Rattle.message.specs.Promises.{FirstWrong, HasLayout, RightLength, PartJudged, unknown, wrongLength, outOfRange, accepted, PartsReadSo, Judged, short, body, MessagesReadSo, FirstFieldNamed}
+use Rattle.message.specs.Values.{fieldsMost, sizeOf, valuesOf, zeros, placed, firstOut}
+use Rattle.message.specs.Reader.{noMessage, notRead, kIn, partOf, rangedOf, readPartOf, readOf}
+use Rattle.message.specs.Promises.{codeWord, afterCode, refusedReading, messageRead, FirstWrong, HasLayout, RightLength, PartJudged, unknown, wrongLength, outOfRange, accepted, PartsReadSo, Judged, short, body, MessagesReadSo, FirstFieldNamed}
 use Rattle.message.proofs.Layouts.{rows-most}
 use Rattle.message.proofs.Values.{length-values}
 use Rattle.message.proofs.Reading.{most-fits, part-10, part-k, part-length, part-done, ranged-12, ranged-done, read-11, read-body}
 use Rattle.message.proofs.Ranges.{both-true, placed-at, none-out, one-out, out-none, out-one, right-same, wrong-same}
+
+-- what a refused reading gives, by its fields
+not-read : (n field : ℕ) → refusedReading n field ≡ notRead n field
+unfolding zeros noMessage notRead
+not-read n field = refl
 
 pub known-in : (l : ℕ) → known l ≡ true → HasLayout l
 unfolding known
@@ -51,26 +54,26 @@ module _ (l k : ℕ) (os : List ℕ) where
   past : (j : ℕ) → length fs ≤ j → j < fieldsMost → getD (placed vs) j 0 ≡ 0
   past j h _ = placed-at vs j ∙ List·getD-eq-default vs 0 (rw length-values h)
 
-  part-read : 0 ≡ firstOut fs (placed vs) → readAs (partOf l k os) ≡ rangedOf l k os
+  part-read : 0 ≡ firstOut fs (placed vs) → messageRead (partOf l k os) ≡ rangedOf l k os
   unfolding partOf
   part-read z = ranged-done l k os (placed vs) 0 refl z refl refl refl
 
   parts-when : {r : Read} → PartJudged l k os r → r ≡ readPartOf l k os
   parts-when (unknown n) = by (known l) refl
     where
-      by : (b : Bool) → known l ≡ b → notRead refusal.codeNotHandled 0 ≡ readPartOf l k os
+      by : (b : Bool) → known l ≡ b → refusedReading 10 0 ≡ readPartOf l k os
       by true e = absurd (n (known-in l e))
-      by false e = part-10 l k os e
+      by false e = not-read 10 0 ∙ part-10 l k os e
   parts-when (wrongLength kn n) = by (kFits (layoutAt l) k) refl (ℕ-discrete (length os) (sizeOf fs))
     where
-      by : (b : Bool) → kFits (layoutAt l) k ≡ b → Dec (length os ≡ sizeOf fs) → notRead refusal.infoLengthWrong 0 ≡ readPartOf l k os
-      by false e d = part-k l k os (in-known l kn) e
-      by true e (no g) = part-length l k os (in-known l kn) e g
+      by : (b : Bool) → kFits (layoutAt l) k ≡ b → Dec (length os ≡ sizeOf fs) → refusedReading 11 0 ≡ readPartOf l k os
+      by false e d = not-read 11 0 ∙ part-k l k os (in-known l kn) e
+      by true e (no g) = not-read 11 0 ∙ part-length l k os (in-known l kn) e g
       by true e (yes p) = absurd (n (right e p))
   parts-when (outOfRange n kn r w) =
       let m = rows-most l k (r .most) in
       let e = one-out fs (placed vs) m past (wrong-same fs vs (placed vs) (λ j. sym (placed-at vs j)) w) in
-      ranged-12 l k os (placed vs) n refl (sym e) (λ z. absurd (omega (arith, w .number))) ∙ part-done l k os (in-known l kn) (k-in r) (r .octets)
+      not-read 12 n ∙ ranged-12 l k os (placed vs) n refl (sym e) (λ z. absurd (omega (arith, w .number))) ∙ part-done l k os (in-known l kn) (k-in r) (r .octets)
   parts-when (accepted kn r a) =
       let m = rows-most l k (r .most) in
       let e = none-out fs (placed vs) m past (λ j h. right-same fs vs (placed vs) (λ i. sym (placed-at vs i)) j (a j h)) in
@@ -83,7 +86,7 @@ module _ (l k : ℕ) (os : List ℕ) where
       (accepted kn r (λ j h. right-same fs (placed vs) vs (placed-at vs) j (out-none fs (placed vs) (rows-most l k (r .most)) past (sym e) j h)))
   ranged-then kn r (suc n) e =
       let w = rw (← e) at (out-one fs (placed vs) (rows-most l k (r .most)) past (λ z. absurd (omega (arith, e, z)))) in
-      subst (λ (r : Read). PartJudged l k os r) (ranged-12 l k os (placed vs) (suc n) refl e (λ z. absurd (omega arith)))
+      subst (λ (r : Read). PartJudged l k os r) (not-read 12 (suc n) ∙ ranged-12 l k os (placed vs) (suc n) refl e (λ z. absurd (omega arith)))
       (outOfRange (suc n) kn r (wrong-same fs (placed vs) vs (placed-at vs) w))
 
   parts-then : PartJudged l k os (readPartOf l k os)
@@ -93,9 +96,9 @@ module _ (l k : ℕ) (os : List ℕ) where
       judged e p = subst (λ (r : Read). PartJudged l k os r) e p
 
       by : (a : Bool) → known l ≡ a → (b : Bool) → kFits (layoutAt l) k ≡ b → Dec (length os ≡ sizeOf fs) → PartJudged l k os (readPartOf l k os)
-      by false e b f d = judged (part-10 l k os e) (unknown (λ kn. clash e (in-known l kn)))
-      by true e false f d = judged (part-k l k os e f) (wrongLength (known-in l e) (λ r. clash f (k-in r)))
-      by true e true f (no g) = judged (part-length l k os e f g) (wrongLength (known-in l e) (λ r. g (r .octets)))
+      by false e b f d = judged (not-read 10 0 ∙ part-10 l k os e) (unknown (λ kn. clash e (in-known l kn)))
+      by true e false f d = judged (not-read 11 0 ∙ part-k l k os e f) (wrongLength (known-in l e) (λ r. clash f (k-in r)))
+      by true e true f (no g) = judged (not-read 11 0 ∙ part-length l k os e f g) (wrongLength (known-in l e) (λ r. g (r .octets)))
       by true e true f (yes p) = judged (part-done l k os e f p) (ranged-then (known-in l e) (right f p) (firstOut fs (placed vs)) refl)
 
 pub parts-read-so : PartsReadSo
@@ -105,26 +108,25 @@ pub read-so : MessagesReadSo
 read-so info r = (when, λ e. rw e then′)
   where
     when : {r : Read} → Judged info r → r ≡ readOf info
-    when (short h) = read-11 info h
+    when (short h) = not-read 11 0 ∙ read-11 info h
     when (body h p) = parts-when _ _ _ p ∙ read-body info h refl refl refl
 
     then′ : Judged info (readOf info)
-    then′ = by (decLt (length info) codeLen)
+    then′ = by (decLt (length info) 2)
       where
-        by : Dec (length info < codeLen) → Judged info (readOf info)
-        by (yes l) = subst (λ (r : Read). Judged info r) (read-11 info l) (short l)
-        by (no g) = let h : codeLen ≤ length info = omega arith in subst (λ (r : Read). Judged info r) (read-body info h refl refl refl) (body h (parts-then _ _ _))
+        by : Dec (length info < 2) → Judged info (readOf info)
+        by (yes l) = subst (λ (r : Read). Judged info r) (not-read 11 0 ∙ read-11 info l) (short l)
+        by (no g) = let h : 2 ≤ length info = omega arith in subst (λ (r : Read). Judged info r) (read-body info h refl refl refl) (body h (parts-then _ _ _))
 
 -- what is refused 12 names the first field that is wrong
 module _ (info : List ℕ) where
   abbrev l : ℕ
-  l = numberOf (codeIn info)
+  l = numberOf (codeWord info)
 
   abbrev k : ℕ
-  k = kIn (layoutAt l) (bodyIn info)
+  k = kIn (layoutAt l) (afterCode info)
 
-  named : {r : Read} → Judged info r → r .refusal ≡ refusal.outOfRange → FirstWrong (rowsAt l k) (valuesOf (rowsAt l k) (bodyIn info)) (r .field)
-  unfolding notRead
+  named : {r : Read} → Judged info r → r .refusal ≡ 12 → FirstWrong (rowsAt l k) (valuesOf (rowsAt l k) (afterCode info)) (r .field)
   named (short h) e = absurd (omega arith)
   named (body h (unknown n)) e = absurd (omega arith)
   named (body h (wrongLength kn n)) e = absurd (omega arith)

@@ -6,16 +6,15 @@ use native.Mathlib.Omega.{arith}
 use lib.ListN.{length, getD, take, drop}
 use lib.Seq.{length-take-le, take-at, drop-at}
 use Rattle.octets.specs.Octet.{Octets}
-use Rattle.octets.specs.Refusal as refusal
 use Rattle.octets.specs.Writing.{Writing}
 use Rattle.octets.proofs.Laws.{word-back, high-word, low-word}
 use Rattle.message.specs.declared.Message.{Message}
 use Rattle.message.specs.declared.layout.Field.{Field}
 use Rattle.message.specs.Layouts.{layoutAt, numberOf, rowsAt}
 use Rattle.message.specs.Values.{fieldsMost, valuesOf, octetsOf, placed, numbered}
-use Rattle.message.specs.Reader.{readAs, kIn, partOf, readOf}
+use Rattle.message.specs.Reader.{kIn, partOf, readOf}
 use Rattle.message.specs.Writer.{numberIn, kOfMessage, infoAs, infoOf, writeMessage}
-use Rattle.message.specs.Promises.{PartJudged, accepted, Writable, MessageWriteJudged, fieldWrong, outputShort, written, ReadingMessagesUndoesWriting, WritingMessagesUndoesReading}
+use Rattle.message.specs.Promises.{messageRead, PartJudged, accepted, Writable, MessageWriteJudged, fieldWrong, outputShort, written, ReadingMessagesUndoesWriting, WritingMessagesUndoesReading}
 use Rattle.message.proofs.Fitting.{Fits, right-fits, values-back, placed-back, octets-back, octets-same}
 use Rattle.message.proofs.Layouts.{rows-most}
 use Rattle.message.proofs.Ranges.{placed-at, right-same}
@@ -59,22 +58,22 @@ module _ (m : Message) (long : length (m .values) ≡ fieldsMost) (w : Writable 
   unfolding partOf
   part = λ i. record { code = code-found (m .code) (w .listed .first) i; fields = sym (w .fields) i; values = all i }
 
-  read : PartJudged l k os (readAs m)
+  read : PartJudged l k os (messageRead m)
   read =
-      subst (λ (p : Message). PartJudged l k os (readAs p)) part
+      subst (λ (p : Message). PartJudged l k os (messageRead p)) part
       (accepted (w .listed) (record { fewest = w .fewest; most = w .most; octets = length-octets fs (m .values) })
       (λ j h. right-same fs (m .values) (valuesOf fs os) (λ i. sym (ap (λ (vs : List ℕ). getD vs i 0) all) ∙ placed-at (valuesOf fs os) i) j (w .ranges j (omega (arith, w .fields)))))
 
-  read-info : readOf (infoOf m) ≡ readAs m
+  read-info : readOf (infoOf m) ≡ messageRead m
   unfolding infoAs
   read-info =
-      sym (parts-read-so l k os (readAs m) .0 read
+      sym (parts-read-so l k os (messageRead m) .0 read
       ∙ read-body (infoOf m) (omega arith) (ap numberOf (sym (word-back (m .code)))) refl count)
 
 pub reading-undoes-writing : ReadingMessagesUndoesWriting
 reading-undoes-writing m at out long e = back (written-so m at out (writeMessage m at out) .1 refl) e
   where
-    back : {v : Writing} → MessageWriteJudged m at out v → v .answer .refusal ≡ refusal.none → readOf (take (v .answer .count) (drop at (v .out))) ≡ readAs m
+    back : {v : Writing} → MessageWriteJudged m at out v → v .answer .refusal ≡ 0 → readOf (take (v .answer .count) (drop at (v .out))) ≡ messageRead m
     back (fieldWrong n) e = absurd (omega arith)
     back (outputShort w h) e = absurd (omega arith)
     back (written w h) e =

@@ -9,15 +9,14 @@ use borrow.Author.Tests.{lt-leb, le-leb, leb-true, eq-eqb, eqb-true}
 use lib.Dec.{leb, eqb}
 use lib.ListN.{length, take, drop}
 use lib.Seq.{sets-eq}
-use Rattle.octets.specs.Refusal as refusal
-use Rattle.octets.specs.Writing.{Writing, nothingWritten, writtenAs}
+use Rattle.octets.specs.Writing.{Writing, writtenAs}
 use Rattle.octets.proofs.Laws.{both-left, both-right, clash, written-9}
 use Rattle.message.specs.declared.Message.{Message}
 use Rattle.message.specs.declared.layout.Field.{Field}
 use Rattle.message.specs.Layouts.{layoutAt, known, rowsAt, kFits}
 use Rattle.message.specs.Values.{fieldsMost, firstOut}
 use Rattle.message.specs.Writer.{numberIn, kOfMessage, writableAs, writable, infoOf, writeMessage}
-use Rattle.message.specs.Promises.{Writable, MessageWriteJudged, fieldWrong, outputShort, written, MessagesWrittenSo}
+use Rattle.message.specs.Promises.{Writable, noMessageWritten, MessageWriteJudged, fieldWrong, outputShort, written, MessagesWrittenSo}
 use Rattle.message.proofs.Layouts.{rows-most}
 use Rattle.message.proofs.Reading.{most-fits}
 use Rattle.message.proofs.Writing.{write-no, write-yes}
@@ -68,7 +67,7 @@ module _ (m : Message) (at : ℕ) (out : List ℕ) where
   vs = infoOf m
 
   abbrev stored : Writing
-  stored = record { answer = record { refusal = refusal.none; count = length vs }; out = take at out ++ (vs ++ drop (at + length vs) out) }
+  stored = record { answer = record { refusal = 0; count = length vs }; out = take at out ++ (vs ++ drop (at + length vs) out) }
 
   pub stored-as : at + length vs ≤ length out → stored ≡ writtenAs vs at out
   unfolding writtenAs
@@ -77,7 +76,7 @@ module _ (m : Message) (at : ℕ) (out : List ℕ) where
   when : {w : Writing} → MessageWriteJudged m at out w → w ≡ writeMessage m at out
   when (fieldWrong n) = by (writable m) refl
     where
-      by : (b : Bool) → writable m ≡ b → nothingWritten refusal.fieldWrong out ≡ writeMessage m at out
+      by : (b : Bool) → writable m ≡ b → noMessageWritten 5 out ≡ writeMessage m at out
       by true e = absurd (n (writable-in m e))
       by false e = write-no m at out e
   when (outputShort w h) = sym (written-9 vs out at refl (lt-leb (at + length vs) (length out) h)) ∙ write-yes m at out (in-writable m w)

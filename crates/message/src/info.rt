@@ -1,9 +1,8 @@
 // 01, "Messages": "The fields of a message are read left to right by a reader that holds the INFO octets and its place."
 ghost use mathlib.Core.Path.{_≡_};
-ghost use lib.ListN.{length, drop};
-ghost use Rattle.octets.specs.Part.{PartFrom};
+ghost use lib.ListN.{drop};
 ghost use Rattle.message.specs.Fields.{valueOf};
-ghost use Rattle.message.specs.Info.{readerAt, ahead, nextOctet, nextWord};
+ghost use Rattle.message.specs.Info.{readerAt, nextOctet, nextWord};
 
 // The octets, and the place at which the next field stands.
 pub struct Reader<'a> {
@@ -30,20 +29,6 @@ impl<'a> Reader<'a> {
         ensures { λ r. ⌜ r ≡ nextWord (self .entry) ⌝ }
     {
         word_at(self.src, self.at)
-    }
-
-    // How many octets are left.
-    pub fn left(self) -> usize
-        ensures { λ r. ⌜ r ≡ length (ahead (self .entry)) ⌝ }
-    {
-        left_at(self.src, self.at)
-    }
-
-    // The octets that are left, as a part.
-    pub fn rest(self) -> &'a [u8]
-        ensures { λ r. ⌜ PartFrom (self .entry .src) (self .entry .at) r ⌝ }
-    {
-        rest_at(self.src, self.at)
     }
 }
 
@@ -74,23 +59,4 @@ fn word_at(s: &[u8], at: usize) -> u16
         return 0;
     }
     octets::word(s[at], octet_at(s, at + 1))
-}
-
-fn left_at(s: &[u8], at: usize) -> usize
-    ensures { λ r. ⌜ r ≡ length (ahead (readerAt (s .entry) at)) ⌝ }
-{
-    if s.len() <= at {
-        return 0;
-    }
-    s.len() - at
-}
-
-fn rest_at<'a>(s: &'a [u8], at: usize) -> &'a [u8]
-    ensures { λ r. ⌜ PartFrom (s .entry) at r ⌝ }
-{
-    let end = s.len();
-    if end < at {
-        return &s[end..];
-    }
-    &s[at..]
 }

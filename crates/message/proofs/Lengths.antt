@@ -1,0 +1,107 @@
+-- Which lengths are refused 11, code by code: a code's layout, its count and its size are computed, and the reader's law does the rest.
+use Prim.Native.Nat.{ℕ, zero, suc, _+_, _*_, _≤_, _<_}
+use mathlib.Core.Path.{_≡_, refl, sym, ap, _∙_}
+use mathlib.Core.List.{List, [], _∷_}
+use native.Mathlib.Omega.{arith}
+use lib.ListN.{length, getD, drop}
+use lib.Seq.{drop-drop, getD-drop}
+use Rattle.octets.specs.First.{firstOf}
+use Rattle.octets.specs.Octet.{Octets}
+use Rattle.message.specs.declared.Read.{Read}
+use Rattle.message.specs.Layouts.{layouts, layoutAt, numberOf, rowsAt, layoutRows}
+use Rattle.message.specs.Values.{sizeOf, valuesOf}
+use Rattle.message.specs.Reader.{kIn, partOf, readOf}
+use Rattle.message.specs.Promises.{fieldsOf, refusedReading, messageRead, HasLayout, RightLength, RightAt, unknown, wrongLength, outOfRange, accepted, Judged, short, body, LengthOf, CountFixes, LengthsAsSaid, AnswersTakeAny}
+use Rattle.message.proofs.Values.{value-one}
+use Rattle.message.proofs.Numbers.{field-numbers}
+use Rattle.message.proofs.ReadSo.{read-so}
+
+module _ (high low : ℕ) where
+  abbrev l : ℕ
+  l = numberOf (high * 256 + low)
+
+  abbrev k : List ℕ → ℕ
+  k os = kIn (layoutAt l) os
+
+  module _ (kn : HasLayout l) where
+    length-of : {Right : List ℕ → Type 0} → ((os : List ℕ) → Right os → RightLength l (k os) os) → ((os : List ℕ) → RightLength l (k os) os → Right os)
+        → LengthOf high low Right
+    length-of {Right} to from =
+        record {
+          wrong = λ os n. sym (read-so (high ∷ low ∷ os) (refusedReading 11 0) .0 (body (omega arith) (wrongLength kn (λ r. n (from os r)))));
+          right = λ os r e. by os r (read-so (high ∷ low ∷ os) (readOf (high ∷ low ∷ os)) .1 refl) e;
+        }
+      where
+        by : (os : List ℕ) → Right os → {r : Read} → Judged (high ∷ low ∷ os) r → r .refusal ≡ 11 → ⊥
+        by os r (short h) e = omega arith
+        by os r (body h (unknown n)) e = omega arith
+        by os r (body h (wrongLength _ n)) e = n (to os r)
+        by os r (body h (outOfRange n _ _ w)) e = omega arith
+        by os r (body h (accepted _ _ a)) e = omega arith
+
+    read-right : (os : List ℕ) → RightLength l (k os) os → ((j : ℕ) → j < length (rowsAt l (k os)) → RightAt (rowsAt l (k os)) (valuesOf (rowsAt l (k os)) os) j)
+        → readOf (high ∷ low ∷ os) .refusal ≡ 0
+    read-right os r a = ap (λ (r : Read). r .refusal) (sym (read-so (high ∷ low ∷ os) (messageRead (partOf l (k os) os)) .0 (body (omega arith) (accepted kn r a))))
+
+    -- no field is repeated, so k is 0
+    plain : (n : ℕ) → layoutAt l .fewest ≡ 0 → layoutAt l .most ≡ 0 → ((os : List ℕ) → k os ≡ 0) → sizeOf (rowsAt l 0) ≡ n → LengthOf high low (λ os. length os ≡ n)
+    plain n a b ek es =
+        length-of (λ os e. record { fewest = omega (arith, a); most = omega (arith, ek os); octets = rw (ek os) (e ∙ sym es) })
+        (λ os r. rw (ek os) at (r .octets) ∙ es)
+
+    counted : (place once each : ℕ) → layoutAt l .fewest ≡ 1 → layoutAt l .most ≡ 8 → ((os : List ℕ) → k os ≡ getD os place 0) → ((k : ℕ) → sizeOf (rowsAt l k) ≡ once + each * k)
+        → LengthOf high low (CountFixes place once each)
+    counted place once each a b ek es =
+        length-of (λ os r. record { fewest = rw (a, ek os) (r .fewest); most = rw (b, ek os) (r .most); octets = rw (ek os) (r .octets ∙ sym (es (getD os place 0))) })
+        (λ os r.
+        record {
+          fewest = rw (a, ek os) at (r .fewest);
+          most = rw (b, ek os) at (r .most);
+          octets = (rw (ek os) at (r .octets)) ∙ es (getD os place 0);
+        })
+
+has : (l : ℕ) → 1 ≤ l → l < 14 → HasLayout l
+unfolding layouts
+has l a b = record { first = a; last = b }
+
+third : (os : List ℕ) → getD (drop 1 (drop 1 (drop 1 os))) 0 0 ≡ getD os 3 0
+third os = simp (drop-drop, getD-drop)
+
+pub lengths-as-said : LengthsAsSaid
+unfolding numberOf firstOf layouts layoutAt
+lengths-as-said =
+    record {
+      carriedOut = plain 0x0F 0x80 (has 1 (omega arith) (omega arith)) 2 refl refl (λ os. refl) (field-numbers .carriedOut .size);
+      refused = plain 0x0F 0x81 (has 2 (omega arith) (omega arith)) 4 refl refl (λ os. refl) (field-numbers .refused .size);
+      setTimes = counted 0x5F 0x14 (has 3 (omega arith) (omega arith)) 1 2 7 refl refl (λ os. value-one os 1) (λ k. field-numbers .setTimes k .size);
+      reportTimes = counted 0x5F 0xC4 (has 4 (omega arith) (omega arith)) 1 2 7 refl refl (λ os. value-one os 1) (λ k. field-numbers .reportTimes k .size);
+      setPlan = counted 0x5F 0x15 (has 5 (omega arith) (omega arith)) 3 8 2 refl refl third (λ k. field-numbers .setPlan k .size);
+      reportPlan = counted 0x5F 0xC5 (has 6 (omega arith) (omega arith)) 3 8 2 refl refl third (λ k. field-numbers .reportPlan k .size);
+      reportRunning = counted 0x5F 0xC8 (has 7 (omega arith) (omega arith)) 3 8 2 refl refl third (λ k. field-numbers .reportRunning k .size);
+      run = plain 0x5F 0x18 (has 8 (omega arith) (omega arith)) 1 refl refl (λ os. refl) (field-numbers .run .size);
+      queryTimes = plain 0x5F 0x44 (has 9 (omega arith) (omega arith)) 1 refl refl (λ os. refl) (field-numbers .queryTimes .size);
+      queryPlan = plain 0x5F 0x45 (has 10 (omega arith) (omega arith)) 1 refl refl (λ os. refl) (field-numbers .queryPlan .size);
+      queryRunning = plain 0x5F 0x48 (has 11 (omega arith) (omega arith)) 0 refl refl (λ os. refl) (ap sizeOf (field-numbers .queryRunning));
+    }
+
+-- every value that fits its octets is in range
+any-code : (a b : ℕ) → Octets (a ∷ b ∷ []) → (j : ℕ) → j < 1 → RightAt (fieldsOf 0x0F80 0) (valuesOf (fieldsOf 0x0F80 0) (a ∷ b ∷ [])) j
+unfolding numberOf firstOf layouts layoutAt rowsAt layoutRows
+any-code a b o zero h = (omega arith, omega (arith, o .0, o .1 .0))
+any-code a b o (suc j) h = absurd (omega arith)
+
+any-refusal : (a b e p : ℕ) → Octets (a ∷ b ∷ e ∷ p ∷ []) → (j : ℕ) → j < 3 → RightAt (fieldsOf 0x0F81 0) (valuesOf (fieldsOf 0x0F81 0) (a ∷ b ∷ e ∷ p ∷ [])) j
+unfolding numberOf firstOf layouts layoutAt rowsAt layoutRows
+any-refusal a b e p o zero h = (omega arith, omega (arith, o .0, o .1 .0))
+any-refusal a b e p o (suc zero) h = (omega arith, omega (arith, o .1 .1 .0))
+any-refusal a b e p o (suc (suc zero)) h = (omega arith, omega (arith, o .1 .1 .1 .0))
+any-refusal a b e p o (suc (suc (suc j))) h = absurd (omega arith)
+
+pub answers-take-any : AnswersTakeAny
+unfolding numberOf firstOf layouts layoutAt rowsAt layoutRows
+answers-take-any =
+    record {
+      carriedOut = λ a b o. read-right 0x0F 0x80 (has 1 (omega arith) (omega arith)) (a ∷ b ∷ []) (record { fewest = omega arith; most = omega arith; octets = refl }) (any-code a b o);
+      refused = λ a b e p o.
+          read-right 0x0F 0x81 (has 2 (omega arith) (omega arith)) (a ∷ b ∷ e ∷ p ∷ []) (record { fewest = omega arith; most = omega arith; octets = refl }) (any-refusal a b e p o);
+    }
