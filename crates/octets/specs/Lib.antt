@@ -7,3 +7,4 @@ pub mod Put
 pub mod Writing
 pub mod Part
 pub mod First
+pub mod Promises
