@@ -19,12 +19,27 @@ use Rattle.record.specs.Record.{ready, kOf}
 use Rattle.checks.specs.Standing.{timesDisagree, planDisagree, ranged, timesStand, planStands, readyStands, allZero, standingOf}
 use Rattle.plan.specs.BuiltIn.{padded, builtIn, PhaseSays, BuiltInIsSo}
 use Rattle.plan.specs.Setting.{notMade, timesRecord, readyRecord, timesField, timesMade, readyMade, keptAs, setFront, setOf}
-use Rattle.plan.specs.Cases.{setAnswers, dueSetAnswers, stands, dueStands, PlanCases}
+use Rattle.plan.specs.Cases.{setAnswers, dueSetAnswers, stands, dueStands, PlanCases, booksLeft, dueBooksLeft, failedTimes, dueFailedTimes, failedPlans, dueFailedPlans, SetCases}
 use Rattle.checks.proofs.Stands.{stands-as-it-is}
 
 pub plan-cases : PlanCases
 unfolding firstOf find directory diagramOf layouts layoutAt known numberOf rowsAt layoutRows zeros placed firstOut noMessage notRead partOf rangedOf readPartOf readOf timesDisagree planDisagree ranged timesStand planStands readyStands allZero standingOf padded notMade timesRecord readyRecord timesField timesMade readyMade keptAs setFront setOf setAnswers dueSetAnswers stands dueStands
 plan-cases = (refl, refl)
+
+books-left : booksLeft ≡ dueBooksLeft
+unfolding firstOf find directory diagramOf layouts layoutAt known numberOf rowsAt layoutRows zeros placed firstOut noMessage notRead partOf rangedOf readPartOf readOf timesDisagree planDisagree ranged timesStand planStands readyStands allZero standingOf padded notMade timesRecord readyRecord timesField timesMade readyMade keptAs setFront setOf booksLeft dueBooksLeft
+books-left = refl
+
+failed-times : failedTimes ≡ dueFailedTimes
+unfolding firstOf find directory diagramOf layouts layoutAt known numberOf rowsAt layoutRows zeros placed firstOut noMessage notRead partOf rangedOf readPartOf readOf timesDisagree planDisagree ranged timesStand planStands readyStands allZero standingOf padded notMade timesRecord readyRecord timesField timesMade readyMade keptAs setFront setOf failedTimes dueFailedTimes
+failed-times = refl
+
+failed-plans : failedPlans ≡ dueFailedPlans
+unfolding firstOf find directory diagramOf layouts layoutAt known numberOf rowsAt layoutRows zeros placed firstOut noMessage notRead partOf rangedOf readPartOf readOf timesDisagree planDisagree ranged timesStand planStands readyStands allZero standingOf padded notMade timesRecord readyRecord timesField timesMade readyMade keptAs setFront setOf failedPlans dueFailedPlans
+failed-plans = refl
+
+pub set-cases : SetCases
+set-cases = (books-left, failed-times, failed-plans)
 
 pub built-in-stands : standingOf builtIn ≡ ready
 unfolding firstOf find directory diagramOf layouts layoutAt known rowsAt layoutRows zeros placed firstOut noMessage notRead partOf rangedOf readPartOf timesDisagree planDisagree ranged timesStand planStands readyStands allZero standingOf padded builtIn
@@ -45,6 +60,9 @@ unfolding padded builtIn allOctets
 built-in-is-so =
     record {
       stands = stands-as-it-is builtIn (octets-in builtIn refl) .readyFrom built-in-stands;
+      octets = refl;
+      state = refl;
+      count = refl;
       each = each;
       cycle = refl;
       offset = refl;

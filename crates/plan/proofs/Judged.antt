@@ -1,19 +1,24 @@
--- Refusals 8, 12 and 13 of reading a plan come when, and only when, 01 says.
-use Prim.Native.Nat.{ℕ, _≤_}
-use mathlib.Core.Path.{_≡_, refl, sym, subst, _∙_}
+-- Refusals 8, 12 and 13 of reading a plan come when, and only when, 01 says, and the part is then empty; each other way gives the part that it names.
+use Prim.Native.Nat.{ℕ, _+_, _*_, _-_, _≤_}
+use mathlib.Core.Path.{_≡_, refl, sym, ap, subst, _∙_}
 use mathlib.Core.Bool.{Bool, true, false}
-use mathlib.Core.List.{List}
+use mathlib.Core.List.{List, []}
+use native.Mathlib.Nat.{zero-add}
 use native.Mathlib.Decide.{decLe, ℕ-discrete}
 use native.Mathlib.Omega.{arith}
-use lib.ListN.{length}
+use borrow.Author.Tests.{eq-eqb, ne-eqb}
+use lib.ListN.{length, take, drop}
+use lib.Seq.{take-all}
+use denote.Ref.{RefT, now}
 use Rattle.octets.specs.Octet.{Octets}
+use Rattle.octets.specs.Part.{PartOf}
 use Rattle.octets.specs.Refusal as refusal
 use Rattle.octets.proofs.Laws.{clash}
 use Rattle.record.specs.Record.{recordLen, plansMost, bookLen, empty}
 use Rattle.checks.specs.Standing.{standingOf}
 use Rattle.plan.specs.BuiltIn.{builtIn}
-use Rattle.plan.specs.Reading.{recordStart, recordAt, same, readRefusal}
-use Rattle.plan.specs.Promises.{ReadingJudged, wrongLength, overRange, unlike, emptyPlan, builtInRead, bookRead, PlansReadSo}
+use Rattle.plan.specs.Reading.{recordStart, recordAt, same, readRefusal, PartRead, PlanRead}
+use Rattle.plan.specs.Promises.{ReadingJudged, wrongLength, overRange, unlike, emptyPlan, builtInRead, bookRead, PlansReadSo, PartGiven, PartsGivenSo}
 use Rattle.plan.proofs.Readying.{stands-has, has-stands}
 use Rattle.plan.proofs.Laws.{same-is, is-same, length-built-in, octets-part, refused-book, refused-copy, refused-range, read-zero, refused-zero, refused-empty, read-set}
 
@@ -72,3 +77,47 @@ plans-read-so book copy p n o = (
   when book copy p o,
   λ e. subst (ReadingJudged book copy p) (sym e) (only-then book copy p o (ℕ-discrete (length book) bookLen) (ℕ-discrete (length copy) recordLen)),
 )
+
+-- The part
+
+module _ (book copy r : RefT (List ℕ)) (p : ℕ) (o : Octets (now book)) (h : PartRead book copy p r) where
+  abbrev why : ℕ
+  why = readRefusal (now book) (now copy) p
+
+  judged : ReadingJudged (now book) (now copy) p why
+  judged = plans-read-so (now book) (now copy) p why o .1 refl
+
+  part-refused : (why ≡ 0 → ⊥) → now r ≡ []
+  part-refused n = (rw (ne-eqb why 0 n) at h) .octets
+
+  module _ (e : why ≡ 0) where
+    is-built-in : {n : ℕ} → ReadingJudged (now book) (now copy) p n → n ≡ 0 → p ≡ 0 → now copy ≡ builtIn
+    is-built-in (wrongLength n) e z = absurd (omega arith)
+    is-built-in (overRange b q l) e z = absurd (omega arith)
+    is-built-in (unlike b q z n) e z′ = absurd (omega arith)
+    is-built-in (emptyPlan b q l m t) e z = absurd (omega arith)
+    is-built-in (builtInRead b z c) e z′ = c
+    is-built-in (bookRead b q l m t) e z = absurd (omega arith)
+
+    all-of-copy : p ≡ 0 → (r .ptr ≡ copy .ptr) × (now r ≡ now copy) × (now copy ≡ builtIn)
+    all-of-copy z =
+        let c = is-built-in judged e z in
+        let g : PartOf copy 0 recordLen r = rw (eq-eqb why 0 e, eq-eqb p 0 z) at h in
+        let l : length (now copy) ≤ 80 = omega (arith, ap length c, length-built-in) in
+        (g .place ∙ rw zero-add, g .octets ∙ take-all 80 (now copy) l, c)
+
+    of-book : 1 ≤ p → (r .ptr ≡ (book .ptr .0, 80 * (p - 1) + book .ptr .1)) × (now r ≡ take 80 (drop (80 * (p - 1)) (now book)))
+    of-book l =
+        let n : p ≡ 0 → ⊥ = λ z. omega arith in
+        let g : PartOf book (recordStart p) recordLen r = rw (eq-eqb why 0 e, ne-eqb p 0 n) at h in
+        (g .place, g .octets)
+
+pub parts-given-so : PartsGivenSo
+parts-given-so book copy r p why o h =
+    rw (h .refusal)
+    (record {
+      judged = judged book copy r p o (h .part);
+      refused = part-refused book copy r p o (h .part);
+      builtInAll = all-of-copy book copy r p o (h .part);
+      ofBook = of-book book copy r p o (h .part);
+    })

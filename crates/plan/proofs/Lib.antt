@@ -8,4 +8,6 @@ pub mod Keeping
 pub mod Telling
 pub mod Reportable
 pub mod Judged
+pub mod Numbers
+pub mod Reported
 pub mod Only

@@ -3,12 +3,12 @@ use Prim.Native.Nat.{ℕ, zero, suc, _+_, _*_, _-_, _≤_, _<_}
 use mathlib.Core.Path.{_≡_, refl, sym, ap, subst, _∙_}
 use mathlib.Core.Bool.{Bool, true, false, not}
 use mathlib.Core.Logic.{_⊎_, inl, inr}
-use mathlib.Core.List.{List, [], _∷_, _++_}
+use mathlib.Core.List.{List, [], _∷_, _++_, append-assoc}
 use native.Mathlib.Decide.{decLt, ℕ-discrete}
 use native.Mathlib.Omega.{arith}
 use borrow.Author.Tests.{eq-eqb, ne-eqb, eqb-true, eqb-false, leb-true, leb-false, not-true, not-false}
 use lib.Dec.{eqb, leb}
-use lib.ListN.{length, getD, take, drop, length-drop, length-append}
+use lib.ListN.{length, getD, take, drop, replicate, length-drop, length-append}
 use lib.Seq.{sets, drop-drop, getD-drop, length-take-le}
 use Rattle.octets.specs.First.{First, firstOf}
 use Rattle.octets.specs.Octet.{Octets}
@@ -17,13 +17,14 @@ use Rattle.octets.specs.Word.{wordOf}
 use Rattle.octets.proofs.Laws.{clash}
 use Rattle.diagram.specs.Table.{phasesOf}
 use Rattle.message.specs.Layouts.{layouts, layoutAt, numberOf, rowsAt, layoutRows, repeated, greens, cycleOffset}
-use Rattle.message.specs.Names.{planAt, planCountAt, offsetAt}
+use Rattle.message.specs.Names.{planAt, planCountAt}
 use Rattle.message.specs.Reader.{kIn, codeIn, bodyIn, readOf}
 use Rattle.message.proofs.Values.{size-append, size-repeated}
 use Rattle.plan.specs.declared.setting.Answered.{Answered}
 use Rattle.plan.specs.declared.setting.NewRecord.{NewRecord}
 use Rattle.record.specs.Record.{recordLen, bookLen, plansMost, empty, timesSet, ready, octetAt, wordAt, stateOf, kOf, timesAt, timesEnd, greensAt, readyEnd, minimumOf, maximumOf, yellowOf, allRedOf, directOf, orderOf, greenOf, cycleOf, offsetOf, sumOf, Within, TimesFit, AllTimesFit, TimesSet, Ready}
 use Rattle.checks.specs.Standing.{between, greenFails, planFails, planChecks, planDisagree, standingOf, Stands}
+use Rattle.plan.specs.BuiltIn.{padded}
 use Rattle.plan.specs.Reading.{recordStart, recordAt}
 use Rattle.plan.specs.Setting.{planIn, countIn, Setting, answered, made, notMade, readyRecord, planField, readyMade, keptAs, setOf, setPlanCode, setPlanOf}
 use Rattle.plan.specs.Promises.{directIn, orderIn, greenIn, cycleIn, offsetIn, sumIn, Ranges15, HasTimes, CountAgrees, GreenAgrees, Fit15, Disagrees15, count, green, cycle, offset, RecordStored, SameTimes, Holds15, PlanJudged, PlanStoredExactlyWhen}
@@ -32,6 +33,9 @@ use Rattle.checks.proofs.Fields.{at-one, within, inside, Pass, Read1, greens-in
 use Rattle.checks.proofs.Stands.{PlanAgrees, plan-first, plan-agrees, agrees-plan, green-within, within-green, check-green, check-cycle, check-offset, stands-as-it-is}
 use Rattle.plan.proofs.Sets.{read-plan, plan-body, padded-at, padded-long, padded-rest, ready-times, ready-two, ready-rest, ready-k}
 use Rattle.plan.proofs.Storing.{stored-here, set-read, set-unread, kept-made, kept-not-made, is-read, long-enough, same-times, same-fit}
+
+one-run : (x : ℕ) (xs ys zs ws : List ℕ) → (x ∷ (xs ++ (ys ++ zs))) ++ ws ≡ x ∷ (xs ++ (ys ++ (zs ++ ws)))
+one-run x xs ys zs ws = ap (λ (l : List ℕ). x ∷ l) (append-assoc xs (ys ++ zs) ws ∙ ap (λ (l : List ℕ). xs ++ l) (append-assoc ys zs ws))
 
 -- The ranges
 
@@ -224,9 +228,17 @@ module _ (old body : List ℕ) (h : HasTimes old) (r : Ranges15 body) (e : count
               padded-rest (ready ∷ (between 1 (timesEnd old) old ++ (between 1 3 body ++ drop 4 body))) (readyEnd m) (omega (arith, m-len, r .long, e, m-k));
         }
 
+    m-octets : m ≡ 0x02 ∷ (take (1 + 7 * k) (drop 1 old) ++ (take 2 (drop 1 body) ++ (drop 4 body ++ replicate (72 - 9 * k) 0)))
+    unfolding readyRecord padded
+    m-octets =
+        let z : recordLen - length (ready ∷ (between 1 (timesEnd old) old ++ (between 1 3 body ++ drop 4 body))) ≡ 72 - 9 * k = omega (arith, m-len, r .long, e) in
+        let a : timesEnd old - 1 ≡ 1 + 7 * k = omega arith in
+        rw (z, a) (one-run ready (take (1 + 7 * k) (drop 1 old)) (take 2 (drop 1 body)) (drop 4 body) (replicate (72 - 9 * k) 0))
+
     pub m-holds : Holds15 old body m
     m-holds =
         record {
+          octets = m-octets;
           stands = m-ready;
           count = m-k;
           times = m-times;
@@ -272,7 +284,7 @@ module _ (old body : List ℕ) (h : HasTimes old) (r : Ranges15 body) (e : count
           go : Dec (n ≡ 1) → Dec (kOf m + 1 < n) → Dec (n ≡ kOf m + 2) → Disagrees15 old body (planField n)
           go (yes z) d d′ =
               let x = eqb-false (kOf m) (phasesOf (orderOf m)) (not-true (eqb (kOf m) (phasesOf (orderOf m))) (f .here 0 (omega arith))) in
-              let q : planCountAt ≡ planField n = omega arith in
+              let q : 4 ≡ planField n = omega arith in
               subst (Disagrees15 old body) q (count (λ a. x (m-k ∙ (sym e ∙ (a .diagram ∙ ap phasesOf (sym m-order))))))
           go (no z) (no d) d′ =
               let i : ℕ = n - 2 in
@@ -288,7 +300,7 @@ module _ (old body : List ℕ) (h : HasTimes old) (r : Ranges15 body) (e : count
               (cycle (counted n f (omega arith)) (λ j l. greened n f j (omega (arith, m-k, e)) (omega (arith, e))) (λ y. x (m-cycle ∙ (y ∙ sym m-total))))
           go (no z) (yes d) (no c) =
               let n3 : n ≡ kOf m + 3 = omega (arith, f .within) in
-              let q : offsetAt (countIn body) ≡ planField n = omega (arith, m-k, e) in
+              let q : 6 + countIn body ≡ planField n = omega (arith, m-k, e) in
               let x = leb-true (cycleOf m) (offsetOf m) (sym (check-offset m) ∙ f .here (kOf m + 2) (omega arith)) in
               subst (Disagrees15 old body) q
               (offset (counted n f (omega arith)) (λ j l. greened n f j (omega (arith, m-k, e)) (omega (arith, e))) (summed n f (omega arith))
@@ -419,6 +431,7 @@ module _ (book info : List ℕ) (hb : length book ≡ bookLen) (ob : Octets book
             (m-long old os (f .set) (f .ranges) (f .count .stored) (f .count .diagram) (f .green) (f .cycle) (f .offset)));
         holds = λ f. m-holds old os (f .set) (f .ranges) (f .count .stored) (f .count .diagram) (f .green) (f .cycle) (f .offset);
         accepted = λ f. ap (λ (w : Setting). w .answer .refusal) (fit-done f);
+        noneNamed = λ f. ap (λ (w : Setting). w .answer .field) (fit-done f);
         only = only way;
         kept = kept way;
         unread = λ n.

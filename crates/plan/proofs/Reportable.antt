@@ -1,6 +1,6 @@
 -- Every report of a plan is a message: the reader reads its octets, nothing refused, and so the writer writes it.
 use Prim.Native.Nat.{ℕ, _+_, _*_, _-_, _≤_, _<_}
-use mathlib.Core.Path.{_≡_, refl, sym, subst, _∙_}
+use mathlib.Core.Path.{_≡_, refl, sym, ap, subst, _∙_}
 use mathlib.Core.Bool.{true, false}
 use mathlib.Core.Logic.{_⊎_, inl, inr}
 use mathlib.Core.List.{List, [], _∷_, _++_}
@@ -16,8 +16,9 @@ use Rattle.octets.proofs.Laws.{word-back}
 use Rattle.message.specs.declared.layout.Field.{Field}
 use Rattle.message.specs.Fields as field
 use Rattle.message.specs.Layouts.{layouts, layoutAt, numberOf, rowsAt, layoutRows, counted, repeated, times, greens, cycleOffset}
-use Rattle.message.specs.Values.{sizeOf}
-use Rattle.message.specs.Reader.{noMessage, kIn, readOf}
+use Rattle.message.specs.declared.Read.{Read}
+use Rattle.message.specs.Values.{sizeOf, zeros}
+use Rattle.message.specs.Reader.{noMessage, readAs, kIn, partOf, readOf}
 use Rattle.message.specs.Writer.{writable}
 use Rattle.message.specs.Promises.{HasLayout}
 use Rattle.message.proofs.Accepted.{accepted-in, is-part, again, readPart}
@@ -27,11 +28,11 @@ use Rattle.record.specs.Record.{bookLen, plansMost, empty, ready, kOf, timesEnd
 use Rattle.checks.specs.Standing.{between, standingOf}
 use Rattle.plan.specs.Reading.{recordStart, recordAt}
 use Rattle.plan.specs.Reporting.{reportPlanCode, reportRunningCode, timesInfo, planInfo, reportTimesOf, reportsPlan, reportPlanOf}
-use Rattle.plan.specs.Promises.{ReportsRead}
+use Rattle.plan.specs.Promises.{NoReport, ReportsRead}
 use Rattle.checks.proofs.Laws.{stands-long}
 use Rattle.checks.proofs.Fields.{at-one, inside, Pass, Read1, pass-part}
 use Rattle.checks.proofs.Stands.{part-long, times-pass, times-fit, plan-pass, some-long, some-times, ready-plan}
-use Rattle.plan.proofs.Storing.{is-read}
+use Rattle.plan.proofs.Storing.{read-as}
 use Rattle.plan.proofs.Reports.{times-none, times-told, plan-none, plan-other, plan-told}
 
 module _ (rec : List ℕ) (p : ℕ) (hp : p ≤ plansMost) (n : standingOf rec ≡ empty → ⊥) where
@@ -67,12 +68,16 @@ module _ (rec : List ℕ) (p : ℕ) (hp : p ≤ plansMost) (n : standingOf rec �
   unfolding layoutAt layouts
   times-count = getD-take (timesEnd rec - 1) (drop 1 rec) 0 0 (omega arith) ∙ getD-drop 1 rec 0 0
 
-  times-read : (readOf (timesInfo rec p) .refusal ≡ refusal.none) × (reportTimesOf rec p ≡ readOf (timesInfo rec p) .message)
+  times-as : readOf (timesInfo rec p) ≡ readAs (partOf 4 k timesBody)
   unfolding timesInfo numberOf firstOf layoutAt layouts
-  times-read = (
-    is-read (0x5F ∷ 0xC4 ∷ timesBody) 4 k refl times-count (omega arith) (record { first = omega arith; last = omega arith }) times-body,
-    sym (times-told rec p refl n refl refl refl refl),
-  )
+  times-as = read-as (0x5F ∷ 0xC4 ∷ timesBody) 4 k refl times-count (omega arith) (record { first = omega arith; last = omega arith }) times-body
+
+  times-read : (readOf (timesInfo rec p) .refusal ≡ refusal.none) × (reportTimesOf rec p ≡ readOf (timesInfo rec p) .message)
+  unfolding timesInfo
+  times-read = (ap (λ (r : Read). r .refusal) times-as, sym (times-told rec p refl n refl refl refl refl))
+
+  pub times-part : reportTimesOf rec p ≡ partOf 4 k timesBody
+  times-part = times-read .1 ∙ ap (λ (r : Read). r .message) times-as
 
   -- 5F C5 and 5F C8
 
@@ -113,12 +118,20 @@ module _ (rec : List ℕ) (p : ℕ) (hp : p ≤ plansMost) (n : standingOf rec �
               );
         }
 
+    plan-as : readOf (planInfo rec p code) ≡ readAs (partOf l k planBody)
+    unfolding planInfo
+    plan-as = read-as (highOf code ∷ lowOf code ∷ planBody) l k (rw word-back el) (rw ey) (omega arith) kn plan-body
+
     plan-read : reportsPlan code ≡ true → (readOf (planInfo rec p code) .refusal ≡ refusal.none) × (reportPlanOf rec p code ≡ readOf (planInfo rec p code) .message)
     unfolding planInfo
-    plan-read t = (
-      is-read (highOf code ∷ lowOf code ∷ planBody) l k (rw word-back el) (rw ey) (omega arith) kn plan-body,
-      sym (plan-told rec p refl code h refl t refl refl refl refl refl refl refl refl),
-    )
+    plan-read t = (ap (λ (r : Read). r .refusal) plan-as, sym (plan-told rec p refl code h refl t refl refl refl refl refl refl refl refl))
+
+    pub plan-part : reportsPlan code ≡ true → reportPlanOf rec p code ≡ partOf l k planBody
+    plan-part t = plan-read t .1 ∙ ap (λ (r : Read). r .message) plan-as
+
+no-report : NoReport noMessage
+unfolding noMessage zeros
+no-report = refl
 
 pub reports-read : ReportsRead
 unfolding numberOf firstOf layoutAt layouts
@@ -126,14 +139,14 @@ reports-read rec p hp =
     record {
       times = times-read rec p hp;
       plan = by;
-      noTimes = λ z. sym (times-none rec p refl z refl);
-      noPlan = λ code n. sym (plan-none rec p refl code n refl);
+      noTimes = λ z. sym (times-none rec p refl z refl) ∙ no-report;
+      noPlan = λ code n. sym (plan-none rec p refl code n refl) ∙ no-report;
       otherCode = λ code a b. none code (rw (ne-eqb code reportPlanCode a, ne-eqb code reportRunningCode b)) (ℕ-discrete (standingOf rec) ready);
     }
   where
-    none : (code : ℕ) → false ≡ reportsPlan code → Dec (standingOf rec ≡ ready) → reportPlanOf rec p code ≡ noMessage
-    none code t (yes h) = sym (plan-other rec p refl code h t refl refl)
-    none code t (no n) = sym (plan-none rec p refl code n refl)
+    none : (code : ℕ) → false ≡ reportsPlan code → Dec (standingOf rec ≡ ready) → NoReport (reportPlanOf rec p code)
+    none code t (yes h) = sym (plan-other rec p refl code h t refl refl) ∙ no-report
+    none code t (no n) = sym (plan-none rec p refl code n refl) ∙ no-report
 
     some : standingOf rec ≡ ready → standingOf rec ≡ empty → ⊥
     some h z = absurd (omega arith)

@@ -7,7 +7,7 @@ use native.Mathlib.Decide.{decLt, ℕ-discrete}
 use native.Mathlib.Omega.{arith}
 use borrow.Author.Tests.{eq-eqb, ne-eqb, ltb-true, ltb-false, leb-true, leb-false}
 use lib.Dec.{eqb}
-use lib.ListN.{length, getD, take, drop, length-take, length-drop, length-append, take-append-drop, List·getD-eq-default}
+use lib.ListN.{length, getD, take, drop, replicate, length-take, length-drop, length-append, take-append-drop, List·getD-eq-default}
 use lib.Seq.{sets, sets-eq, length-sets, drop-drop, drop-at, take-at, drop-append-le, take-append-le, drop-append-add, getD-drop, length-take-le}
 use Rattle.octets.specs.First.{First, firstOf}
 use Rattle.octets.specs.Octet.{Octets}
@@ -16,6 +16,7 @@ use Rattle.octets.specs.Refusal as refusal
 use Rattle.octets.proofs.Laws.{clash}
 use Rattle.message.specs.declared.Read.{Read}
 use Rattle.message.specs.Layouts.{layouts, layoutAt, numberOf, rowsAt, layoutRows, repeated, times}
+use Rattle.message.specs.Names.{maximumAt, redManAt}
 use Rattle.message.specs.Reader.{readAs, partOf, kIn, codeIn, bodyIn, readOf}
 use Rattle.message.specs.Promises.{HasLayout, Judged, body, accepted}
 use Rattle.message.proofs.ReadSo.{read-so}
@@ -176,12 +177,14 @@ module _ (body : List ℕ) where
       by n f h (yes e) =
           let i : ℕ = (n - 1) / 2 in
           let q : 2 * i + 1 ≡ n = omega arith in
-          subst (Disagrees14 body) (field-maximum n i refl e)
+          let number : 4 + 6 * i ≡ maximumAt i = omega arith in
+          subst (Disagrees14 body) (number ∙ field-maximum n i refl e)
           (maximum i (omega (arith, f .within)) (agrees-before n f i (omega arith)) (ltb-true (maximumOf body i) (minimumOf body i) (sym (check-maximum body i) ∙ f .here (2 * i) q)))
       by n f h (no ne) =
           let i : ℕ = (n - 1) / 2 in
           let q : 2 * i + 1 + 1 ≡ n = omega arith in
-          subst (Disagrees14 body) (field-redman n i refl ne)
+          let number : 8 + 6 * i ≡ redManAt i = omega arith in
+          subst (Disagrees14 body) (number ∙ field-redman n i refl ne)
           (redMan i (omega (arith, f .within)) (agrees-before n f i (omega arith))
           (ltb-false (maximumOf body i) (minimumOf body i) (sym (check-maximum body i) ∙ f .before (2 * i) (omega arith)))
           (leb-true (minimumOf body i) (walkFlashOf body i + redManOf body i) (sym (check-redman body i) ∙ f .here (2 * i + 1) q)))
@@ -227,10 +230,17 @@ module _ (body : List ℕ) (f : Fit14 body) where
   unfolding timesRecord
   record-long = padded-long (timesSet ∷ drop 1 body) (omega (arith, length-drop 1 body, f .long, f .times .count .most))
 
+  record-octets : rec ≡ 0x01 ∷ (drop 1 body ++ replicate (78 - 7 * kOf body) 0)
+  unfolding timesRecord padded
+  record-octets =
+      let e : recordLen - length (timesSet ∷ drop 1 body) ≡ 78 - 7 * kOf body = omega (arith, length-drop 1 body, f .long) in
+      ap (λ (n : ℕ). 0x01 ∷ (drop 1 body ++ replicate n 0)) e
+
   pub times-holds : Holds14 body rec
   unfolding timesRecord
   times-holds =
       record {
+        octets = record-octets;
         stands =
             record {
               long = record-long;
@@ -319,6 +329,7 @@ module _ (book info : List ℕ) (hb : length book ≡ bookLen) (hc : codeIn info
             (stored-here book (planIn os) (timesRecord os) hb (f .plan .least) (f .plan .most) (record-long os f));
         holds = λ f. times-holds os f;
         accepted = λ f. ap (λ (w : Setting). w .answer .refusal) (fit-stored f);
+        noneNamed = λ f. ap (λ (w : Setting). w .answer .field) (fit-stored f);
         only = only way;
         kept = kept way;
         unread = λ n.

@@ -32,8 +32,13 @@ pub record PhaseSays (rec : List ℕ) (i : ℕ) : Type 0 where
   pub minimum : minimumOf rec i ≡ 10
   pub maximum : maximumOf rec i ≡ 90
 
+-- and its 80 octets: 02, two phases, the times of each, direct and order, both greens, cycle, offset, the rest zero
 pub record PlanZero (rec : List ℕ) : Type 0 where
   pub stands : Ready rec
+  pub octets : rec
+      ≡ (2 ∷ 2 ∷ 10 ∷ 0 ∷ 90 ∷ 3 ∷ 2 ∷ 5 ∷ 2 ∷ 10 ∷ 0 ∷ 90 ∷ 3 ∷ 2 ∷ 5 ∷ 2 ∷ 0 ∷ 0 ∷ 0 ∷ 25 ∷ 0 ∷ 25 ∷ 0 ∷ 60 ∷ 0 ∷ 0 ∷ []) ++ replicate 54 0
+  pub state : stateOf rec ≡ 0x02
+  pub count : kOf rec ≡ 2
   pub each : (i : ℕ) → i < kOf rec → PhaseSays rec i
   pub cycle : cycleOf rec ≡ 60
   pub offset : offsetOf rec ≡ 0

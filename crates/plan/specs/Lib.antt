@@ -3,4 +3,6 @@ pub mod Reading
 pub mod Setting
 pub mod Reporting
 pub mod Promises
+pub mod Numbers
+pub mod Reported
 pub mod Cases
