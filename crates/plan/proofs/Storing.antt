@@ -16,7 +16,6 @@ use Rattle.octets.specs.Refusal as refusal
 use Rattle.octets.proofs.Laws.{clash}
 use Rattle.message.specs.declared.Read.{Read}
 use Rattle.message.specs.Layouts.{layouts, layoutAt, numberOf, rowsAt, layoutRows, repeated, times}
-use Rattle.message.specs.Names.{maximumAt, redManAt}
 use Rattle.message.specs.Reader.{readAs, partOf, kIn, codeIn, bodyIn, readOf}
 use Rattle.message.specs.Promises.{HasLayout, Judged, body, accepted}
 use Rattle.message.proofs.ReadSo.{read-so}
@@ -177,14 +176,14 @@ module _ (body : List ℕ) where
       by n f h (yes e) =
           let i : ℕ = (n - 1) / 2 in
           let q : 2 * i + 1 ≡ n = omega arith in
-          let number : 4 + 6 * i ≡ maximumAt i = omega arith in
-          subst (Disagrees14 body) (number ∙ field-maximum n i refl e)
+          let number : 4 + 6 * i ≡ timesField n = omega (arith, field-maximum n i refl e) in
+          subst (Disagrees14 body) number
           (maximum i (omega (arith, f .within)) (agrees-before n f i (omega arith)) (ltb-true (maximumOf body i) (minimumOf body i) (sym (check-maximum body i) ∙ f .here (2 * i) q)))
       by n f h (no ne) =
           let i : ℕ = (n - 1) / 2 in
           let q : 2 * i + 1 + 1 ≡ n = omega arith in
-          let number : 8 + 6 * i ≡ redManAt i = omega arith in
-          subst (Disagrees14 body) (number ∙ field-redman n i refl ne)
+          let number : 8 + 6 * i ≡ timesField n = omega (arith, field-redman n i refl ne) in
+          subst (Disagrees14 body) number
           (redMan i (omega (arith, f .within)) (agrees-before n f i (omega arith))
           (ltb-false (maximumOf body i) (minimumOf body i) (sym (check-maximum body i) ∙ f .before (2 * i) (omega arith)))
           (leb-true (minimumOf body i) (walkFlashOf body i + redManOf body i) (sym (check-redman body i) ∙ f .here (2 * i + 1) q)))
