@@ -6,7 +6,6 @@ mod soundness;
 mod stepper;
 
 ghost use mathlib.Core.Path.{_≡_};
-ghost use Rattle.controller.specs.State.{soundOf};
 ghost use Rattle.controller.specs.Replies.{CallLeaves, quiet, octetOf, lineIdleOf};
 ghost use Rattle.controller.specs.Seconds.{startedOf, noSecond, secondOf};
 use codec::decoder;
@@ -44,13 +43,6 @@ pub fn fresh(own: u16) -> Started
         refusal: refusal::NONE,
         state,
     }
-}
-
-// Is the state one that calls can be made with?
-pub fn sound(s: State) -> bool
-    ensures { λ r. ⌜ r ≡ soundOf s ⌝ }
-{
-    soundness::stands(s)
 }
 
 // Takes one octet from the line. What it ends is carried out on the book and replied to in the output.

@@ -1,17 +1,15 @@
 -- What follows from the definitions of specs/Table.antt, one law a way.
 use Prim.Native.Nat.{ℕ, zero, suc, _+_, _-_, _≤_, _<_}
-use mathlib.Core.Path.{_≡_, refl, sym, ap, _∙_}
+use mathlib.Core.Path.{_≡_, sym, ap, _∙_}
 use mathlib.Core.List.{List, [], _∷_, map}
-use native.Mathlib.Decide.{ℕ-discrete}
 use native.Mathlib.Omega.{arith}
-use borrow.Author.Tests.{eq-eqb, ne-eqb, le-leb, lt-leb}
+use borrow.Author.Tests.{le-leb, lt-leb}
 use lib.ListN.{length, getD, List·getD-map, List·getD-eq-default}
-use Rattle.diagram.specs.declared.Diagram.{Diagram}
-use Rattle.diagram.specs.Row.{LampRow, diagram}
-use Rattle.diagram.specs.Rows.{lampRows, directory}
-use Rattle.diagram.specs.Table.{darkRow, find, diagramOf, phasesOf, approachesOf, stepsOf, rowNumber, lampRowOf}
+use Rattle.diagram.specs.Row.{LampRow, Diagram}
+use Rattle.diagram.specs.Rows.{lampRows}
+use Rattle.diagram.specs.Table.{darkRow, diagramOf, stepsOf, rowNumber, lampRowOf}
 
--- The columns, by which the code holds the directory
+-- The column in which the code holds the first rows of the directory
 
 -- the numbers from k on
 unfoldable pub upFrom : ℕ → ℕ → List ℕ
@@ -32,23 +30,6 @@ orders = 256
 pub column-at : (f : Diagram → ℕ) (order : ℕ) → order < orders → getD (map (λ o. f (diagramOf o)) (upFrom 0 orders)) order (f (diagramOf orders)) ≡ f (diagramOf order)
 column-at f order h =
     List·getD-map (λ o. f (diagramOf o)) (upFrom 0 orders) order orders ∙ ap (λ (o : ℕ). f (diagramOf o)) (up-at 0 orders order orders h ∙ omega arith)
-
--- a line is what its columns say
-found-order : (order : ℕ) (ds : List Diagram) → find order ds .order ≡ order
-unfolding find
-found-order order [] = refl
-found-order order (d ∷ ds) = by (ℕ-discrete (d .order) order) (found-order order ds)
-  where
-    by : Dec (d .order ≡ order) → find order ds .order ≡ order → find order (d ∷ ds) .order ≡ order
-    by (yes e) h = rw (eq-eqb (d .order) order e) e
-    by (no ne) h = rw (ne-eqb (d .order) order ne) h
-
-pub line-of : (order : ℕ) {f p a : ℕ} → f ≡ diagramOf order .first → p ≡ phasesOf order → a ≡ approachesOf order → diagram order f p a ≡ diagramOf order
-unfolding diagramOf
-line-of order {f} {p} {a} ef ep ea =
-    let d = diagramOf order in
-    let same : diagram order f p a ≡ diagram (d .order) (d .first) (d .phases) (d .approaches) = rw (found-order order directory, ef, ep, ea) in
-    same
 
 -- Rows
 

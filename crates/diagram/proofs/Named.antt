@@ -11,8 +11,7 @@ use lib.ListN.{getD}
 use Rattle.octets.specs.Choice.{pick, both}
 use Rattle.octets.proofs.Laws.{both-left, both-right, clash}
 use Rattle.octets.proofs.Every.{every, all, all-at, below, below-at}
-use Rattle.diagram.specs.declared.Diagram.{Diagram}
-use Rattle.diagram.specs.Row.{LampRow}
+use Rattle.diagram.specs.Row.{LampRow, Diagram}
 use Rattle.diagram.specs.Rows.{lampRows, directory}
 use Rattle.diagram.specs.Table.{diagramOf, stepsAPhase, stepsIn, lampRowOf, flashingOf}
 use Rattle.diagram.specs.Known.{Step, inRange}

@@ -1,19 +1,11 @@
 -- Any two results that a contract allows are equal.
 use mathlib.Core.Path.{_≡_, sym, _∙_}
 use Rattle.diagram.proofs.phases.Reads as phases
-use Rattle.diagram.proofs.approaches.Reads as approaches
-use Rattle.diagram.proofs.steps.Reads as steps
 use Rattle.diagram.proofs.steady.Reads as steady
 use Rattle.diagram.proofs.flashing.Reads as flashing
 
 only-phases : (κs : _) (a : _) (r s : _) (x y : _) → phases.Post κs a r x → phases.Post κs a s y → r ≡ s
 only-phases κs a r s x y p q = p ∙ sym q
-
-only-approaches : (κs : _) (a : _) (r s : _) (x y : _) → approaches.Post κs a r x → approaches.Post κs a s y → r ≡ s
-only-approaches κs a r s x y p q = p ∙ sym q
-
-only-steps : (κs : _) (a : _) (r s : _) (x y : _) → steps.Post κs a r x → steps.Post κs a s y → r ≡ s
-only-steps κs a r s x y p q = p ∙ sym q
 
 only-steady : (κs : _) (a : _) (r s : _) (x y : _) → steady.Post κs a r x → steady.Post κs a s y → r ≡ s
 only-steady κs a r s x y p q = p ∙ sym q

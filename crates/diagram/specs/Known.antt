@@ -5,8 +5,7 @@ use mathlib.Core.Bool.{Bool, _||_}
 use lib.Dec.{eqb, leb}
 use lib.ListN.{length, getD}
 use Rattle.octets.specs.Choice.{pick, both}
-use Rattle.diagram.specs.declared.Diagram.{Diagram}
-use Rattle.diagram.specs.Row.{diagram}
+use Rattle.diagram.specs.Row.{Diagram, diagram}
 use Rattle.diagram.specs.Rows.{lampRows, directory}
 use Rattle.diagram.specs.Table.{diagramOf, phasesOf, approachesOf, stepsOf, rowNumber, steadyOf, flashingOf}
 

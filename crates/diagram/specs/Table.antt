@@ -1,11 +1,10 @@
--- 01, "Lamps and seconds": the step table, and the directory that says which of its lampRows are a phase order's.
+-- 01, "Lamps and seconds": the step table, and the directory that says which of its rows are a phase order's.
 use Prim.Native.Nat.{ℕ, _+_, _*_, _-_}
 use mathlib.Core.List.{List, [], _∷_}
 use lib.Dec.{eqb, leb}
 use lib.ListN.{length, getD}
 use Rattle.octets.specs.Choice.{pick, both}
-use Rattle.diagram.specs.declared.Diagram.{Diagram}
-use Rattle.diagram.specs.Row.{LampRow, row, diagram}
+use Rattle.diagram.specs.Row.{LampRow, row, Diagram, diagram}
 use Rattle.diagram.specs.Rows.{lampRows, directory}
 
 -- an order that is not there has no phases and no approaches

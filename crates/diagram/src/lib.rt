@@ -1,13 +1,11 @@
 // 01, "Lamps and seconds": the step table. The lamp words of all diagrams stand in one table, row by row; for each phase order
-// there are its phases, its first row and the approaches it uses.
+// there are its phases and its first row.
 ghost use mathlib.Core.Path.{_≡_};
-ghost use Rattle.diagram.specs.Table.{diagramOf, stepsIn, phasesOf, approachesOf, stepsOf};
-ghost use Rattle.diagram.specs.Table.{rowNumber, steadyOf, flashingOf};
+ghost use Rattle.diagram.specs.Table.{diagramOf, phasesOf, stepsOf, rowNumber, steadyOf, flashingOf};
 ghost use Rattle.diagram.specs.Known.{inRange};
 
 mod rows;
 
-use crate::rows::APPROACHES;
 use crate::rows::FIRST_ROWS;
 use crate::rows::FLASHING;
 use crate::rows::ROWS;
@@ -18,33 +16,6 @@ pub const STEPS_A_PHASE: u16 = 5;
 
 // The step of the walk flash in each phase.
 const WALK_FLASH: u16 = 2;
-
-// A line of the directory.
-struct Diagram {
-    order: u8,
-    first: u16,
-    phases: u8,
-    approaches: u8,
-}
-
-// The line of an order; one with no phases and no approaches where there is none.
-fn find(order: u8) -> Diagram
-    ensures { λ r. ⌜ r ≡ diagramOf order ⌝ }
-{
-    Diagram {
-        order,
-        first: FIRST_ROWS[order as usize],
-        phases: phases(order),
-        approaches: APPROACHES[order as usize],
-    }
-}
-
-// The steps of a line's phases.
-fn steps_in(d: Diagram) -> u16
-    ensures { λ r. ⌜ r ≡ stepsIn d ⌝ }
-{
-    STEPS_A_PHASE * d.phases as u16
-}
 
 // The phases of an order; 0 where it is unknown. Each call asks for them while a plan of the book runs, so no table is read.
 pub fn phases(order: u8) -> u8
@@ -74,32 +45,31 @@ fn in_range(least: u8, order: u8, greatest: u8) -> bool
     least <= order && order <= greatest
 }
 
-// The approaches that an order uses, bit 0 for A, on to bit 7 for H; none where it is unknown.
-pub fn approaches(order: u8) -> u8
-    ensures { λ r. ⌜ r ≡ approachesOf order ⌝ }
-{
-    find(order).approaches
-}
-
 // The steps of an order; 0 where it is unknown.
-pub fn steps(order: u8) -> u16
+fn steps(order: u8) -> u16
     ensures { λ r. ⌜ r ≡ stepsOf order ⌝ }
 {
-    steps_in(find(order))
+    STEPS_A_PHASE * phases(order) as u16
+}
+
+// The first row of an order, from 0; 0 where it is unknown.
+fn first_row(order: u8) -> u16
+    ensures { λ r. ⌜ r ≡ diagramOf order .first ⌝ }
+{
+    FIRST_ROWS[order as usize]
 }
 
 // The row of a step, from 0; past the table's end where there is no such step.
 fn row_number(order: u8, step: u16) -> usize
     ensures { λ r. ⌜ r ≡ rowNumber order step ⌝ }
 {
-    let d = find(order);
     if step == 0 {
         return ROWS;
     }
-    if steps_in(d) < step {
+    if steps(order) < step {
         return ROWS;
     }
-    d.first as usize + (step - 1) as usize
+    first_row(order) as usize + (step - 1) as usize
 }
 
 // The steady lamps of a step, the first step being 1; none where there is no such step.

@@ -39,7 +39,7 @@ fn green_less(rec: &[u8], i: u8) -> u16
 }
 
 // The seconds of a step, the first step being 1; 0 where there is no such step.
-pub fn seconds(rec: &[u8], step: u16) -> u16
+fn seconds(rec: &[u8], step: u16) -> u16
     ensures { λ r. ⌜ r ≡ secondsOf (now (rec .entry)) step ⌝ }
 {
     if step == 0 {
