@@ -7,9 +7,9 @@ use lib.ListN.{getD}
 use Rattle.diagram.specs.Table.{stepsAPhase}
 use Rattle.record.specs.Record.{Ready, kOf, orderOf, greenOf, yellowOf, allRedOf, walkFlashOf, redManOf, phaseSeconds, sumOf}
 use Rattle.lamps.specs.declared.Row.{Row}
-use Rattle.lamps.specs.Rows.{phaseTable, stepsOfPlan, secondsOf, rowsFrom, rowsOf, rowAt}
+use Rattle.lamps.specs.Rows.{phaseTable, stepsOfPlan, secondsOf, rowOf, rowsFrom, rowsOf, rowAt}
 use Rattle.lamps.specs.Promises.{secondsTo, stepIn, Stretch, GreenWhole, CycleLong, GreenShown, WholePhases}
-use Rattle.lamps.proofs.Laws.{seconds-in, seconds-next, rows-all, rows-part, row-first, rows-stretch}
+use Rattle.lamps.proofs.Laws.{seconds-line, seconds-next, rows-all, rows-part, row-first, rows-stretch}
 
 -- the seconds of the record's steps 1 to n, and the rows of n steps after t
 abbrev upTo : List ℕ → ℕ → ℕ
@@ -19,11 +19,8 @@ abbrev after : List ℕ → ℕ → ℕ → List Row
 after rec t n = rowsFrom (secondsOf rec) (orderOf rec) (t + 1) n
 
 module _ (rec : List ℕ) (r : Ready rec) (i : ℕ) (h : i < kOf rec) where
-  step-seconds : (j step : ℕ) → j < stepsAPhase → step ≡ stepIn i (j + 1) → getD (phaseTable rec i) j 0 ≡ secondsOf rec step
-  step-seconds j step l e = seconds-in rec step i j (omega arith) (omega arith) (omega arith) (omega arith)
-
   step-end : (j : ℕ) → j < stepsAPhase → upTo rec (stepIn i (j + 1)) ≡ upTo rec (stepIn i j) + getD (phaseTable rec i) j 0
-  step-end j l = omega (arith, seconds-next (secondsOf rec) (stepIn i j) (stepIn i (j + 1)) (omega arith), step-seconds j (stepIn i (j + 1)) l refl)
+  step-end j l = omega (arith, seconds-next (secondsOf rec) (stepIn i j) (stepIn i (j + 1)) (omega arith), seconds-line rec i h j (stepIn i (j + 1)) l refl)
 
   step-stretch : (j seconds : ℕ) → j < stepsAPhase → seconds ≡ getD (phaseTable rec i) j 0
       → Stretch (orderOf rec) (stepIn i (j + 1)) (stepIn i (j + 1)) seconds (after rec (stepIn i j) 1)
@@ -79,13 +76,11 @@ cycle-long rec r =
 pub green-shown : GreenShown
 unfolding rowAt rowsOf phaseTable
 green-shown rec i r h =
-    let s : 1 ≤ secondsOf rec (stepIn i 1) = omega (arith, step-seconds rec r i h 0 (stepIn i 1) (omega arith) refl, walk rec r i h) in
-    record {
-      some = s;
-      begins =
-          ap (rowAt rec) (sym (phases-end rec r i (omega arith)))
-          ∙ row-first (secondsOf rec) (orderOf rec) (stepIn i 0) (stepIn i 1) (stepsOfPlan rec) (omega arith) (omega arith) s;
-    }
+    let s : 1 ≤ secondsOf rec (stepIn i 1) = omega (arith, seconds-line rec i h 0 (stepIn i 1) (omega arith) refl, walk rec r i h) in
+    let e : rowAt rec (sumOf rec i) ≡ rowOf (orderOf rec) (stepIn i 1) (secondsOf rec (stepIn i 1)) =
+    ap (rowAt rec) (sym (phases-end rec r i (omega arith)))
+    ∙ row-first (secondsOf rec) (orderOf rec) (stepIn i 0) (stepIn i 1) (stepsOfPlan rec) (omega arith) (omega arith) s in
+    record { some = s; step = rw e; left = rw e; steady = rw e; flashing = rw e }
 
 pub whole-phases : WholePhases
 unfolding rowsOf phaseTable

@@ -8,10 +8,11 @@ use native.Mathlib.Omega.{arith}
 use borrow.Author.Tests.{le-leb, lt-leb}
 use lib.ListN.{length, getD, length-append, List·getD-append}
 use lib.Seq.{getD-append-add}
-use Rattle.record.specs.Record.{orderOf}
+use Rattle.diagram.specs.Table.{stepsAPhase}
+use Rattle.record.specs.Record.{kOf, orderOf}
 use Rattle.lamps.specs.declared.Row.{Row}
 use Rattle.lamps.specs.Rows.{phaseTable, stepsOfPlan, phaseOf, lineOf, secondsOf, rowOf, countedDown, rowsFrom, rowsOf, noRow, rowAt}
-use Rattle.lamps.specs.Promises.{secondsTo, Due, WithinSteps, Each, Stretch}
+use Rattle.lamps.specs.Promises.{secondsTo, stepIn, Due, WithinSteps, Each, Stretch}
 
 -- Seconds
 
@@ -27,6 +28,10 @@ module _ (rec : List ℕ) (step : ℕ) where
   pub seconds-in : (i j : ℕ) → 1 ≤ step → step ≤ stepsOfPlan rec → i ≡ phaseOf step → j ≡ lineOf step → getD (phaseTable rec i) j 0 ≡ secondsOf rec step
   unfolding secondsOf
   seconds-in i j h l ei ej = rw (le-leb 1 step h, le-leb step (stepsOfPlan rec) l, ei, ej)
+
+-- a step of phase i, by its line of the phase's table
+pub seconds-line : (rec : List ℕ) (i : ℕ) → i < kOf rec → (j step : ℕ) → j < stepsAPhase → step ≡ stepIn i (j + 1) → getD (phaseTable rec i) j 0 ≡ secondsOf rec step
+seconds-line rec i h j step l e = seconds-in rec step i j (omega arith) (omega arith) (omega arith) (omega arith)
 
 module _ (sec : ℕ → ℕ) where
   pub seconds-next : (n m : ℕ) → m ≡ n + 1 → secondsTo sec m ≡ secondsTo sec n + sec m

@@ -1,14 +1,34 @@
 -- What each second shows, for every record and position: the laws of any seconds, at those of the record.
 use Prim.Native.Nat.{ℕ, _+_, _-_, _<_}
-use mathlib.Core.Path.{_≡_, sym, ap, _∙_}
+use mathlib.Core.Path.{_≡_, refl, sym, ap, _∙_}
 use native.Mathlib.Decide.{decLt}
 use native.Mathlib.Omega.{arith}
-use lib.ListN.{length, List·getD-eq-default}
-use Rattle.record.specs.Record.{orderOf}
+use lib.ListN.{length, getD, List·getD-eq-default}
+use Rattle.diagram.specs.Table.{stepsAPhase}
+use Rattle.record.specs.Record.{kOf, orderOf}
 use Rattle.lamps.specs.declared.Row.{Row}
-use Rattle.lamps.specs.Rows.{stepsOfPlan, secondsOf, rowOf, rowsOf, noRow, rowAt}
-use Rattle.lamps.specs.Promises.{secondsTo, Due, LampsOfStep, OneDue, DarkPast, NoZeroStep}
-use Rattle.lamps.proofs.Laws.{seconds-next, seconds-grow, rows-due}
+use Rattle.lamps.specs.Rows.{phaseTable, stepsOfPlan, secondsOf, rowOf, rowsOf, noRow, rowAt}
+use Rattle.lamps.specs.Promises.{secondsTo, stepIn, SecondsOfSteps, Due, LampsOfStep, OneDue, DarkPast, NoZeroStep}
+use Rattle.lamps.proofs.Laws.{seconds-none, seconds-past, seconds-line, seconds-next, seconds-grow, rows-all, rows-due}
+
+pub seconds-of-steps : SecondsOfSteps
+unfolding phaseTable rowsOf
+seconds-of-steps rec =
+    let at : (i : ℕ) → i < kOf rec → (j : ℕ) → j < stepsAPhase → secondsOf rec (stepIn i (j + 1)) ≡ getD (phaseTable rec i) j 0 =
+    λ i h j l. sym (seconds-line rec i h j (stepIn i (j + 1)) l refl) in
+    record {
+      steps = refl;
+      phases = λ i h. record {
+        beforeFlash = at i h 0 (omega arith);
+        walkFlash = at i h 1 (omega arith);
+        redMan = at i h 2 (omega arith);
+        yellow = at i h 3 (omega arith);
+        allRed = at i h 4 (omega arith);
+      };
+      none = sym (seconds-none rec 0 refl);
+      past = λ step h. sym (seconds-past rec step h);
+      rows = rows-all (secondsOf rec) (orderOf rec) (stepsOfPlan rec);
+    }
 
 pub lamps-of-step : LampsOfStep
 unfolding rowAt rowsOf secondsTo
@@ -39,7 +59,7 @@ one-due sec order n p r s d e =
 
 pub dark-past : DarkPast
 unfolding rowAt
-dark-past rec p h = List·getD-eq-default (rowsOf rec) noRow {n = p} h
+dark-past rec p h = let e = List·getD-eq-default (rowsOf rec) noRow {n = p} h in record { step = rw e; left = rw e; steady = rw e; flashing = rw e }
 
 pub no-zero-step : NoZeroStep
 no-zero-step rec step p h z e = by (decLt p (length (rowsOf rec)))
@@ -48,4 +68,4 @@ no-zero-step rec step p h z e = by (decLt p (length (rowsOf rec)))
     by (yes l) =
         let d = lamps-of-step rec p l in
         omega (arith, rw e at (d .begun), rw e at (d .left), d .some, seconds-next (secondsOf rec) (step - 1) step (omega arith))
-    by (no g) = let q = ap (λ (r : Row). r .step) (dark-past rec p (omega arith)) in omega (arith, q, e)
+    by (no g) = omega (arith, dark-past rec p (omega arith) .step, e)

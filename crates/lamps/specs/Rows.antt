@@ -1,6 +1,6 @@
 -- 01, "Lamps and seconds": the seconds of a step, the rows of a cycle, and the row at a position.
 --
--- "A second call answers the current plan, step, seconds left in the step (this one countedDown) and both words": a row is that
+-- "A second call answers the current plan, step, seconds left in the step (this one counted) and both words": a row is that
 -- answer without the plan, and the rows of a cycle are what its seconds show, one after another.
 use Prim.Native.Nat.{ℕ, zero, suc, _+_, _*_, _-_, _/_, _%_}
 use mathlib.Core.List.{List, [], _∷_, _++_}
@@ -13,7 +13,7 @@ use Rattle.lamps.specs.declared.Row.{Row}
 
 -- Seconds
 
--- "green less walk flash less red man": a difference is never below 0 here. Phases are countedDown from 0, as in a record.
+-- "green less walk flash less red man": a difference is never below 0 here. Phases are counted from 0, as in a record.
 abbrev pub greenLess : List ℕ → ℕ → ℕ
 greenLess rec i = greenOf rec i - walkFlashOf rec i - redManOf rec i
 
@@ -27,7 +27,7 @@ phaseTable rec i =
     ∷ allRedOf rec i  -- 5
     ∷ []
 
--- step 6 "as 1 with phase 2", step 7 "as 2": steps are countedDown from 1 and go on through the phases
+-- step 6 "as 1 with phase 2", step 7 "as 2": steps are counted from 1 and go on through the phases
 abbrev pub stepsOfPlan : List ℕ → ℕ
 stepsOfPlan rec = stepsAPhase * kOf rec
 
@@ -51,7 +51,7 @@ secondsOf rec step =
 abbrev pub rowOf : ℕ → ℕ → ℕ → Row
 rowOf order step left = record { step = step; left = left; steady = steadyOf order step; flashing = flashingOf order step }
 
--- n seconds of a step, "this one countedDown": from n left down to 1. "A step of 0 seconds is passed over."
+-- n seconds of a step, "this one counted": from n left down to 1. "A step of 0 seconds is passed over."
 unfoldable pub countedDown : ℕ → ℕ → ℕ → List Row
 countedDown order step zero = []
 countedDown order step (suc n) = rowOf order step (suc n) ∷ countedDown order step n
