@@ -13,7 +13,7 @@ use Rattle.octets.proofs.Every.{every, every-at, below, below-at, all, all-at}
 use Rattle.diagram.specs.Row.{LampRow, Diagram, diagram}
 use Rattle.diagram.specs.Rows.{lampRows, directory}
 use Rattle.diagram.specs.Table.{unknown, find, diagramOf, phasesOf, stepsIn, stepsOf, rowNumber}
-use Rattle.diagram.specs.Known.{noLine, lineAt, Known, phasesDue, SupportedCodes, phasesMost, EachFound, KnownPhases, EachUsed, AllDark, OutsideDark, Absent, UnknownDark}
+use Rattle.diagram.specs.Known.{noLine, lineAt, Known, phasesDue, SupportedCodes, EachFound, KnownPhases, FiveSteps, EachUsed, AllDark, OutsideDark, Absent, UnknownDark}
 use Rattle.diagram.proofs.Laws.{number-none, number-past, row-past}
 
 -- What is not there
@@ -78,9 +78,9 @@ found-passes test t u order = by (found order directory)
     by (at i h e p) = rw p (every-at test directory i noLine t (λ l. absurd (omega arith)))
     by (none p) = rw p (u order)
 
-pub phases-most : (order : ℕ) → phasesOf order ≤ phasesMost
+pub phases-most : (order : ℕ) → phasesOf order ≤ 8
 unfolding every directory
-phases-most order = leb-true (phasesOf order) phasesMost (found-passes (λ d. leb (d .phases) phasesMost) refl (λ _. refl) order)
+phases-most order = leb-true (phasesOf order) 8 (found-passes (λ d. leb (d .phases) 8) refl (λ _. refl) order)
 
 -- The lines of the directory
 
@@ -123,9 +123,12 @@ phases-least order k =
 pub known-phases : KnownPhases
 known-phases order k = (phases-least order k, phases-most order)
 
--- The lampRows of the table
+pub five-steps : FiveSteps
+five-steps order = refl
 
--- the line whose lampRows hold this one, and the row's step there
+-- The rows of the table
+
+-- the line whose rows hold this one, and the row's step there
 owner : List Diagram → ℕ → Diagram
 owner [] n = noLine
 owner (d ∷ ds) n = pick (both (leb (d .first) n) (ltb n (d .first + stepsIn d))) d (owner ds n)

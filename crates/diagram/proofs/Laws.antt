@@ -1,5 +1,5 @@
 -- What follows from the definitions of specs/Table.antt, one law a way.
-use Prim.Native.Nat.{ℕ, zero, suc, _+_, _-_, _≤_, _<_}
+use Prim.Native.Nat.{ℕ, zero, suc, _+_, _*_, _-_, _≤_, _<_}
 use mathlib.Core.Path.{_≡_, sym, ap, _∙_}
 use mathlib.Core.List.{List, [], _∷_, map}
 use native.Mathlib.Omega.{arith}
@@ -8,6 +8,34 @@ use lib.ListN.{length, getD, List·getD-map, List·getD-eq-default}
 use Rattle.diagram.specs.Row.{LampRow, Diagram}
 use Rattle.diagram.specs.Rows.{lampRows}
 use Rattle.diagram.specs.Table.{darkRow, diagramOf, stepsOf, rowNumber, lampRowOf}
+
+-- The numbers of 01, by name
+
+-- the approaches of a word of 64 bits, the lamps of each, and of these the vehicles'
+abbrev pub approachesInWord : ℕ
+approachesInWord = 8
+
+abbrev pub lampsAnApproach : ℕ
+lampsAnApproach = 8
+
+abbrev pub vehicleLamps : ℕ
+vehicleLamps = 6
+
+abbrev pub lastLamp : ℕ
+lastLamp = lampsAnApproach * approachesInWord
+
+-- the places of the steps in a phase
+abbrev pub greenPlace : ℕ
+greenPlace = 1
+
+abbrev pub walkFlashPlace : ℕ
+walkFlashPlace = 2
+
+abbrev pub redManPlace : ℕ
+redManPlace = 3
+
+abbrev pub yellowPlace : ℕ
+yellowPlace = 4
 
 -- The column in which the code holds the first rows of the directory
 

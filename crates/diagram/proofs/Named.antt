@@ -1,4 +1,4 @@
--- What specs/Named.antt promises, by computed tests over each diagram's lampRows; the witnesses are searched for.
+-- What specs/Named.antt promises, by computed tests over the rows of each diagram; the witnesses are searched for.
 use Prim.Native.Nat.{ℕ, zero, suc, _+_, _*_, _-_, _%_, _≤_, _<_}
 use mathlib.Core.Path.{_≡_, refl, sym, ap, subst, _∙_}
 use mathlib.Core.Bool.{Bool, true, false, not, _||_}
@@ -15,9 +15,9 @@ use Rattle.diagram.specs.Row.{LampRow, Diagram}
 use Rattle.diagram.specs.Rows.{lampRows, directory}
 use Rattle.diagram.specs.Table.{diagramOf, stepsAPhase, stepsIn, lampRowOf, flashingOf}
 use Rattle.diagram.specs.Known.{Step, inRange}
-use Rattle.diagram.specs.Lamps.{bit, lit, lampIn, lampsAnApproach, vehicleLamps, greenManOf, lastLamp, approachesInWord, redLit, yellowLit, greenLit, roundLit, straightLit, greenManLit}
-use Rattle.diagram.specs.Named.{placeOf, greenPlace, walkFlashPlace, redManPlace, yellowPlace, SomeApproach, VehiclesAlike, AsNamed, StepsAsNamed, Follows, StepsFollow, EndsRed, EachServed}
-use Rattle.diagram.proofs.Laws.{row-there}
+use Rattle.diagram.specs.Lamps.{bit, lit, lampIn, greenManOf, redLit, yellowLit, greenLit, roundLit, straightLit, greenManLit}
+use Rattle.diagram.specs.Named.{placeOf, SomeApproach, VehiclesAlike, AsNamed, StepsAsNamed, Follows, StepsFollow, EndsRed, EachServed}
+use Rattle.diagram.proofs.Laws.{approachesInWord, lampsAnApproach, vehicleLamps, lastLamp, greenPlace, walkFlashPlace, redManPlace, yellowPlace, row-there}
 use Rattle.diagram.proofs.Known.{found-passes, outside-dark}
 use Rattle.diagram.proofs.Rule.{rowIn}
 use Rattle.diagram.proofs.Words.{flashing-fits, bit-past}

@@ -13,9 +13,15 @@ use Rattle.octets.proofs.Every.{every, every-at, below, below-at}
 use Rattle.diagram.specs.Row.{LampRow, Diagram}
 use Rattle.diagram.specs.Rows.{lampRows, directory}
 use Rattle.diagram.specs.Table.{darkRow, diagramOf, stepsIn}
-use Rattle.diagram.specs.Lamps.{bit, lit, redLit, yellowLit, greenLit, redManLit, greenManLit, approachesInWord, Shows, Dark, LampRule}
-use Rattle.diagram.proofs.Laws.{row-there}
+use Rattle.diagram.specs.Lamps.{bit, lit, redLit, yellowLit, greenLit, redManLit, greenManLit, LampsNumbered, Shows, Dark, LampRule}
+use Rattle.diagram.proofs.Laws.{approachesInWord, row-there}
 use Rattle.diagram.proofs.Known.{found-passes}
+
+-- The lamps' numbers
+
+pub lamps-numbered : LampsNumbered
+unfolding lit
+lamps-numbered r = record { a = refl; b = refl; c = refl; d = refl }
 
 -- The test
 

@@ -1,4 +1,4 @@
--- The words of the table, by one computed test over its lampRows; a row that is not there is dark, and passes it too.
+-- The words of the table, by one computed test over its rows; a row that is not there is dark, and passes it too.
 use Prim.Native.Nat.{ℕ, _-_, _^_, _≤_, _<_}
 use mathlib.Core.Path.{_≡_, refl, sym, subst}
 use mathlib.Core.Bool.{Bool, true, false, not}
@@ -17,8 +17,8 @@ use Rattle.octets.proofs.Every.{every, every-at, all, all-at, below, below-at}
 use Rattle.diagram.specs.Row.{LampRow}
 use Rattle.diagram.specs.Rows.{lampRows}
 use Rattle.diagram.specs.Table.{darkRow, rowNumber, lampRowOf, steadyOf, flashingOf}
-use Rattle.diagram.specs.Lamps.{bit, lampIn, lastLamp, SteadyOrFlashing, WordsFit}
-use Rattle.diagram.proofs.Laws.{word-there}
+use Rattle.diagram.specs.Lamps.{bit, lampIn, SteadyOrFlashing, WordsFit}
+use Rattle.diagram.proofs.Laws.{lastLamp, word-there}
 
 abbrev notBoth : LampRow → ℕ → Bool
 notBoth r i = not (both (bit (r .steady) i) (bit (r .flashing) i))

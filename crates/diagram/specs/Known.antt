@@ -1,5 +1,5 @@
 -- What the directory promises: which phase orders are known, that each row is a step of one, and that all else is dark.
-use Prim.Native.Nat.{ℕ, _≤_, _<_}
+use Prim.Native.Nat.{ℕ, _*_, _≤_, _<_}
 use mathlib.Core.Path.{_≡_}
 use mathlib.Core.Bool.{Bool, _||_}
 use lib.Dec.{eqb, leb}
@@ -41,13 +41,13 @@ phasesDue order =
 abbrev pub SupportedCodes : Type 0
 SupportedCodes = (order : ℕ) → phasesOf order ≡ phasesDue order
 
--- 02, E2: "up to eight phases"
-abbrev pub phasesMost : ℕ
-phasesMost = 8
-
--- A known order has a phase at least, and no more than that.
+-- 02, E2: "up to eight phases". A known order has one at least.
 abbrev pub KnownPhases : Type 0
-KnownPhases = (order : ℕ) → Known order → (1 ≤ phasesOf order) × (phasesOf order ≤ phasesMost)
+KnownPhases = (order : ℕ) → Known order → (1 ≤ phasesOf order) × (phasesOf order ≤ 8)
+
+-- 01's table: steps 1 to 5 are the first phase's; step 6 is "as 1 with phase 2", on to "10 .. as 5".
+abbrev pub FiveSteps : Type 0
+FiveSteps = (order : ℕ) → stepsOf order ≡ 5 * phasesOf order
 
 -- the order has that step
 pub record Step (order step : ℕ) : Type 0 where

@@ -3,6 +3,7 @@ use Prim.Native.Nat.{ℕ, _+_, _*_, _-_, _/_, _%_, _^_, _<_}
 use mathlib.Core.Path.{_≡_}
 use mathlib.Core.Bool.{Bool, true, false, _||_}
 use mathlib.Core.Logic.{_⊎_}
+use mathlib.Core.List.{List, [], _∷_}
 use lib.Dec.{eqb}
 use Rattle.diagram.specs.Row.{LampRow}
 use Rattle.diagram.specs.Table.{approachesOf, lampRowOf, steadyOf, flashingOf}
@@ -22,40 +23,30 @@ unfoldable pub lit : LampRow → ℕ → Bool
 lit r m = lampIn (r .steady) m || lampIn (r .flashing) m
 
 -- "Per approach A to D the lamps are red, yellow, left, round, straight, right green, red man, green man: 1 to 8 for A, 9 to 16 for B, on to 32."
--- Approach A is a = 0, on to H with a = 7: a word of 64 bits has eight approaches.
-abbrev pub approachesInWord : ℕ
-approachesInWord = 8
-
-abbrev pub lampsAnApproach : ℕ
-lampsAnApproach = 8
-
--- all but the two men
-abbrev pub vehicleLamps : ℕ
-vehicleLamps = 6
-
+-- Approach A is a = 0, on to H with a = 7: a word of 64 bits has eight approaches of eight lamps.
 abbrev pub redLit : LampRow → ℕ → Bool
-redLit r a = lit r (lampsAnApproach * a + 1)
+redLit r a = lit r (8 * a + 1)
 
 abbrev pub yellowLit : LampRow → ℕ → Bool
-yellowLit r a = lit r (lampsAnApproach * a + 2)
+yellowLit r a = lit r (8 * a + 2)
 
 abbrev pub leftLit : LampRow → ℕ → Bool
-leftLit r a = lit r (lampsAnApproach * a + 3)
+leftLit r a = lit r (8 * a + 3)
 
 abbrev pub roundLit : LampRow → ℕ → Bool
-roundLit r a = lit r (lampsAnApproach * a + 4)
+roundLit r a = lit r (8 * a + 4)
 
 abbrev pub straightLit : LampRow → ℕ → Bool
-straightLit r a = lit r (lampsAnApproach * a + 5)
+straightLit r a = lit r (8 * a + 5)
 
 abbrev pub rightLit : LampRow → ℕ → Bool
-rightLit r a = lit r (lampsAnApproach * a + 6)
+rightLit r a = lit r (8 * a + 6)
 
 abbrev pub redManLit : LampRow → ℕ → Bool
-redManLit r a = lit r (lampsAnApproach * a + 7)
+redManLit r a = lit r (8 * a + 7)
 
 abbrev pub greenManOf : ℕ → ℕ
-greenManOf a = lampsAnApproach * a + 8
+greenManOf a = 8 * a + 8
 
 abbrev pub greenManLit : LampRow → ℕ → Bool
 greenManLit r a = lit r (greenManOf a)
@@ -63,6 +54,29 @@ greenManLit r a = lit r (greenManOf a)
 -- any of the four greens
 unfoldable pub greenLit : LampRow → ℕ → Bool
 greenLit r a = leftLit r a || (roundLit r a || (straightLit r a || rightLit r a))
+
+-- the eight lamps of an approach, in 01's order
+abbrev pub lampsOf : LampRow → ℕ → List Bool
+lampsOf r a =
+    redLit r a ∷ yellowLit r a ∷ leftLit r a ∷ roundLit r a ∷ straightLit r a ∷ rightLit r a ∷ redManLit r a ∷ greenManLit r a ∷ []
+
+-- bit i is 1 in the steady word or in the flashing word
+abbrev pub bitLit : LampRow → ℕ → Bool
+bitLit r i = eqb (r .steady / 2 ^ i % 2) 1 || eqb (r .flashing / 2 ^ i % 2) 1
+
+-- bit i and the seven after it
+abbrev pub eightBits : LampRow → ℕ → List Bool
+eightBits r i = bitLit r i ∷ bitLit r (i + 1) ∷ bitLit r (i + 2) ∷ bitLit r (i + 3) ∷ bitLit r (i + 4) ∷ bitLit r (i + 5) ∷ bitLit r (i + 6) ∷ bitLit r (i + 7) ∷ []
+
+-- "1 to 8 for A, 9 to 16 for B, on to 32. Lamp number m is bit m-1": A has bits 0 to 7, B 8 to 15, C 16 to 23, D 24 to 31.
+pub record Numbered (r : LampRow) : Type 0 where
+  pub a : lampsOf r 0 ≡ eightBits r 0
+  pub b : lampsOf r 1 ≡ eightBits r 8
+  pub c : lampsOf r 2 ≡ eightBits r 16
+  pub d : lampsOf r 3 ≡ eightBits r 24
+
+abbrev pub LampsNumbered : Type 0
+LampsNumbered = (r : LampRow) → Numbered r
 
 -- The lamp rule
 
@@ -112,7 +126,7 @@ pub record Ruled (order step a : ℕ) : Type 0 where
 
 -- At each step of each order, for each approach.
 abbrev pub LampRule : Type 0
-LampRule = (order step a : ℕ) → Step order step → a < approachesInWord → Ruled order step a
+LampRule = (order step a : ℕ) → Step order step → a < 8 → Ruled order step a
 
 -- The words
 
@@ -120,9 +134,6 @@ LampRule = (order step a : ℕ) → Step order step → a < approachesInWord →
 abbrev pub SteadyOrFlashing : Type 0
 SteadyOrFlashing = (order step m : ℕ) → lampIn (steadyOf order step) m ≡ true → lampIn (flashingOf order step) m ≡ false
 
-abbrev pub lastLamp : ℕ
-lastLamp = lampsAnApproach * approachesInWord
-
--- No lamp has a higher number: "a 64-bit steady word and a flashing word".
+-- No lamp has a number over 64: "a 64-bit steady word and a flashing word".
 abbrev pub WordsFit : Type 0
-WordsFit = (order step : ℕ) → (steadyOf order step < 2 ^ lastLamp) × (flashingOf order step < 2 ^ lastLamp)
+WordsFit = (order step : ℕ) → (steadyOf order step < 2 ^ 64) × (flashingOf order step < 2 ^ 64)

@@ -12,7 +12,6 @@ use Rattle.octets.specs.First.{firstOf}
 use Rattle.octets.proofs.Laws.{pick-by}
 use Rattle.diagram.specs.Rows as table
 use Rattle.diagram.specs.Table as diagram
-use Rattle.diagram.specs.Lamps.{lastLamp}
 use Rattle.diagram.proofs.Words.{words-fit}
 use Rattle.frame.specs.Frame.{frontOf, bodyOf, sentOf, cksOf, twice, doubled, written}
 use Rattle.frame.specs.Decoder.{freshDecoder, possibleOf, frontIn, cksIn, stepOf, takenOf}
@@ -46,18 +45,18 @@ use Rattle.printout.specs.Promises.{WordWhole, WordsWhole, TwoSeconds, R
 
 -- Words
 
-whole : (word : ℕ) → word < 2 ^ lastLamp → WordWhole word
+whole : (word : ℕ) → word < 2 ^ 64 → WordWhole word
 unfolding wordText
 whole word h = hex-means 16 word (omega arith)
 
 abbrev Fits : Row → Type 0
-Fits r = (r .steady < 2 ^ lastLamp) × (r .flashing < 2 ^ lastLamp)
+Fits r = (r .steady < 2 ^ 64) × (r .flashing < 2 ^ 64)
 
 row-fits : (rec : List ℕ) (p : ℕ) → Fits (rowAt rec p)
 row-fits rec p =
     elim (decLt p (length (lamps.rowsOf rec))) [
       | yes h ↦ let d = lamps-of-step rec p h in let w = words-fit (orderOf rec) (rowAt rec p .step) in (rw (d .steady) (w .0), rw (d .flashing) (w .1))
-      | no h ↦ rw (dark-past rec p (omega arith)) (omega arith, omega arith)
+      | no h ↦ let d = dark-past rec p (omega arith) in (rw (d .steady) (omega arith), rw (d .flashing) (omega arith))
     ]
 
 second-fits : (s : State) (book : List ℕ) → Fits (secondOf s book .row)
