@@ -1,12 +1,12 @@
 -- 01, "Cases": what a line is, told from all its octets at once, and that reading them one by one finds just that.
-use Prim.Native.Nat.{ℕ, _+_, _*_, _-_, _≤_, _<_}
+use Prim.Native.Nat.{ℕ, _+_, _*_, _-_, _%_, _^_, _≤_, _<_}
 use mathlib.Core.Path.{_≡_}
 use mathlib.Core.List.{List, [], _∷_, _++_}
 use lib.ListN.{length, replicate}
 use Rattle.line.specs.declared.LineFound.{LineFound}
 use Rattle.line.specs.declared.LineFound.the-variants as found
 use Rattle.line.specs.declared.Line.{Line}
-use Rattle.line.specs.Line.{letterT, letterB, tab, lineFeed, lineNumbered, firstLine, nextNumber, lineOctet, endOf}
+use Rattle.line.specs.Line.{lineNumbered, firstLine, lineOctet, endOf}
 
 -- What a line is
 
@@ -18,7 +18,7 @@ pub data Hex (c v : ℕ) : Type 0 where
 
 -- "`T` is a second"
 abbrev pub IsSecond : List ℕ → Type 0
-IsSecond xs = xs ≡ letterT ∷ []
+IsSecond xs = xs ≡ 0x54 ∷ []
 
 -- "`B`, tab, two hex digits an octet"
 pub record IsOctet (xs : List ℕ) (b : ℕ) : Type 0 where
@@ -26,7 +26,7 @@ pub record IsOctet (xs : List ℕ) (b : ℕ) : Type 0 where
   pub d : ℕ
   pub v : ℕ
   pub w : ℕ
-  pub octets : xs ≡ letterB ∷ tab ∷ c ∷ d ∷ []
+  pub octets : xs ≡ 0x42 ∷ 0x09 ∷ c ∷ d ∷ []
   pub high : Hex c v
   pub low : Hex d w
   pub value : b ≡ v * 16 + w
@@ -48,12 +48,12 @@ LineIsOne = (n : ℕ) (xs : List ℕ) (f g : LineFound) → Is n xs f → Is n x
 
 -- Reading one line
 
--- no octet of it is a line feed
+-- no octet of it is a line feed, 0A
 abbrev pub NoFeed : List ℕ → Type 0
 NoFeed [] = Unit
-NoFeed (x ∷ xs) = (x ≡ lineFeed → ⊥) × NoFeed xs
+NoFeed (x ∷ xs) = (x ≡ 0x0A → ⊥) × NoFeed xs
 
--- octets taken one lineAfter another: what each finds, and the line then under way
+-- octets taken one after another: what each finds, and the line then under way
 unfoldable pub founds : Line → List ℕ → List LineFound
 founds l [] = []
 founds l (o ∷ os) = lineOctet l o .found ∷ founds (lineOctet l o .line) os
@@ -64,10 +64,10 @@ lineAfter l (o ∷ os) = lineAfter (lineOctet l o .line) os
 
 pub record LineReadSo (n : ℕ) (xs : List ℕ) : Type 0 where
   pub before : founds (lineNumbered n) xs ≡ replicate (length xs) found.More
-  pub found : Is n xs (lineOctet (lineAfter (lineNumbered n) xs) lineFeed .found)
-  pub next : lineOctet (lineAfter (lineNumbered n) xs) lineFeed .line ≡ lineNumbered (nextNumber n)
+  pub found : Is n xs (lineOctet (lineAfter (lineNumbered n) xs) 0x0A .found)
+  pub next : lineOctet (lineAfter (lineNumbered n) xs) 0x0A .line ≡ lineNumbered ((n + 1) % 2 ^ 64)
 
--- nothing is found before the line feed, then what the line is, and the next line has nothing of it
+-- nothing is found before the line feed, then what the line is; the next line has the next number, modulo 2^64, and nothing of this one
 abbrev pub LineRead : Type 0
 LineRead = (n : ℕ) (xs : List ℕ) → NoFeed xs → LineReadSo n xs
 
@@ -87,7 +87,7 @@ foundIn l os = linesFound (founds l os ++ (endOf (lineAfter l os) ∷ []))
 -- lines, each with its line feed
 abbrev pub joined : List (List ℕ) → List ℕ
 joined [] = []
-joined (xs ∷ ls) = xs ++ (lineFeed ∷ joined ls)
+joined (xs ∷ ls) = xs ++ (0x0A ∷ joined ls)
 
 abbrev pub NoFeeds : List (List ℕ) → Type 0
 NoFeeds [] = Unit
@@ -101,7 +101,7 @@ lastLine (x ∷ xs) = (x ∷ xs) ∷ []
 -- what the lines are, in order, the first being number n
 pub data Are : ℕ → List (List ℕ) → List LineFound → Type 0 where
   none : {n : ℕ} → Are n [] []
-  more : {n : ℕ} {xs : List ℕ} {f : LineFound} {ls : List (List ℕ)} {fs : List LineFound} → Is n xs f → Are (nextNumber n) ls fs → Are n (xs ∷ ls) (f ∷ fs)
+  more : {n : ℕ} {xs : List ℕ} {f : LineFound} {ls : List (List ℕ)} {fs : List LineFound} → Is n xs f → Are ((n + 1) % 2 ^ 64) ls fs → Are n (xs ∷ ls) (f ∷ fs)
 
 -- every line is found once, in order and with its number from 1, and nothing else is found
 abbrev pub InputRead : Type 0

@@ -1,4 +1,4 @@
--- 01, "Cases": what the listing program prints, in ASCII ascii.
+-- 01, "Cases": what the listing program prints, in ASCII.
 use Prim.Native.Nat.{ℕ}
 use mathlib.Core.List.{List, [], _∷_, _++_}
 use Rattle.text.specs.Text.{ascii, hex16, decimal, octetsHex}

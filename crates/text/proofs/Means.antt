@@ -11,7 +11,7 @@ use lib.ListN.{length, take, drop, getD, List·getD-append}
 use lib.Seq.{drop-nil, drop-drop, getD-drop}
 use Rattle.octets.proofs.Laws.{drop-next}
 use Rattle.text.specs.Text.{digit, digits, hex2, places, decimal, blankHex2, spaced, octetsHex}
-use Rattle.text.specs.Promises.{worth, IsDigit, AllDigits, readFrom, Means, HexMeans, DecimalMeans, OctetsParted}
+use Rattle.text.specs.Promises.{worth, IsDigit, AllDigits, readFrom, Means, HexMeans, HexAsPrinted, DecimalMeans, OctetsParted}
 use Rattle.text.proofs.Laws.{digits-length, places-one, places-more, places-some, decimal-digits, decimal-one, decimal-more, decimal-length, octets-length}
 
 digit-worth : (d : ℕ) → d < 16 → worth (digit d) ≡ d
@@ -58,6 +58,9 @@ module _ (b : ℕ) (some : 0 < b) (most : b ≤ 16) where
 
 pub hex-means : HexMeans
 hex-means = digits-mean 16 (omega arith) (omega arith)
+
+pub hex-as-printed : HexAsPrinted
+hex-as-printed = (λ x h. hex-means 2 x (omega arith), λ x h. hex-means 16 x (omega arith))
 
 -- a number has as many digits as hold it
 places-hold : (f n : ℕ) → n ≤ f → n < 10 ^ places n
@@ -115,4 +118,4 @@ module _ (xs : List ℕ) (i : ℕ) where
   blank-at h = rw (← getD-drop (3 * i) (octetsHex xs) 2 0, octets-drop xs i, drop-next xs i (omega arith), drop-next xs (i + 1) h)
 
 pub octets-parted : OctetsParted
-octets-parted xs = (octets-length xs, λ i h. record { digits = digits-at xs i h; blank = blank-at xs i })
+octets-parted xs = (octets-length xs, λ i h. record { digits = digits-at xs i h; means = λ l. rw (digits-at xs i h) (hex-means 2 (getD xs i 0) (omega arith)); blank = blank-at xs i })

@@ -6,7 +6,7 @@ use mathlib.Core.List.{List, [], _∷_}
 use lib.Dec.{ltb}
 use lib.ListN.{length, take, drop, getD}
 use Rattle.octets.specs.Choice.{pick}
-use Rattle.text.specs.Text.{digits, hex2, decimal, octetsHex}
+use Rattle.text.specs.Text.{digits, hex2, hex16, decimal, octetsHex}
 
 -- what a digit stands for
 abbrev pub worth : ℕ → ℕ
@@ -36,6 +36,10 @@ pub record Means (b k n : ℕ) (text : List ℕ) : Type 0 where
 abbrev pub HexMeans : Type 0
 HexMeans = (k n : ℕ) → n < 16 ^ k → Means 16 k n (digits 16 k n)
 
+-- an octet has two of them, a word of 64 bits sixteen
+abbrev pub HexAsPrinted : Type 0
+HexAsPrinted = ((x : ℕ) → x < 256 → Means 16 2 x (hex2 x)) × ((x : ℕ) → x < 2 ^ 64 → Means 16 16 x (hex16 x))
+
 -- decimal gives back every number, and starts with no zero but for the number 0
 pub record DecimalOf (n : ℕ) : Type 0 where
   pub means : Means 10 (length (decimal n)) n (decimal n)
@@ -47,6 +51,7 @@ DecimalMeans = ((n : ℕ) → DecimalOf n) × (decimal 0 ≡ 0x30 ∷ [])
 -- of parted octets each has three places, its two digits and a blank, and the last has two
 pub record OctetAt (xs : List ℕ) (i : ℕ) : Type 0 where
   pub digits : take 2 (drop (3 * i) (octetsHex xs)) ≡ hex2 (getD xs i 0)
+  pub means : getD xs i 0 < 256 → Means 16 2 (getD xs i 0) (take 2 (drop (3 * i) (octetsHex xs)))
   pub blank : i + 1 < length xs → getD (octetsHex xs) (3 * i + 2) 0 ≡ 0x20
 
 abbrev pub OctetsParted : Type 0

@@ -1,4 +1,4 @@
--- Numbers and octets as text, in ASCII ascii.
+-- Numbers and octets as text, in ASCII.
 use Prim.Native.Nat.{ℕ, zero, suc, _+_, _-_, _/_, _%_}
 use Prim.Native.Char.{code}
 use Prim.Native.String.{String, [] as end, _∷_ as _then_}
