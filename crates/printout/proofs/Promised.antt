@@ -1,12 +1,13 @@
--- The promises of specs/Promises.antt: the words by those of the diagrams, 01's listing by computation.
+-- The promises of specs/Promises.antt: the words by those of the diagrams, the lines as their definitions put them together, 01's listing by
+-- computation.
 use Prim.Native.Nat.{ℕ, _^_, _<_}
 use mathlib.Core.Path.{refl}
 use mathlib.Core.Bool.{not}
-use mathlib.Core.List.{List}
+use mathlib.Core.List.{List, [], _∷_, append-assoc}
 use native.Mathlib.Decide.{decLt}
 use native.Mathlib.Omega.{arith}
 use lib.Dec.{eqb}
-use lib.ListN.{length}
+use lib.ListN.{length, take}
 use Rattle.octets.specs.ExclusiveOr.{xor, exclusiveOr}
 use Rattle.octets.specs.First.{firstOf}
 use Rattle.octets.proofs.Laws.{pick-by}
@@ -40,8 +41,8 @@ use Rattle.text.proofs.Means.{hex-means}
 use Rattle.line.specs.Line as line
 use Rattle.line.specs.Promises.{founds, lineAfter, foundIn}
 use Rattle.printout.specs.Listing.{header, field, wordText, numbers, secondLine, replyLine, badLine}
-use Rattle.printout.specs.Run.{secondSaid, badSaid, octetMade, lineMade, listingFrom, listingOf}
-use Rattle.printout.specs.Promises.{WordWhole, WordsWhole, TwoSeconds, ReplyAndBad}
+use Rattle.printout.specs.Run.{runStart, secondSaid, badSaid, octetMade, lineMade, listingFrom, listingOf}
+use Rattle.printout.specs.Promises.{WordWhole, WordsWhole, SecondPrinted, ReplyPrinted, none, some, LinesPrint, ListingBegins, TwoSeconds, ReplyAndBad}
 
 -- Words
 
@@ -68,6 +69,40 @@ second-fits s book =
 
 pub words-whole : WordsWhole
 words-whole s book = let f = second-fits s book in (whole (secondOf s book .row .steady) (f .0), whole (secondOf s book .row .flashing) (f .1))
+
+-- What each line does and prints
+
+second-printed : (s : State) (n : ℕ) (b : List ℕ) → SecondPrinted n (secondOf s b .plan) (secondOf s b .row) (secondSaid s n b .text)
+unfolding field numbers secondLine secondSaid
+second-printed s n b =
+    let w = words-whole s b in
+    record {
+      steady = wordText (secondOf s b .row .steady);
+      flashing = wordText (secondOf s b .row .flashing);
+      columns = simp append-assoc;
+      steadyWhole = w .0;
+      flashingWhole = w .1;
+    }
+
+reply-printed : (xs : List ℕ) → ReplyPrinted xs (replyLine xs)
+unfolding replyLine
+reply-printed [] = none
+reply-printed (x ∷ xs) = some
+
+pub lines-print : LinesPrint
+unfolding lineMade secondSaid badSaid badLine octetMade
+lines-print s n b o =
+    record {
+      second = record { state = refl; seconds = refl; line = second-printed s n b; book = refl; out = refl };
+      octet = λ x. let w = octetOf s b o x in
+          record { state = refl; seconds = refl; line = reply-printed (take (w .answer .count) (w .out)); book = refl; out = refl };
+      bad = λ k. record { state = refl; seconds = refl; line = refl; book = refl; out = refl };
+      more = record { state = refl; seconds = refl; line = refl; book = refl; out = refl };
+    }
+
+pub listing-begins : ListingBegins
+unfolding runStart header listingFrom listingOf
+listing-begins = record { state = refl; seconds = refl; used = refl; listing = λ input. refl; ended = λ s n b o. refl; next = λ s n b o f fs. refl }
 
 -- 01's listing
 

@@ -1,14 +1,22 @@
--- 01, "Cases", and 02, E2: the lamp words are printed whole; two T lines print what 01 shows, its words with sixteen digits, and
--- P1's octets their reply.
-use Prim.Native.Nat.{ℕ}
+-- 01, "Cases", and 02, E2: what each line of the input does and prints; the lamp words are printed whole; two T lines print what 01
+-- shows, its words with sixteen digits, and P1's octets their reply.
+use Prim.Native.Nat.{ℕ, _+_, _%_, _^_}
 use mathlib.Core.Path.{_≡_}
-use mathlib.Core.List.{List, _++_}
-use Rattle.text.specs.Text.{ascii}
+use mathlib.Core.List.{List, [], _∷_, _++_}
+use lib.ListN.{take, replicate}
+use Rattle.text.specs.Text.{ascii, decimal, octetsHex}
 use Rattle.text.specs.Promises.{Means}
+use Rattle.line.specs.declared.LineFound.{LineFound}
+use Rattle.line.specs.declared.LineFound.the-variants as found
+use Rattle.line.specs.Line.{firstLine}
+use Rattle.line.specs.Promises.{foundIn}
+use Rattle.lamps.specs.declared.Row.{Row}
 use Rattle.controller.specs.declared.State.{State}
+use Rattle.controller.specs.State.{freshOf}
+use Rattle.controller.specs.Replies.{octetOf}
 use Rattle.controller.specs.Seconds.{secondOf}
 use Rattle.printout.specs.Listing.{wordText}
-use Rattle.printout.specs.Run.{listingOf}
+use Rattle.printout.specs.Run.{Making, runStart, lineMade, listingFrom, listingOf}
 
 -- The lamp words
 
@@ -19,6 +27,81 @@ WordWhole word = Means 16 16 word (wordText word)
 -- whatever a second shows, no lit lamp is missing from its line
 abbrev pub WordsWhole : Type 0
 WordsWhole = (s : State) (book : List ℕ) → WordWhole (secondOf s book .row .steady) × WordWhole (secondOf s book .row .flashing)
+
+-- What a line prints
+
+-- "fields parted by tabs": 09 between two of them, and 0A after the last
+abbrev pub parted : List (List ℕ) → List ℕ
+parted [] = 0x0A ∷ []
+parted (x ∷ []) = x ++ (0x0A ∷ [])
+parted (x ∷ y ∷ rest) = x ++ (0x09 ∷ parted (y ∷ rest))
+
+-- "(seconds so far, plan, step, left, steady and flashing ..)": the numbers in decimal, the words in sixteen hex digits
+pub record SecondPrinted (n plan : ℕ) (row : Row) (text : List ℕ) : Type 0 where
+  pub steady : List ℕ
+  pub flashing : List ℕ
+  pub columns : text ≡ parted (decimal n ∷ decimal plan ∷ decimal (row .step) ∷ decimal (row .left) ∷ steady ∷ flashing ∷ [])
+  pub steadyWhole : Means 16 16 (row .steady) steady
+  pub flashingWhole : Means 16 16 (row .flashing) flashing
+
+-- "for each call that wrote a reply `reply`, tab, octets in hex with spaces"; a call that wrote none prints nothing
+pub data ReplyPrinted : List ℕ → List ℕ → Type 0 where
+  none : ReplyPrinted [] []
+  some : {x : ℕ} {xs : List ℕ} → ReplyPrinted (x ∷ xs) (ascii "reply\t" ++ octetsHex (x ∷ xs) ++ 0x0A ∷ [])
+
+-- What a line does, with n seconds so far, and with the book b and the output o
+
+-- "`T` is a second": the second call, and its line; the seconds so far are one more, modulo 2^64
+pub record SecondMakes (s : State) (n : ℕ) (b o : List ℕ) (m : Making) : Type 0 where
+  pub state : m .said .state ≡ secondOf s b .state
+  pub seconds : m .said .seconds ≡ (n + 1) % 2 ^ 64
+  pub line : SecondPrinted n (secondOf s b .plan) (secondOf s b .row) (m .said .text)
+  pub book : m .book ≡ b
+  pub out : m .out ≡ o
+
+-- "an octet": the octet call, and the line of what it wrote
+pub record OctetMakes (s : State) (n : ℕ) (b o : List ℕ) (x : ℕ) (m : Making) : Type 0 where
+  pub state : m .said .state ≡ octetOf s b o x .answer .state
+  pub seconds : m .said .seconds ≡ n
+  pub line : ReplyPrinted (take (octetOf s b o x .answer .count) (octetOf s b o x .out)) (m .said .text)
+  pub book : m .book ≡ octetOf s b o x .book
+  pub out : m .out ≡ octetOf s b o x .out
+
+-- no call: all is as it was, and the text is added
+pub record OnlyPrints (s : State) (n : ℕ) (b o text : List ℕ) (m : Making) : Type 0 where
+  pub state : m .said .state ≡ s
+  pub seconds : m .said .seconds ≡ n
+  pub line : m .said .text ≡ text
+  pub book : m .book ≡ b
+  pub out : m .out ≡ o
+
+-- "for a bad line `bad`, tab, its number from 1"; where no line has ended, nothing is done
+pub record LinesMake (s : State) (n : ℕ) (b o : List ℕ) : Type 0 where
+  pub second : SecondMakes s n b o (lineMade found.Second s n b o)
+  pub octet : (x : ℕ) → OctetMakes s n b o x (lineMade (found.Octet x) s n b o)
+  pub bad : (k : ℕ) → OnlyPrints s n b o (ascii "bad\t" ++ decimal k ++ 0x0A ∷ []) (lineMade (found.Bad k) s n b o)
+  pub more : OnlyPrints s n b o [] (lineMade found.More s n b o)
+
+-- Whatever the state, the seconds so far, the book and the output.
+abbrev pub LinesPrint : Type 0
+LinesPrint = (s : State) (n : ℕ) (b o : List ℕ) → LinesMake s n b o
+
+-- "starts fresh at address 0001 with an empty book", no second so far; "It prints a header", then what each line prints, one after
+-- another, each with what the one before it made
+pub record ListingStarts : Type 0 where
+  pub state : runStart .state ≡ freshOf 0x0001
+  pub seconds : runStart .seconds ≡ 0
+  pub used : runStart .used ≡ 0
+  pub listing : (input : List ℕ) → listingOf input
+      ≡ ascii "second\tplan\tstep\tleft\tsteady\tflashing\n"
+      ++ listingFrom (freshOf 0x0001) 0 (replicate 3840 0x00) (replicate 544 0x00) (foundIn firstLine input)
+  pub ended : (s : State) (n : ℕ) (b o : List ℕ) → listingFrom s n b o [] ≡ []
+  pub next : (s : State) (n : ℕ) (b o : List ℕ) (f : LineFound) (fs : List LineFound) → listingFrom s n b o (f ∷ fs)
+      ≡ lineMade f s n b o .said .text
+      ++ listingFrom (lineMade f s n b o .said .state) (lineMade f s n b o .said .seconds) (lineMade f s n b o .book) (lineMade f s n b o .out) fs
+
+abbrev pub ListingBegins : Type 0
+ListingBegins = ListingStarts
 
 -- 01's listing
 
