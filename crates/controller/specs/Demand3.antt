@@ -1,7 +1,7 @@
--- Demand 3: "From a fresh start, states handed back as given, octets and seconds mixed at will: the secondAccepted seconds are whole
+-- Demand 3: "From a fresh start, states handed back as given, octets and seconds mixed at will: the accepted seconds are whole
 -- cycles one after another, the last perhaps unfinished. The first is plan 0; each later one is chosen as the last second of the
 -- cycle before it is answered: the plan of the latest run message carried out (0 if none) if it is plan 0 or ready in the book,
--- else the plan just run. So any 1,799 secondAccepted seconds in a row hold a whole cycle, every phase with its full green, yellow and
+-- else the plan just run. So any 1,799 accepted seconds in a row hold a whole cycle, every phase with its full green, yellow and
 -- all-red."
 use Prim.Native.Nat.{ℕ, _+_, _≤_, _<_}
 use mathlib.Core.Path.{_≡_}
@@ -56,7 +56,7 @@ goesOn s (e ∷ es) = goesOn (next s e) es
 abbrev pub run : ℕ → List HostCall → State
 run own es = goesOn (startedOf own .state) es
 
--- what an secondAccepted second shows: the plan, the step, the seconds left and both words
+-- what an accepted second shows: the plan, the step, the seconds left and both words
 pub record Second : Type 0 where
   pub plan : ℕ
   pub row : Row
@@ -76,11 +76,11 @@ abbrev pub saysOn : State → List HostCall → List Second
 saysOn s [] = []
 saysOn s (e ∷ es) = rowThen (says s e) (saysOn (next s e) es)
 
--- the secondAccepted seconds of the events es, after those of `past`
+-- the accepted seconds of the events es, after those of `past`
 abbrev pub seconds : ℕ → List HostCall → List HostCall → List Second
 seconds own past es = saysOn (run own past) es
 
--- "The latest run message carried out", rowThen from the octets handed in
+-- "The latest run message carried out", told from the octets handed in
 
 -- what was heard so far: where the decoder is, and the plan of the latest run message carried out, 0 if none
 pub record Heard : Type 0 where
@@ -161,7 +161,7 @@ pub record SecondLeft (s : State) (book : List ℕ) (t : State) : Type 0 where
 abbrev pub SecondsLeave : Type 0
 SecondsLeave = (s : State) (book : List ℕ) → soundOf s ≡ true → length book ≡ 3840 → Octets book → SecondLeft s book (secondOf s book .state)
 
--- After the events `past` a cycle of plan p with record rec is due; the secondAccepted seconds of the events es are that cycle and
+-- After the events `past` a cycle of plan p with record rec is due; the accepted seconds of the events es are that cycle and
 -- others after it, one by one.
 pub data CyclesInRun (own : ℕ) : ℕ → List ℕ → List HostCall → List HostCall → Type 0 where
   -- "the last perhaps unfinished": rows of it are still to come
@@ -181,7 +181,7 @@ RunsWholeCycles = (own : ℕ) → (own ≡ 0xFFFF → ⊥) → (es : List HostCa
 
 -- Any 1,799
 
--- of the secondAccepted seconds of the run, counted from 0, those from number n on hold a whole cycle, which begins within the first
+-- of the accepted seconds of the run, counted from 0, those from number n on hold a whole cycle, which begins within the first
 -- 900 and ends within the first 1,799; each of its phases stands whole in it
 pub record HoldsWhole (own : ℕ) (es : List HostCall) (n : ℕ) : Type 0 where
   pub plan : ℕ

@@ -1,4 +1,4 @@
--- 01, "Cases" and "Messages": messages messagesRead and messagesWritten, and every range at its edges, by computation.
+-- 01, "Cases" and "Messages": messages read and written, and every range at its edges, by computation.
 use Prim.Native.Nat.{ℕ}
 use mathlib.Core.Path.{_≡_}
 use mathlib.Core.List.{List, [], _∷_, map}
@@ -12,7 +12,7 @@ use Rattle.message.specs.Writer.{writeMessage}
 abbrev shown : List ℕ → List ℕ
 shown info = let r = readOf info in r .refusal ∷ r .field ∷ r .message .code ∷ take (r .message .fields) (r .message .values)
 
--- the INFO of P1, P3, P4 and P5; a set of infoOfTimes and of infoOfGreens; then what is refused
+-- the INFO of P1, P3, P4 and P5; a set of times and of greens; then what is refused
 unfoldable pub messagesRead : List (List ℕ)
 messagesRead =
     shown (0x5F ∷ 0x48 ∷ [])
@@ -103,7 +103,7 @@ dueEdges =
     ∷ (0 ∷ 0 ∷ 1 ∷ [])
     ∷ []
 
--- what is messagesWritten into six octets from the second on: refusal, count, output
+-- what is written into six octets from the second on: refusal, count, output
 abbrev writtenOut : ℕ → ℕ → List ℕ → List ℕ
 writtenOut c n vs =
     let w = writeMessage (record { code = c; fields = n; values = placed vs }) 1 (replicate 6 0xEE) in w .answer .refusal ∷ w .answer .count ∷ w .out

@@ -306,7 +306,7 @@ module _ (old body : List ℕ) (h : HasTimes old) (r : Ranges15 body) (e : count
               (offset (counted n f (omega arith)) (λ j l. greened n f j (omega (arith, m-k, e)) (omega (arith, e))) (summed n f (omega arith))
               (omega (arith, m-cycle, m-offset, x)))
 
--- RecordStored exactly when
+-- Stored exactly when
 
 module _ (book info : List ℕ) (hb : length book ≡ bookLen) (ob : Octets book) (hc : codeIn info ≡ setPlanCode) where
   abbrev os : List ℕ

@@ -255,7 +255,7 @@ module _ (body : List ℕ) (f : Fit14 body) where
         times = λ i l. same-phase i;
       }
 
--- RecordStored exactly when
+-- Stored exactly when
 
 module _ (book info : List ℕ) (hb : length book ≡ bookLen) (hc : codeIn info ≡ setTimesCode) where
   abbrev os : List ℕ

@@ -153,7 +153,7 @@ pub record SetRefused (code : ℕ) (book info : List ℕ) (w : Setting) : Type 0
 abbrev pub SetsRefuse : Type 0
 SetsRefuse = (book info : List ℕ) → SetRefused 0x5F14 book info (setTimesOf book info) × SetRefused 0x5F15 book info (setPlanOf book info)
 
--- RecordStored exactly when
+-- Stored exactly when
 
 -- of a book of the right length and a message 5F 14
 pub record TimesJudged (book info : List ℕ) : Type 0 where
