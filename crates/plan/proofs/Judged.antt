@@ -18,7 +18,7 @@ use Rattle.record.specs.Record.{recordLen, plansMost, bookLen, empty}
 use Rattle.checks.specs.Standing.{standingOf}
 use Rattle.plan.specs.BuiltIn.{builtIn}
 use Rattle.plan.specs.Reading.{recordStart, recordAt, same, readRefusal, PartRead, PlanRead}
-use Rattle.plan.specs.Promises.{ReadingJudged, wrongLength, overRange, unlike, emptyPlan, builtInRead, bookRead, PlansReadSo, PartGiven, PartsGivenSo}
+use Rattle.plan.specs.Promises.{ReadingJudged, wrongLength, overRange, unlike, emptyPlan, builtInRead, bookRead, BuiltInKnown, PlansReadSo, PartGiven, PartsGivenSo}
 use Rattle.plan.proofs.Readying.{stands-has, has-stands}
 use Rattle.plan.proofs.Laws.{same-is, is-same, length-built-in, octets-part, refused-book, refused-copy, refused-range, read-zero, refused-zero, refused-empty, read-set}
 
@@ -77,6 +77,9 @@ plans-read-so book copy p n o = (
   when book copy p o,
   λ e. subst (ReadingJudged book copy p) (sym e) (only-then book copy p o (ℕ-discrete (length book) bookLen) (ℕ-discrete (length copy) recordLen)),
 )
+
+pub built-in-known : BuiltInKnown
+built-in-known rec = (same-is rec builtIn, λ e. rw e (is-same builtIn))
 
 -- The part
 

@@ -1,6 +1,7 @@
 -- What 01 demands of the plan book, stated from outside.
 use Prim.Native.Nat.{ℕ, zero, suc, _+_, _*_, _-_, _≤_, _<_}
 use mathlib.Core.Path.{_≡_}
+use mathlib.Core.Bool.{true}
 use mathlib.Core.Logic.{_⊎_}
 use mathlib.Core.List.{List, [], _∷_, _++_}
 use lib.ListN.{length, take, drop, replicate}
@@ -12,7 +13,7 @@ use Rattle.message.specs.Reader.{codeIn, bodyIn, readOf}
 use Rattle.record.specs.Record.{octetAt, wordAt, kOf, minimumOf, maximumOf, yellowOf, allRedOf, walkFlashOf, redManOf, directOf, orderOf, greenOf, cycleOf, offsetOf, Within, AllTimesFit, Empty, TimesSet, Ready}
 use Rattle.checks.specs.Standing.{standingOf}
 use Rattle.plan.specs.BuiltIn.{builtIn}
-use Rattle.plan.specs.Reading.{recordAt, readRefusal, PlanRead}
+use Rattle.plan.specs.Reading.{recordAt, same, readRefusal, PlanRead}
 use Rattle.plan.specs.Reporting.{timesInfo, planInfo, reportTimesOf, reportPlanOf}
 use Rattle.plan.specs.Setting.{planIn, countIn, Setting, setTimesOf, setPlanOf}
 
@@ -262,6 +263,10 @@ pub record ReportRead (rec : List ℕ) (p : ℕ) : Type 0 where
 -- a message, nothing refused.
 abbrev pub ReportsRead : Type 0
 ReportsRead = (rec : List ℕ) (p : ℕ) → p ≤ 48 → ReportRead rec p
+
+-- Octets pass as the built-in record exactly when they are its 80 octets, whatever their length.
+abbrev pub BuiltInKnown : Type 0
+BuiltInKnown = (rec : List ℕ) → (same rec builtIn ≡ true → rec ≡ builtIn) × (rec ≡ builtIn → same rec builtIn ≡ true)
 
 -- Reading a plan: what comes of it, and why. "8 if either length is wrong, then 12 for a plan over 48, then 13 for an empty plan,
 -- or for plan 0 where the copy differs from the built-in record."
