@@ -216,7 +216,7 @@ module _ (u : Running) (requested : ℕ) (book info : List ℕ) where
 
 -- The octet call
 
-abbrev FramesFit : List Frame → Type 0
+abbrev pub FramesFit : List Frame → Type 0
 FramesFit fs = length (sent fs) ≤ outputLen
 
 none-fit : FramesFit []
@@ -231,10 +231,10 @@ acks-fit : (own seq addr : ℕ) → FramesFit (acks own seq addr)
 acks-fit own seq addr = pick-by FramesFit (eqb addr own) (λ _. ack-fits seq own) (λ _. none-fit)
 
 -- what is brought names a refusal that a call that is done may name, leaves the book where it names one, and writes what fits
-record Right (book : List ℕ) (w : ResultAndBook) : Type 0 where
-  names : InDone (w .result .refusal)
-  leaves : (w .result .refusal ≡ refusal.none → ⊥) → w .book ≡ book
-  fits : FramesFit (w .result .frames)
+pub record Right (book : List ℕ) (w : ResultAndBook) : Type 0 where
+  pub names : InDone (w .result .refusal)
+  pub leaves : (w .result .refusal ≡ refusal.none → ⊥) → w .book ≡ book
+  pub fits : FramesFit (w .result .frames)
 
 module _ (own ours requested : ℕ) (u : Running) (book : List ℕ) where
   -- a frame refused or dropped, an ACK, an event
@@ -264,16 +264,16 @@ module _ (own ours requested : ℕ) (u : Running) (book : List ℕ) where
     brought-right (found.Nak seq addr err) kept c = unchanged-right refusal.none (eventFor own addr (event.Nak seq err)) [] (omega arith) none-fit
 
 module _ (s : State) (book out : List ℕ) (b : ℕ) where
-  abbrev brought : ResultAndBook
+  abbrev pub brought : ResultAndBook
   brought = broughtOf (outcomeOf (takenOf (s .decoder) b)) (s .own) (s .seq) (s .requested) (s .running) book
 
-  octet-right : soundOf s ≡ true → length book ≡ bookLen → Right book brought
+  pub octet-right : soundOf s ≡ true → length book ≡ bookLen → Right book brought
   octet-right h hb =
       let p = sound-parts s h in
       let t = takenOf (s .decoder) b in
       brought-right (s .own) (s .seq) (s .requested) (s .running) book (p .running) hb (t .found) (t .decoder .info) (can-find (s .decoder) b (p .decoder))
 
-octet-refused : (s : State) (book out : List ℕ) (b : ℕ) {n : ℕ} → OctetRefused s book out n → octetOf s book out b ≡ refusedCall s n book out
+pub octet-refused : (s : State) (book out : List ℕ) (b : ℕ) {n : ℕ} → OctetRefused s book out n → octetOf s book out b ≡ refusedCall s n book out
 octet-refused s book out b (OctetRefused.unsound h) = octet-7 s book out b h
 octet-refused s book out b (OctetRefused.book h n) = octet-8 s book out b h n
 octet-refused s book out b (OctetRefused.output h e l) = octet-9 s book out b h e l

@@ -43,7 +43,7 @@ pub record Kept (address : ℕ) (s : State) (h : Heard) : Type 0 where
   pub decoder : s .decoder ≡ h .decoder
   pub latest : s .requested ≡ h .latest
 
-kept-next : (own : ℕ) (s : State) (h : Heard) (e : HostCall) → Kept own s h → Kept own (next s e) (hears own h e)
+pub kept-next : (own : ℕ) (s : State) (h : Heard) (e : HostCall) → Kept own s h → Kept own (next s e) (hears own h e)
 unfolding noSecond
 kept-next own s h (octet b l book out o) k =
     let d = done-left s (takenOf (s .decoder) b) book out in

@@ -6,4 +6,5 @@ pub mod Answering
 pub mod Serving
 pub mod Latest
 pub mod Run
+pub mod OurSeq
 pub mod Table

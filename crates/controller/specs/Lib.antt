@@ -5,4 +5,5 @@ pub mod Seconds
 pub mod Demand1
 pub mod Demand2
 pub mod Demand3
+pub mod OurSeq
 pub mod Table

@@ -12,7 +12,7 @@ use lib.Seq.{ext-getD, getD-take, getD-drop, length-take-le}
 use Rattle.octets.specs.Choice.{both}
 use Rattle.octets.specs.Octet.{Octets}
 use Rattle.octets.specs.Word.{lowOf}
-use Rattle.octets.proofs.Laws.{both-left, both-right, word-back, high-word, low-word}
+use Rattle.octets.proofs.Laws.{both-left, both-right, octets-append, word-back, high-word, low-word}
 use Rattle.octets.proofs.Every.{every, every-at}
 use Rattle.message.specs.declared.layout.Field.{Field}
 use Rattle.message.specs.declared.layout.Field.the-variants.{Octet, Two, Order}
@@ -92,6 +92,19 @@ values-back [] vs h f = refl
 values-back (g ∷ fs) [] h f = absurd (omega arith)
 values-back (g ∷ fs) (v ∷ vs) h f =
     rw (value-front (twoOf g) v (octetsOf fs vs) (f 0 (omega arith)), drop-front (twoOf g) v (octetsOf fs vs), values-back fs vs (omega arith) (λ j l. f (suc j) (omega arith)))
+
+-- and its octets are octets
+field-octets : (t : Bool) (v : ℕ) → v < limit t → Octets (fieldOctets t v)
+field-octets false v h = (omega arith, tt)
+field-octets true v h = (omega arith, (omega arith, tt))
+
+pub fits-octets : (fs : List Field) (vs : List ℕ) → Fits fs vs → Octets (octetsOf fs vs)
+unfolding Fits
+fits-octets [] vs f = tt
+fits-octets (g ∷ fs) [] f =
+    octets-append (fieldOctets (twoOf g) 0) (octetsOf fs []) (field-octets (twoOf g) 0 (f 0 (omega arith))) (fits-octets fs [] (λ j l. f (suc j) (omega arith)))
+fits-octets (g ∷ fs) (v ∷ vs) f =
+    octets-append (fieldOctets (twoOf g) v) (octetsOf fs vs) (field-octets (twoOf g) v (f 0 (omega arith))) (fits-octets fs vs (λ j l. f (suc j) (omega arith)))
 
 -- the fields' values, with 0 past the last, are all of a message's values
 pub length-placed : (vs : List ℕ) → length vs ≤ fieldsMost → length (placed vs) ≡ fieldsMost

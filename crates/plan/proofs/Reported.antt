@@ -13,15 +13,15 @@ use Rattle.octets.specs.Word.{wordOf}
 use Rattle.message.specs.declared.Message.{Message}
 use Rattle.message.specs.declared.layout.Field.{Field}
 use Rattle.message.specs.Fields as field
-use Rattle.message.specs.Fields.{twoOf}
+use Rattle.message.specs.Fields.{twoOf, valueOf}
 use Rattle.message.specs.Layouts.{layouts, layoutAt, numberOf, rowsAt, counted, greens, cycleOffset}
 use Rattle.message.specs.Values.{valuesOf, placed}
 use Rattle.message.specs.Reader.{partOf}
 use Rattle.message.specs.Promises.{FieldStands, PhaseFields, TimesFields, PlanFields, HasLayout}
 use Rattle.message.proofs.Numbers.{field-numbers}
-use Rattle.message.proofs.Places.{stand}
+use Rattle.message.proofs.Places.{value-at}
 use Rattle.message.proofs.Ranges.{placed-at}
-use Rattle.message.proofs.Values.{numbered-one, value-one, value-two, length-values}
+use Rattle.message.proofs.Values.{value-one, value-two, length-values}
 use Rattle.record.specs.Record.{empty, ready, octetAt, wordAt, kOf, timesAt, timesEnd, greensAt, readyEnd, directOf, orderOf, AllTimesFit}
 use Rattle.checks.specs.Standing.{between, standingOf}
 use Rattle.checks.proofs.Stands.{part-long, times-fit, some-long, some-times, stands-as-it-is}
@@ -35,13 +35,16 @@ module _ (fs : List Field) (os : List ℕ) where
   abbrev value : ℕ → ℕ
   value n = getD (placed (valuesOf fs os)) (n - 1) 0
 
+  there : {n s : ℕ} {f : Field} → FieldStands fs n f s → value n ≡ valueOf (twoOf f) (drop s os)
+  there {n} t =
+      let e : n - 1 ≡ t .place = omega (arith, t .number) in
+      rw (e, placed-at (valuesOf fs os) (t .place), value-at fs os (t .place) (t .within), t .there, t .start)
+
   one : {n s : ℕ} {f : Field} → FieldStands fs n f s → twoOf f ≡ false → {m at : ℕ} → n ≡ m → s ≡ at → value m ≡ octetAt os at
-  one {n} {s} t e en es =
-      rw (← en, ← es) (sym (numbered-one (placed (valuesOf fs os)) n (omega (arith, t .number))) ∙ (stand os t ∙ rw e (value-one os s)))
+  one {n} {s} t e en es = rw (← en, ← es) (there t ∙ rw e (value-one os s))
 
   two : {n s : ℕ} {f : Field} → FieldStands fs n f s → twoOf f ≡ true → {m at : ℕ} → n ≡ m → s ≡ at → value m ≡ wordAt os at
-  two {n} {s} t e en es =
-      rw (← en, ← es) (sym (numbered-one (placed (valuesOf fs os)) n (omega (arith, t .number))) ∙ (stand os t ∙ rw e (value-two os s)))
+  two {n} {s} t e en es = rw (← en, ← es) (there t ∙ rw e (value-two os s))
 
   past : (n : ℕ) → length fs < n → value n ≡ 0
   past n l = placed-at (valuesOf fs os) (n - 1) ∙ List·getD-eq-default (valuesOf fs os) 0 (rw length-values (omega arith))
@@ -103,7 +106,7 @@ module _ (rec : List ℕ) (p : ℕ) where
         redMan = one timesRows timesBody (t .redMan) refl (omega arith) refl ∙ body-at (timesAt i + 6) (omega arith) (omega arith);
       }
 
-  times-in-message : 1 ≤ k → TimesFields field.plan k timesRows → TimesInMessage rec p (partOf 4 k timesBody)
+  times-in-message : 1 ≤ k → TimesFields 0 k timesRows → TimesInMessage rec p (partOf 4 k timesBody)
   unfolding partOf layoutAt layouts
   times-in-message k1 t =
       record {
@@ -154,7 +157,7 @@ module _ (rec : List ℕ) (p : ℕ) where
               ∙ green-word (6 + 2 * kOf rec) (2 * kOf rec + 2) (greensAt rec + 2 * kOf rec + 2) (omega arith) (omega arith) (omega arith);
         }
 
-  plan-in-message : (l c : ℕ) → layoutAt l .code ≡ c → PlanFields field.plan (kOf rec) (rowsAt l (kOf rec)) → PlanInMessage rec p c (partOf l (kOf rec) planBody)
+  plan-in-message : (l c : ℕ) → layoutAt l .code ≡ c → PlanFields 0 (kOf rec) (rowsAt l (kOf rec)) → PlanInMessage rec p c (partOf l (kOf rec) planBody)
   unfolding partOf
   plan-in-message l c e t =
       let k : ℕ = kOf rec in

@@ -1,0 +1,291 @@
+-- Our SEQ over any run: each call that is done writes at most one message frame, with the SEQ that the state has, and leaves the
+-- next; what it writes is octets, so whoever listens from rest reads the frames back.
+use Prim.Native.Nat.{ℕ, zero, suc, _+_, _-_, _%_, _≤_, _<_}
+use mathlib.Core.Path.{_≡_, refl, sym, ap, subst, _∙_}
+use mathlib.Core.Bool.{Bool, true, false}
+use mathlib.Core.Logic.{_⊎_, inl, inr}
+use mathlib.Core.List.{List, [], _∷_, _++_, append-assoc}
+use native.Mathlib.Omega.{arith}
+use borrow.Author.Tests.{eqb-true}
+use lib.Dec.{eqb}
+use lib.ListN.{length, getD, take, replicate}
+use Rattle.octets.specs.Choice.{pick}
+use Rattle.octets.specs.First.{firstOf}
+use Rattle.octets.specs.Octet.{Octets}
+use Rattle.octets.specs.Word.{highOf, lowOf}
+use Rattle.octets.proofs.Laws.{pick-by, octets-append}
+use Rattle.frame.specs.declared.Kind.{Kind}
+use Rattle.frame.specs.declared.Kind.the-variants.{Message, Ack, Nak}
+use Rattle.frame.specs.declared.decoder.Decoder.{Decoder}
+use Rattle.frame.specs.declared.decoder.Taken.{Taken}
+use Rattle.frame.specs.declared.decoder.Found.{Found}
+use Rattle.frame.specs.declared.decoder.Found.the-variants as found
+use Rattle.frame.specs.Frame.{Frame, message, ack, nak, written}
+use Rattle.frame.specs.Promises.{InOctets, InfoFits}
+use Rattle.frame.specs.Decoder.{freshDecoder, takenOf}
+use Rattle.frame.specs.Run.{Outcome, nothing, refused, sound, foundMeans, outcomeOf, outcomes, decoderAfter, AtRest}
+use Rattle.frame.proofs.Reading.{reading-undoes-writing}
+use Rattle.frame.proofs.Held.{HoldsOctets, OutcomeOctets, taken-octets, idled-octets}
+use Rattle.message.specs.declared.Message as message
+use Rattle.message.specs.Layouts.{layouts, layoutAt, numberOf, rowsAt, layoutRows}
+use Rattle.message.specs.Values.{placed}
+use Rattle.message.specs.Reader.{codeIn}
+use Rattle.message.specs.Writer.{numberIn, kOfMessage, writable, infoAs, infoOf}
+use Rattle.message.specs.Promises.{listed}
+use Rattle.message.proofs.Numbers.{codes-listed}
+use Rattle.message.proofs.Fitting.{right-fits, fits-octets}
+use Rattle.message.proofs.WrittenSo.{writable-in}
+use Rattle.record.specs.Record.{bookLen, plansMost, ready}
+use Rattle.record.proofs.Laws.{octet-below}
+use Rattle.checks.specs.Standing.{standingOf}
+use Rattle.controller.specs.declared.Answer.{Answer}
+use Rattle.controller.specs.declared.Running.{Running}
+use Rattle.controller.specs.declared.State.{State}
+use Rattle.controller.specs.declared.Event.{Event}
+use Rattle.controller.specs.declared.Handled.{Handled}
+use Rattle.controller.specs.State.{all, outputLen, freshOf, soundOf}
+use Rattle.controller.specs.Handling.{carriedOutReply, refusedReply, handlingOf}
+use Rattle.controller.specs.Replies.{Call, CanFind, Result, ResultAndBook, sent, errOf, naks, acks, forUs, isAnswer, unchanged, leaves, repliedOf, messageOf, broughtOf, madeOf, doneOf, octetOf, lineIdleOf}
+use Rattle.controller.specs.Seconds.{startedOf, secondOf}
+use Rattle.controller.specs.Demand1.{OctetRefused}
+use Rattle.controller.specs.Demand2.{onLine}
+use Rattle.controller.specs.Demand3.{HostCall, octet, lineIdle, second, next, Heard, hears}
+use Rattle.controller.specs.OurSeq.{writes, writesOn, writtenIn, framesHeard, CountsFrom, SeqCounted, OurSeqCounts}
+use Rattle.controller.proofs.Laws.{octet-brings, idle-done}
+use Rattle.controller.proofs.Judging.{RunningParts, sound-parts, octets-built-in}
+use Rattle.controller.proofs.Replying.{can-find, carried-out-info, info-fits, by-reply}
+use Rattle.controller.proofs.Answering.{octets-answered, octet-refused, octet-right, written-take}
+use Rattle.controller.proofs.Keeping.{done-left, by-octet, second-left, fresh-sound}
+use Rattle.controller.proofs.Latest.{Kept, kept-next}
+
+-- Frames that are read back
+
+abbrev Readable : Frame → Type 0
+Readable f = InOctets f × InfoFits f
+
+abbrev AllReadable : List Frame → Type 0
+AllReadable [] = Unit
+AllReadable (f ∷ fs) = Readable f × AllReadable fs
+
+outcomes-append : (d : Decoder) (xs ys : List ℕ) → outcomes d (xs ++ ys) ≡ outcomes d xs ++ outcomes (decoderAfter d xs) ys
+unfolding outcomes decoderAfter
+outcomes-append d [] ys = refl
+outcomes-append d (x ∷ xs) ys = ap (λ (l : List Outcome). outcomeOf (takenOf d x) ∷ l) (outcomes-append (takenOf d x .decoder) xs ys)
+
+heard-append : (os ps : List Outcome) → framesHeard (os ++ ps) ≡ framesHeard os ++ framesHeard ps
+heard-append [] ps = refl
+heard-append (nothing ∷ os) ps = heard-append os ps
+heard-append (refused n k s a ∷ os) ps = heard-append os ps
+heard-append (sound f ∷ os) ps = ap (λ (l : List Frame). f ∷ l) (heard-append os ps)
+
+heard-last : (n : ℕ) (f : Frame) → framesHeard (replicate n nothing ++ (sound f ∷ [])) ≡ f ∷ []
+heard-last zero f = refl
+heard-last (suc n) f = heard-last n f
+
+all-heard : (fs : List Frame) → AllReadable fs → (d : Decoder) → AtRest d → framesHeard (outcomes d (onLine fs)) ≡ fs
+unfolding outcomes
+all-heard [] r d a = refl
+all-heard (f ∷ fs) r d a =
+    let q = reading-undoes-writing d f a (r .0 .0) (r .0 .1) in
+    ap framesHeard (outcomes-append d (written f) (onLine fs)) ∙ heard-append (outcomes d (written f)) (outcomes (decoderAfter d (written f)) (onLine fs))
+    ∙ ap (λ (l : List Frame). l ++ framesHeard (outcomes (decoderAfter d (written f)) (onLine fs))) (ap framesHeard (q .outcome) ∙ heard-last (length (written f) - 1) f)
+    ∙ ap (λ (l : List Frame). f ∷ l) (all-heard fs (r .1) (decoderAfter d (written f)) (q .rest))
+
+line-append : (fs gs : List Frame) → onLine (fs ++ gs) ≡ onLine fs ++ onLine gs
+line-append [] gs = refl
+line-append (f ∷ fs) gs = ap (λ (l : List ℕ). written f ++ l) (line-append fs gs) ∙ sym (append-assoc (written f) (onLine fs) (onLine gs))
+
+readable-append : (fs gs : List Frame) → AllReadable fs → AllReadable gs → AllReadable (fs ++ gs)
+readable-append [] gs r q = q
+readable-append (f ∷ fs) gs r q = (r .0, readable-append fs gs (r .1) q)
+
+sent-line : (fs : List Frame) → sent fs ≡ onLine fs
+sent-line [] = refl
+sent-line (f ∷ fs) = ap (λ (l : List ℕ). written f ++ l) (sent-line fs)
+
+-- The reply is octets
+
+abbrev Below : ℕ → List ℕ → Type 0
+Below b [] = 0 < b
+Below b (x ∷ xs) = (x < b) × Below b xs
+
+at-below : (b : ℕ) (l : List ℕ) → Below b l → (j : ℕ) → getD l j 0 < b
+at-below b [] h j = h
+at-below b (x ∷ xs) h zero = h .0
+at-below b (x ∷ xs) h (suc j) = at-below b xs (h .1) j
+
+code-below : (c : ℕ) → 1 ≤ numberOf c → c < 65536
+code-below c h =
+    let j = numberOf c - 1 in
+    let e = eqb-true (getD listed j 0) c (codes-listed c .here j (omega arith)) in
+    omega (arith, at-below 65536 listed (search arith) j)
+
+info-octets : (m : message.Message) → writable m ≡ true → Octets (infoOf m)
+unfolding infoAs
+info-octets m w =
+    let v = writable-in m w in
+    let fs = rowsAt (numberIn m) (kOfMessage m) in
+    let c = code-below (m .code) (v .listed .first) in
+    (omega arith, (omega arith, fits-octets fs (m .values) (right-fits (numberIn m) (kOfMessage m) (m .values) (λ j l. v .ranges j (omega (arith, v .fields))))))
+
+abbrev GoodInfo : List ℕ → Type 0
+GoodInfo i = Octets i × (2 ≤ length i) × (length i ≤ 256)
+
+module _ (u : Running) (requested : ℕ) (book info : List ℕ) (r : standingOf (u .copy) ≡ ready) (hp : u .plan ≤ plansMost) (hb : length book ≡ bookLen) (o : Octets info) where
+  reply-good : GoodInfo (infoOf (handlingOf u requested book info .handled .reply))
+  unfolding carriedOutReply refusedReply numberOf firstOf layouts layoutAt rowsAt layoutRows placed infoAs
+  reply-good =
+      let a = octet-below info 0 o in
+      let b = octet-below info 1 o in
+      by-reply u requested book info r hp hb (λ h. GoodInfo (infoOf (h .reply)))
+      (λ q. ((omega arith, (omega arith, (omega arith, (omega arith, tt)))), omega arith, omega arith))
+      (λ n m. ((omega arith, (omega arith, (omega arith, (omega arith, (omega arith, (omega arith, tt)))))), omega arith, omega arith))
+      (λ m w. (info-octets m w, info-fits m w .0, info-fits m w .1))
+
+-- What a call writes
+
+-- of n message frames before it these are the next; then the state has this SEQ, and `more` frames are written
+record Sends (n : ℕ) (fs : List Frame) (seq : ℕ) : Type 0 where
+  more : ℕ
+  readable : AllReadable fs
+  next : seq ≡ more % 256
+  then : (gs : List Frame) → CountsFrom more gs → CountsFrom n (fs ++ gs)
+
+module _ (own n ours : ℕ) (hw : own < 65535) (e : ours ≡ n % 256) where
+  none-sent : Sends n [] ours
+  none-sent = record { more = n; readable = tt; next = e; then = λ gs c. c }
+
+  ack-sent : (seq addr : ℕ) → seq < 256 → Sends n (acks own seq addr) ours
+  ack-sent seq addr h =
+      pick-by (λ (fs : List Frame). Sends n fs ours) (eqb addr own)
+      (λ _. record { more = n; readable = (((h, omega arith), tt), tt); next = e; then = λ gs c. c }) (λ _. none-sent)
+
+  nak-sent : (k : Kind) (m seq addr : ℕ) → m ≤ 3 → seq < 256 → Sends n (naks k own m seq addr) ours
+  nak-sent Message m seq addr l h =
+      let err : errOf m < 256 = pick-by (λ (x : ℕ). x < 256) (eqb m 3) (λ _. omega arith) (λ _. omega arith) in
+      pick-by (λ (fs : List Frame). Sends n fs ours) (eqb addr own)
+      (λ _. record { more = n; readable = (((h, omega arith, err), tt), tt); next = e; then = λ gs c. c }) (λ _. none-sent)
+  nak-sent Ack m seq addr l h = none-sent
+  nak-sent Nak m seq addr l h = none-sent
+
+  -- the ACK and the message frame with our SEQ, where they are due
+  reply-sent : (t : Bool) (seq : ℕ) (i : List ℕ) → seq < 256 → GoodInfo i
+      → Sends n (pick t (ack seq own ∷ message ours own i ∷ []) []) (pick t ((ours + 1) % 256) ours)
+  reply-sent true seq i h g =
+      record {
+        more = n + 1;
+        readable = (((h, omega arith), tt), (((omega arith, omega arith, g .0), (g .1, g .2)), tt));
+        next = omega arith;
+        then = λ gs c. (e, c);
+      }
+  reply-sent false seq i h g = none-sent
+
+  module _ (requested : ℕ) (u : Running) (p : RunningParts u) (book : List ℕ) (hb : length book ≡ bookLen) where
+    abbrev Sent : ResultAndBook → Type 0
+    Sent w = Sends n (w .result .frames) (w .result .seq)
+
+    message-sent : (seq addr : ℕ) (info : List ℕ) → seq < 256 → Octets info → Sent (messageOf own ours requested u seq addr info book)
+    unfolding messageOf repliedOf
+    message-sent seq addr info h o =
+        pick-by Sent (forUs own addr)
+        (λ _. pick-by Sent (isAnswer (codeIn info)) (λ _. ack-sent seq addr h)
+        (λ _. reply-sent (eqb addr own) seq _ h (reply-good u requested book info (p .checks) (p .plan) hb o)))
+        (λ _. none-sent)
+
+    brought-sent : (f : Found) (kept : List ℕ) → CanFind f → OutcomeOctets (foundMeans f kept) → Sent (broughtOf (foundMeans f kept) own ours requested u book)
+    brought-sent found.Nothing kept c o = none-sent
+    brought-sent (found.Refused m k seq addr) kept c o = nak-sent k m seq addr c o
+    brought-sent (found.Message seq addr m) kept c o = message-sent seq addr (take m kept) (o .0) (o .1)
+    brought-sent (found.Ack seq addr) kept c o = none-sent
+    brought-sent (found.Nak seq addr err) kept c o = none-sent
+
+record CallSends (n : ℕ) (octets : List ℕ) (seq : ℕ) : Type 0 where
+  frames : List Frame
+  written : octets ≡ onLine frames
+  sends : Sends n frames seq
+
+module _ (own : ℕ) (hw : own < 65535) where
+  -- the state of a controller at this address that has written n message frames
+  record Able (n : ℕ) (s : State) : Type 0 where
+    heard : Heard
+    kept : Kept own s heard
+    octets : HoldsOctets (s .decoder)
+    seq : s .seq ≡ n % 256
+
+  octet-sends : (n : ℕ) (s : State) (b : ℕ) → b < 256 → (book out : List ℕ) → Able n s
+      → CallSends n (let w = octetOf s book out b in take (w .answer .count) (w .out)) (octetOf s book out b .answer .state .seq)
+  octet-sends n s b l book out a = by (octets-answered s book out b .either)
+    where
+      t : Taken
+      t = takenOf (s .decoder) b
+
+      Out : Call → Type 0
+      Out w = CallSends n (take (w .answer .count) (w .out)) (w .answer .state .seq)
+
+      by : ((m : ℕ) × OctetRefused s book out m) ⊎ ((soundOf s ≡ true) × (length book ≡ bookLen) × (outputLen ≤ length out)) → Out (octetOf s book out b)
+      by (inl x) = rw (octet-refused s book out b (x .1)) (record { frames = []; written = refl; sends = none-sent own n (s .seq) hw (a .seq) })
+      by (inr x) =
+          let p = sound-parts s (x .0) in
+          let w = broughtOf (outcomeOf t) (s .own) (s .seq) (s .requested) (s .running) book in
+          let fs = w .result .frames in
+          let fits : length (sent fs) ≤ length out = omega (arith, octet-right s book out b (x .0) (x .1) .fits, x .2) in
+          let v =
+          brought-sent (s .own) n (s .seq) (rw (a .kept .own) hw) (a .seq) (s .requested) (s .running) (p .running) book (x .1) (t .found) (t .decoder .info)
+          (can-find (s .decoder) b (p .decoder)) (taken-octets (s .decoder) b l (a .octets) .1) in
+          rw (octet-brings s book out b (x .0) (x .1) (x .2) refl) (record { frames = fs; written = written-take (sent fs) out fits ∙ sent-line fs; sends = v })
+
+  call-sends : (n : ℕ) (s : State) (e : HostCall) → Able n s → CallSends n (writes s e) (next s e .seq)
+  call-sends n s (octet b l book out o) a = octet-sends n s b l book out a
+  call-sends n s lineIdle a =
+      record { frames = []; written = refl; sends = none-sent own n (lineIdleOf s .state .seq) hw (ap (λ (w : Answer). w .state .seq) (idle-done s (a .kept .sound)) ∙ a .seq) }
+  call-sends n s (second book o) a =
+      record { frames = []; written = refl; sends = none-sent own n (secondOf s book .state .seq) hw (ap (λ (t : State). t .seq) (second-left s book) ∙ a .seq) }
+
+  holds-next : (n : ℕ) (s : State) (e : HostCall) → Able n s → HoldsOctets (next s e .decoder)
+  holds-next n s (octet b l book out o) a =
+      by-octet s book out b (λ _ t. HoldsOctets (t .decoder)) (a .octets)
+      (λ _ _ _. rw (done-left s (takenOf (s .decoder) b) book out .decoder) (taken-octets (s .decoder) b l (a .octets) .0))
+  holds-next n s lineIdle a = subst HoldsOctets (sym (ap (λ (w : Answer). w .state .decoder) (idle-done s (a .kept .sound)))) (idled-octets (s .decoder) (a .octets))
+  holds-next n s (second book o) a = rw (ap (λ (t : State). t .decoder) (second-left s book)) (a .octets)
+
+  record RunSends (n : ℕ) (octets : List ℕ) : Type 0 where
+    frames : List Frame
+    written : octets ≡ onLine frames
+    readable : AllReadable frames
+    counts : CountsFrom n frames
+
+  run-sends : (n : ℕ) (s : State) (es : List HostCall) → Able n s → RunSends n (writesOn s es)
+  run-sends n s [] a = record { frames = []; written = refl; readable = tt; counts = tt }
+  run-sends n s (e ∷ es) a =
+      let c = call-sends n s e a in
+      let v = c .sends in
+      let b : Able (v .more) (next s e) = record { heard = hears own (a .heard) e; kept = kept-next own s (a .heard) e (a .kept); octets = holds-next n s e a; seq = v .next } in
+      let r = run-sends (v .more) (next s e) es b in
+      record {
+        frames = c .frames ++ r .frames;
+        written = rw (c .written, r .written, line-append (c .frames) (r .frames));
+        readable = readable-append (c .frames) (r .frames) (v .readable) (r .readable);
+        counts = v .then (r .frames) (r .counts);
+      }
+
+zero-octets : (n : ℕ) → Octets (replicate n 0)
+zero-octets zero = tt
+zero-octets (suc n) = (omega arith, zero-octets n)
+
+pub our-seq-counts : OurSeqCounts
+unfolding startedOf freshOf freshDecoder
+our-seq-counts own hw es =
+    let n : own ≡ all → ⊥ = λ e. omega arith in
+    let fresh : Able own hw 0 (freshOf own) = record {
+      heard = record { decoder = freshDecoder; latest = 0 };
+      kept = record { own = refl; sound = fresh-sound own n; octets = octets-built-in; decoder = refl; latest = refl };
+      octets = record { seq = omega arith; info = zero-octets 256 };
+      seq = refl;
+    } in
+    let r = run-sends own hw 0 (freshOf own) es fresh in
+    record {
+      frames = r .frames;
+      octets = r .written;
+      heard = λ d a. rw (r .written) (all-heard (r .frames) (r .readable) d a);
+      counts = r .counts;
+    }
