@@ -22,9 +22,9 @@ frames-as-said =
     record {
       aaTwice = λ xs. refl;
       otherOnce = λ x xs h. rw (ne-eqb x 0xAA h);
-      noneNone = refl;
-      orMore = λ c x xs. refl;
-      orNone = λ c. refl;
+      noInfo = refl;
+      xorMore = λ c x xs. refl;
+      xorNone = λ c. refl;
       messageSent = λ s a i. simp append-assoc;
       messageBefore = λ s a i. simp append-assoc;
       messageCks = λ s a i. refl;

@@ -29,14 +29,14 @@ abbrev pub upToLen : ℕ → ℕ → ℕ → ℕ → List ℕ
 upToLen x s a n = 0xAA ∷ x ∷ s ∷ a / 256 ∷ a % 256 ∷ n / 256 ∷ n % 256 ∷ []
 
 -- 01's table: the octets of each kind in order, as they are sent and before doubling, and CKS
-pub record FramesSo : Type 0 where
+pub record FrameRows : Type 0 where
   -- "Only an AA within INFO is sent twice"
   pub aaTwice : (xs : List ℕ) → doubled (0xAA ∷ xs) ≡ 0xAA ∷ 0xAA ∷ doubled xs
   pub otherOnce : (x : ℕ) (xs : List ℕ) → (x ≡ 0xAA → ⊥) → doubled (x ∷ xs) ≡ x ∷ doubled xs
-  pub noneNone : doubled [] ≡ []
+  pub noInfo : doubled [] ≡ []
   -- "the exclusive or of all": one by one, bit by bit, from 0
-  pub orMore : (c x : ℕ) (xs : List ℕ) → exclusiveOr c (x ∷ xs) ≡ exclusiveOr (bitXor c x) xs
-  pub orNone : (c : ℕ) → exclusiveOr c [] ≡ c
+  pub xorMore : (c x : ℕ) (xs : List ℕ) → exclusiveOr c (x ∷ xs) ≡ exclusiveOr (bitXor c x) xs
+  pub xorNone : (c : ℕ) → exclusiveOr c [] ≡ c
   -- message: AA BB SEQ ADDR(2) LEN(2) INFO(n) AA CC CKS, LEN 10+n
   pub messageSent : (s a : ℕ) (i : List ℕ) → written (message s a i) ≡ upToLen 0xBB s a (10 + length i) ++ (doubled i ++ (0xAA ∷ 0xCC ∷ cksOf (message s a i) ∷ []))
   pub messageBefore : (s a : ℕ) (i : List ℕ) → undoubled (message s a i) ≡ upToLen 0xBB s a (10 + length i) ++ (i ++ (0xAA ∷ 0xCC ∷ cksOf (message s a i) ∷ []))
@@ -52,7 +52,7 @@ pub record FramesSo : Type 0 where
   pub nakCks : (s a e : ℕ) → cksOf (nak s a e) ≡ exclusiveOr 0 (upToLen 0xEE s a 9 ++ (e ∷ []))
 
 abbrev pub FramesAsSaid : Type 0
-FramesAsSaid = FramesSo
+FramesAsSaid = FrameRows
 
 -- the numbers of the table: "10+n, n from 2 to 256", 8 and 9; BB, DD and EE
 abbrev pub FrameNumbersAsSaid : Type 0
@@ -68,13 +68,13 @@ lenDue (nak s a e) = 9
 
 -- "LEN counts the whole frame before doubling": it is as many as the frame has octets then, and it is what stands in
 -- the two octets after ADDR.
-pub record LenOf (f : Frame) : Type 0 where
+pub record LenSaid (f : Frame) : Type 0 where
   pub counts : length (undoubled f) ≡ lenDue f
   pub stands : getD (written f) 5 0 * 256 + getD (written f) 6 0 ≡ lenDue f
   pub named : lenOf f ≡ lenDue f
 
 abbrev pub LenCounts : Type 0
-LenCounts = (f : Frame) → LenOf f
+LenCounts = (f : Frame) → LenSaid f
 
 -- "CKS is the exclusive or of all earlier octets of the frame before doubling": with it they cancel, and it is what the
 -- frame ends in.
