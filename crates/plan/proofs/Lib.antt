@@ -7,6 +7,7 @@ pub mod Cases
 pub mod Keeping
 pub mod Telling
 pub mod Reportable
+pub mod OverRange
 pub mod Judged
 pub mod Numbers
 pub mod Reported

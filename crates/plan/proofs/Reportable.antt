@@ -50,7 +50,7 @@ module _ (rec : List ℕ) (p : ℕ) (hp : p ≤ plansMost) (n : standingOf rec �
   times-in : timesEnd rec ≤ length rec
   times-in = omega (arith, some-long rec n, fit .count .most)
 
-  times-body : Read1 4 k timesBody
+  pub times-body : Read1 4 k timesBody
   unfolding rowsAt layoutRows layoutAt layouts
   times-body =
       let fs : List Field = repeated k times ++ [] in
@@ -64,7 +64,7 @@ module _ (rec : List ℕ) (p : ℕ) (hp : p ≤ plansMost) (n : standingOf rec �
         );
       }
 
-  times-count : kIn (layoutAt 4) timesBody ≡ k
+  pub times-count : kIn (layoutAt 4) timesBody ≡ k
   unfolding layoutAt layouts
   times-count = getD-take (timesEnd rec - 1) (drop 1 rec) 0 0 (omega arith) ∙ getD-drop 1 rec 0 0
 
@@ -89,7 +89,7 @@ module _ (rec : List ℕ) (p : ℕ) (hp : p ≤ plansMost) (n : standingOf rec �
     plan-in : readyEnd rec ≤ length rec
     plan-in = omega (arith, some-long rec n, fit .count .most)
 
-    plan-body : Read1 l k planBody
+    pub plan-body : Read1 l k planBody
     unfolding rowsAt layoutRows
     plan-body =
         let fs : List Field = repeated k greens ++ cycleOffset in
@@ -129,7 +129,7 @@ module _ (rec : List ℕ) (p : ℕ) (hp : p ≤ plansMost) (n : standingOf rec �
     pub plan-part : reportsPlan code ≡ true → reportPlanOf rec p code ≡ partOf l k planBody
     plan-part t = plan-read t .1 ∙ ap (λ (r : Read). r .message) plan-as
 
-no-report : NoReport noMessage
+pub no-report : NoReport noMessage
 unfolding noMessage zeros
 no-report = refl
 

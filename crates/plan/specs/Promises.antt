@@ -264,6 +264,10 @@ pub record ReportRead (rec : List ℕ) (p : ℕ) : Type 0 where
 abbrev pub ReportsRead : Type 0
 ReportsRead = (rec : List ℕ) (p : ℕ) → p ≤ 48 → ReportRead rec p
 
+-- "Plan is .. 0 to 48 elsewhere": a plan over 48 has no report.
+abbrev pub NoReportOver48 : Type 0
+NoReportOver48 = (rec : List ℕ) (p code : ℕ) → 48 < p → NoReport (reportTimesOf rec p) × NoReport (reportPlanOf rec p code)
+
 -- Octets pass as the built-in record exactly when they are its 80 octets, whatever their length.
 abbrev pub BuiltInKnown : Type 0
 BuiltInKnown = (rec : List ℕ) → (same rec builtIn ≡ true → rec ≡ builtIn) × (rec ≡ builtIn → same rec builtIn ≡ true)
