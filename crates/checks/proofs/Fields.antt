@@ -5,19 +5,18 @@ use mathlib.Core.Bool.{Bool, true, false}
 use mathlib.Core.List.{List, [], _∷_, _++_, append-assoc}
 use native.Mathlib.Nat.{zero-mul, suc-mul, add-zero}
 use native.Mathlib.Omega.{arith}
-use lib.ListN.{length, getD, take, drop, length-take, length-drop}
-use lib.Seq.{take-nil, drop-nil, drop-drop, getD-take, getD-drop, length-take-le}
+use lib.ListN.{length, take, drop}
+use lib.Seq.{take-nil, drop-drop, getD-take, getD-drop}
 use Rattle.octets.specs.Refusal as refusal
 use Rattle.message.specs.declared.Read.{Read}
 use Rattle.message.specs.declared.layout.Field.{Field}
-use Rattle.message.specs.Fields.{twoOf, widthOf, valueOf, noField}
-use Rattle.message.specs.Layouts.{layouts, layoutAt, rowsAt, layoutRows, repeated, times, greens, cycleOffset}
+use Rattle.message.specs.Fields.{twoOf, widthOf, valueOf}
+use Rattle.message.specs.Layouts.{rowsAt, repeated, times, greens, cycleOffset}
 use Rattle.message.specs.Values.{sizeOf, valuesOf}
 use Rattle.message.specs.Reader.{notRead, readAs, partOf, readPartOf}
 use Rattle.message.specs.Promises.{InRange, RightAt, HasLayout, RightLength, PartJudged, unknown, wrongLength, outOfRange, accepted}
 use Rattle.message.proofs.ReadSo.{parts-read-so}
-use Rattle.diagram.specs.Table.{phasesOf}
-use Rattle.record.specs.Record.{octetAt, wordAt, kOf, timesAt, minimumOf, maximumOf, yellowOf, allRedOf, walkFlashOf, redManOf, Within, TimesFit}
+use Rattle.record.specs.Record.{octetAt, wordAt, timesAt, minimumOf, maximumOf, walkFlashOf, redManOf, Within, TimesFit}
 
 -- each field passes, left to right
 abbrev pub Pass : List Field → List ℕ → Type 0

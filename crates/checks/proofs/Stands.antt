@@ -5,12 +5,12 @@ use mathlib.Core.Bool.{Bool, true, false, not}
 use mathlib.Core.List.{List, [], _∷_, _++_}
 use native.Mathlib.Decide.{decLt, ℕ-discrete}
 use native.Mathlib.Omega.{arith}
-use borrow.Author.Tests.{eq-eqb, ne-eqb, le-leb, lt-leb, lt-ltb, le-ltb, eqb-true, eqb-false, leb-true, leb-false, ltb-true, ltb-false, not-true, not-false}
+use borrow.Author.Tests.{eq-eqb, ne-eqb, le-leb, lt-leb, le-ltb, eqb-true, leb-false, ltb-false, not-false}
 use lib.Dec.{eqb, leb, ltb}
-use lib.ListN.{length, getD, take, drop, replicate, length-take, length-drop, length-replicate}
+use lib.ListN.{length, drop, replicate, length-drop}
 use lib.Seq.{length-take-le, drop-drop}
 use Rattle.octets.specs.Choice.{pick, both}
-use Rattle.octets.specs.First.{First, firstOf}
+use Rattle.octets.specs.First.{First}
 use Rattle.octets.specs.Octet.{Octets}
 use Rattle.octets.specs.Refusal as refusal
 use Rattle.octets.proofs.Laws.{both-left, both-right, clash, first-none, first-one}
@@ -24,8 +24,8 @@ use Rattle.message.specs.Values.{sizeOf}
 use Rattle.message.specs.Reader.{readPartOf}
 use Rattle.message.specs.Promises.{HasLayout, InRange}
 use Rattle.message.proofs.Values.{size-append, size-repeated}
-use Rattle.record.specs.Record.{recordLen, empty, timesSet, ready, stateOf, kOf, timesAt, timesEnd, readyEnd, greensAt, minimumOf, maximumOf, walkFlashOf, redManOf, directOf, orderOf, greenOf, cycleOf, offsetOf, sumOf, Within, TimesFit, AllTimesFit, ZeroFrom, GreensFit, TimesSet, Ready}
-use Rattle.checks.specs.Standing.{headLen, between, timesFail, timesChecks, timesDisagree, greenFails, planFails, planChecks, planDisagree, ranged, timesStand, planStands, readyStands, allZero, standingOf, Stands, StandsAsItIs}
+use Rattle.record.specs.Record.{recordLen, empty, timesSet, ready, stateOf, kOf, timesAt, timesEnd, readyEnd, greensAt, minimumOf, maximumOf, walkFlashOf, redManOf, directOf, orderOf, greenOf, cycleOf, offsetOf, sumOf, Within, AllTimesFit, ZeroFrom, GreensFit, TimesSet, Ready}
+use Rattle.checks.specs.Standing.{headLen, between, timesFail, timesChecks, timesDisagree, greenFails, planFails, planChecks, planDisagree, ranged, timesStand, planStands, readyStands, allZero, standingOf, StandsAsItIs}
 use Rattle.record.proofs.Laws.{octet-below}
 use Rattle.checks.proofs.Laws.{fails-green, fails-cycle, fails-offset}
 use Rattle.checks.proofs.Fields.{Pass, Read1, read-pass, pass-read, pass-whole, pass-part, pass-repeated, repeated-pass, phase-in, phase-out, greens-in, greens-out, at-one, within, inside}

@@ -12,15 +12,14 @@ use lib.ListN.{length, getD, take, replicate}
 use Rattle.octets.specs.Choice.{pick}
 use Rattle.octets.specs.First.{firstOf}
 use Rattle.octets.specs.Octet.{Octets}
-use Rattle.octets.specs.Word.{highOf, lowOf}
-use Rattle.octets.proofs.Laws.{pick-by, octets-append}
+use Rattle.octets.proofs.Laws.{pick-by}
 use Rattle.frame.specs.declared.Kind.{Kind}
 use Rattle.frame.specs.declared.Kind.the-variants.{Message, Ack, Nak}
 use Rattle.frame.specs.declared.decoder.Decoder.{Decoder}
 use Rattle.frame.specs.declared.decoder.Taken.{Taken}
 use Rattle.frame.specs.declared.decoder.Found.{Found}
 use Rattle.frame.specs.declared.decoder.Found.the-variants as found
-use Rattle.frame.specs.Frame.{Frame, message, ack, nak, written}
+use Rattle.frame.specs.Frame.{Frame, message, ack, written}
 use Rattle.frame.specs.Promises.{InOctets, InfoFits}
 use Rattle.frame.specs.Decoder.{freshDecoder, takenOf}
 use Rattle.frame.specs.Run.{Outcome, nothing, refused, sound, foundMeans, outcomeOf, outcomes, decoderAfter, AtRest}
@@ -41,19 +40,17 @@ use Rattle.checks.specs.Standing.{standingOf}
 use Rattle.controller.specs.declared.Answer.{Answer}
 use Rattle.controller.specs.declared.Running.{Running}
 use Rattle.controller.specs.declared.State.{State}
-use Rattle.controller.specs.declared.Event.{Event}
-use Rattle.controller.specs.declared.Handled.{Handled}
 use Rattle.controller.specs.State.{all, outputLen, freshOf, soundOf}
 use Rattle.controller.specs.Handling.{carriedOutReply, refusedReply, handlingOf}
-use Rattle.controller.specs.Replies.{Call, CanFind, Result, ResultAndBook, sent, errOf, naks, acks, forUs, isAnswer, unchanged, leaves, repliedOf, messageOf, broughtOf, madeOf, doneOf, octetOf, lineIdleOf}
+use Rattle.controller.specs.Replies.{Call, CanFind, ResultAndBook, sent, errOf, naks, acks, forUs, isAnswer, repliedOf, messageOf, broughtOf, octetOf, lineIdleOf}
 use Rattle.controller.specs.Seconds.{startedOf, secondOf}
 use Rattle.controller.specs.Demand1.{OctetRefused}
 use Rattle.controller.specs.Demand2.{onLine}
 use Rattle.controller.specs.Demand3.{HostCall, octet, lineIdle, second, next, Heard, hears}
-use Rattle.controller.specs.OurSeq.{writes, writesOn, writtenIn, framesHeard, CountsFrom, SeqCounted, OurSeqCounts}
+use Rattle.controller.specs.OurSeq.{writes, writesOn, framesHeard, CountsFrom, OurSeqCounts}
 use Rattle.controller.proofs.Laws.{octet-brings, idle-done}
 use Rattle.controller.proofs.Judging.{RunningParts, sound-parts, octets-built-in}
-use Rattle.controller.proofs.Replying.{can-find, carried-out-info, info-fits, by-reply}
+use Rattle.controller.proofs.Replying.{can-find, info-fits, by-reply}
 use Rattle.controller.proofs.Answering.{octets-answered, octet-refused, octet-right, written-take}
 use Rattle.controller.proofs.Keeping.{done-left, by-octet, second-left, fresh-sound}
 use Rattle.controller.proofs.Latest.{Kept, kept-next}

@@ -63,13 +63,15 @@ fn first_row(order: u8) -> u16
 fn row_number(order: u8, step: u16) -> usize
     ensures { λ r. ⌜ r ≡ rowNumber order step ⌝ }
 {
+    // Read before the tests: so the compiler works out one row for both words, and stores the column once.
+    let first = first_row(order) as usize;
     if step == 0 {
         return ROWS;
     }
     if steps(order) < step {
         return ROWS;
     }
-    first_row(order) as usize + (step - 1) as usize
+    first + (step - 1) as usize
 }
 
 // The steady lamps of a step, the first step being 1; none where there is no such step.

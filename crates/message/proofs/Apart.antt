@@ -22,7 +22,7 @@ use denote.RattleType.{RattleType, owns}
 use denote.Laws.{Is, shows}
 use denote.Builtin.{u8, usize}
 use denote.Exit.{yes}
-use denote.Signature.{Signature, plain, shrSlice, namedLft}
+use denote.Signature.{plain, shrSlice, namedLft}
 use denote.Slice.{sliceTy, sliceVal, ShrSlice}
 use denote.Steps.{peeks, heard, nothing}
 use denote.Struct.Declared.{Declared}
@@ -33,7 +33,7 @@ use denote.Triple.Call.{calls-at}
 use denote.Triple.Clauses.{Clauses, Ended, closing, ensured, lasts}
 use denote.Triple.Entry.{Vals, onEntry}
 use denote.Triple.Spec.{Meets, tripleOf}
-use denote.Triple.Walked.{says, Stays, stay-none, walkOf, goes-none, Walks, ends-at, walked, walk-meets}
+use denote.Triple.Walked.{says, Stays, stay-none, walkOf, goes-none, ends-at, walked, walk-meets}
 use Rattle.message.specs.Info.{readerAt}
 use Rattle.message.specs.declared.info.Reader.{Reader}
 use Rattle.message.proofs.info.Reader as T

@@ -186,6 +186,8 @@ field-numbers =
 pub names-as-said : NamesAsSaid
 names-as-said =
     record {
+      code = λ info. refl;
+      body = λ info. refl;
       answered = refl;
       error = refl;
       parameter = refl;

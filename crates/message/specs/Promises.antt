@@ -15,7 +15,7 @@ use Rattle.message.specs.declared.layout.Field.the-variants.{Octet, Two,
 use Rattle.message.specs.Fields.{noField}
 use Rattle.message.specs.Layouts.{layouts, layoutAt, numberOf, rowsAt, storedTimes, storedPlan}
 use Rattle.message.specs.Values.{sizeOf, fieldStart, valuesOf}
-use Rattle.message.specs.Reader.{kIn, partOf, readPartOf, readOf}
+use Rattle.message.specs.Reader.{kIn, partOf, readPartOf, readOf, codeIn, bodyIn}
 use Rattle.message.specs.Writer.{numberIn, kOfMessage, infoOf, writeMessage}
 use Rattle.message.specs.Names as number
 
@@ -111,8 +111,11 @@ pub record EachCode : Type 0 where
 abbrev pub FieldNumbers : Type 0
 FieldNumbers = EachCode
 
--- The names by which refusals name fields, each with its number
+-- The names by which refusals name fields, each with its number; and those of the code, "high octet first", and of "the octets after the two
+-- of the code"
 pub record EachName : Type 0 where
+  pub code : (info : List ℕ) → codeIn info ≡ getD info 0 0 * 256 + getD info 1 0
+  pub body : (info : List ℕ) → bodyIn info ≡ drop 2 info
   pub answered : number.answeredAt ≡ 1
   pub error : number.errorAt ≡ 2
   pub parameter : number.parameterAt ≡ 3

@@ -1,5 +1,5 @@
 -- 01, "Messages" and "Replies": what a call of the writer answers, and what it leaves in the output.
-use Prim.Native.Nat.{ℕ, _+_}
+use Prim.Native.Nat.{ℕ}
 use mathlib.Core.Bool.{Bool, true}
 use mathlib.Core.List.{List, _++_}
 use lib.Dec.{eqb}

@@ -1,9 +1,9 @@
 -- Octets, words and exclusive or are as 01 says: by arithmetic, and by the library's laws of bits.
-use Prim.Native.Nat.{ℕ, zero, suc, _+_, _*_, _/_, _%_, _^_, _<_}
-use mathlib.Core.Path.{_≡_, refl, _∙_}
+use Prim.Native.Nat.{ℕ, zero, suc, _+_, _/_, _%_, _^_, _<_}
+use mathlib.Core.Path.{_≡_, refl}
 use mathlib.Core.List.{List, [], _∷_}
 use native.Mathlib.Omega.{arith}
-use lib.Bits.{bitAnd, xor-add-and, xor-shr}
+use lib.Bits.{xor-add-and, xor-shr}
 use lib.ListN.{length, getD}
 use Rattle.octets.specs.ExclusiveOr.{xor, exclusiveOr}
 use Rattle.octets.specs.Octet.{Octets}

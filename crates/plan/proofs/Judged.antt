@@ -17,8 +17,8 @@ use Rattle.octets.proofs.Laws.{clash}
 use Rattle.record.specs.Record.{recordLen, plansMost, bookLen, empty}
 use Rattle.checks.specs.Standing.{standingOf}
 use Rattle.plan.specs.BuiltIn.{builtIn}
-use Rattle.plan.specs.Reading.{recordStart, recordAt, same, readRefusal, PartRead, PlanRead}
-use Rattle.plan.specs.Promises.{ReadingJudged, wrongLength, overRange, unlike, emptyPlan, builtInRead, bookRead, BuiltInKnown, PlansReadSo, PartGiven, PartsGivenSo}
+use Rattle.plan.specs.Reading.{recordStart, recordAt, same, readRefusal, PartRead}
+use Rattle.plan.specs.Promises.{ReadingJudged, wrongLength, overRange, unlike, emptyPlan, builtInRead, bookRead, BuiltInKnown, PlansReadSo, PartsGivenSo}
 use Rattle.plan.proofs.Readying.{stands-has, has-stands}
 use Rattle.plan.proofs.Laws.{same-is, is-same, length-built-in, octets-part, refused-book, refused-copy, refused-range, read-zero, refused-zero, refused-empty, read-set}
 

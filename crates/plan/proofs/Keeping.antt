@@ -1,7 +1,7 @@
 -- A set refuses what is not its own, leaves every other plan as it was, and a well-formed book well formed.
 use Prim.Native.Nat.{ℕ, _≤_, _<_}
 use mathlib.Core.Path.{_≡_, refl, sym, ap, subst, _∙_}
-use mathlib.Core.Logic.{_⊎_, inl, inr}
+use mathlib.Core.Logic.{inl, inr}
 use mathlib.Core.List.{List}
 use native.Mathlib.Decide.{decLt, ℕ-discrete}
 use native.Mathlib.Omega.{arith}
@@ -15,7 +15,7 @@ use Rattle.message.specs.Reader.{codeIn, bodyIn, notRead, readOf}
 use Rattle.message.proofs.Reading.{read-11}
 use Rattle.plan.specs.declared.setting.Answered.{Answered}
 use Rattle.plan.specs.declared.setting.NewRecord.{NewRecord}
-use Rattle.record.specs.Record.{bookLen, plansMost, Empty, TimesSet, Ready}
+use Rattle.record.specs.Record.{bookLen, plansMost}
 use Rattle.plan.specs.Reading.{recordAt, readRefusal}
 use Rattle.plan.specs.Setting.{planIn, answered, setFront, setOf, timesMade, readyMade, setTimesCode, setPlanCode, setTimesOf, setPlanOf}
 use Rattle.plan.specs.Promises.{SetRefused, SetsRefuse, RecordStored, OthersRead, SetsLeaveOthers, WellFormed, BookWellFormed, SetsKeepForm}

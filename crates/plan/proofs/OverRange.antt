@@ -15,7 +15,7 @@ use Rattle.octets.proofs.Laws.{word-back}
 use Rattle.message.specs.declared.Read.{Read}
 use Rattle.message.specs.Fields as field
 use Rattle.message.specs.Layouts.{layouts, layoutAt, numberOf, rowsAt, layoutRows, counted, greens, cycleOffset}
-use Rattle.message.specs.Values.{valuesOf}
+use Rattle.message.specs.Values.{zeros, valuesOf}
 use Rattle.message.specs.Reader.{noMessage, notRead, kIn, codeIn, bodyIn, readOf}
 use Rattle.message.specs.Promises.{HasLayout, RightLength, RightAt, Judged, body, outOfRange}
 use Rattle.message.proofs.ReadSo.{read-so}
@@ -28,7 +28,7 @@ use Rattle.plan.proofs.Reportable.{times-body, times-count, plan-body, 
 
 first-out : (info : List ℕ) (l k : ℕ) → numberOf (codeIn info) ≡ l → kIn (layoutAt l) (bodyIn info) ≡ k → codeLen ≤ length info → HasLayout l → RightLength l k (bodyIn info)
     → 0 < length (rowsAt l k) → (RightAt (rowsAt l k) (valuesOf (rowsAt l k) (bodyIn info)) 0 → ⊥) → NoReport (readOf info .message)
-unfolding notRead
+unfolding notRead noMessage zeros
 first-out info l k el ek h kn r m w =
     let j = outOfRange 1 kn r (record { place = 0; number = refl; within = m; before = λ j l. absurd (omega arith); here = w }) in
     let q : Judged info (notRead refusal.outOfRange 1) = body {r = notRead refusal.outOfRange 1} h (rw (el, ek) j) in

@@ -1,23 +1,19 @@
 -- A report holds the fields of its record: its octets are the record's own from one place up to another, and the values that the reader
 -- finds are those of the octets at the fields' places.
 use Prim.Native.Nat.{ℕ, zero, suc, _+_, _*_, _-_, _≤_, _<_}
-use mathlib.Core.Path.{_≡_, refl, sym, ap, _∙_}
+use mathlib.Core.Path.{_≡_, refl, ap, _∙_}
 use mathlib.Core.Bool.{true, false}
-use mathlib.Core.List.{List, [], _∷_}
+use mathlib.Core.List.{List, _∷_}
 use native.Mathlib.Omega.{arith}
-use lib.ListN.{length, getD, take, drop, List·getD-eq-default}
+use lib.ListN.{length, getD, drop, List·getD-eq-default}
 use lib.Seq.{getD-take, getD-drop}
 use Rattle.octets.specs.First.{firstOf}
-use Rattle.octets.specs.Octet.{Octets}
-use Rattle.octets.specs.Word.{wordOf}
-use Rattle.message.specs.declared.Message.{Message}
 use Rattle.message.specs.declared.layout.Field.{Field}
-use Rattle.message.specs.Fields as field
 use Rattle.message.specs.Fields.{twoOf, valueOf}
-use Rattle.message.specs.Layouts.{layouts, layoutAt, numberOf, rowsAt, counted, greens, cycleOffset}
+use Rattle.message.specs.Layouts.{layouts, layoutAt, numberOf, rowsAt, greens}
 use Rattle.message.specs.Values.{valuesOf, placed}
 use Rattle.message.specs.Reader.{partOf}
-use Rattle.message.specs.Promises.{FieldStands, PhaseFields, TimesFields, PlanFields, HasLayout}
+use Rattle.message.specs.Promises.{FieldStands, PhaseFields, TimesFields, PlanFields}
 use Rattle.message.proofs.Numbers.{field-numbers}
 use Rattle.message.proofs.Places.{value-at}
 use Rattle.message.proofs.Ranges.{placed-at}
@@ -25,8 +21,8 @@ use Rattle.message.proofs.Values.{value-one, value-two, length-values}
 use Rattle.record.specs.Record.{empty, ready, octetAt, wordAt, kOf, timesAt, timesEnd, greensAt, readyEnd, directOf, orderOf, AllTimesFit}
 use Rattle.checks.specs.Standing.{between, standingOf}
 use Rattle.checks.proofs.Stands.{part-long, times-fit, some-long, some-times, stands-as-it-is}
-use Rattle.plan.specs.Reporting.{timesInfo, planInfo, reportTimesOf, reportPlanOf}
-use Rattle.plan.specs.Reported.{twoAt, valueAt, PhaseInInfo, PhaseInMessage, TimesInInfo, TimesInMessage, TimesReportedByFields, PlanInInfo, PlanInMessage, PlanReportedByFields}
+use Rattle.plan.specs.Reporting.{timesInfo, planInfo}
+use Rattle.plan.specs.Reported.{twoAt, PhaseInInfo, PhaseInMessage, TimesInInfo, TimesInMessage, TimesReportedByFields, PlanInInfo, PlanInMessage, PlanReportedByFields}
 use Rattle.plan.proofs.Readying.{has-stands}
 use Rattle.plan.proofs.Reportable.{times-part, plan-part}
 

@@ -1,17 +1,16 @@
 -- What follows from the definitions of a report: one law for each way.
 use Prim.Native.Nat.{ℕ, _+_, _≤_}
-use mathlib.Core.Path.{_≡_, refl, sym, ap, _∙_}
+use mathlib.Core.Path.{_≡_, sym, _∙_}
 use mathlib.Core.Bool.{Bool, true, false}
-use mathlib.Core.List.{List, [], _∷_, _++_}
+use mathlib.Core.List.{List, _∷_, _++_}
 use native.Mathlib.Omega.{arith}
 use borrow.Author.Tests.{eq-eqb, ne-eqb}
-use lib.ListN.{length, take, drop, replicate, length-append, length-replicate}
-use lib.Seq.{sets, sets-eq, take-at}
+use lib.ListN.{length, take, drop, replicate, length-append}
+use lib.Seq.{sets-eq, take-at}
 use Rattle.octets.specs.Put.{Put, Stored}
 use Rattle.octets.specs.Word.{highOf, lowOf}
 use Rattle.octets.proofs.Laws.{put-stored, stored-then}
 use Rattle.message.specs.declared.Message.{Message}
-use Rattle.message.specs.declared.Read.{Read}
 use Rattle.message.specs.Reader.{noMessage, readOf}
 use Rattle.record.specs.Record.{recordLen, empty, ready, kOf, timesEnd, greensAt, readyEnd, directOf, orderOf}
 use Rattle.checks.specs.Standing.{between, standingOf}

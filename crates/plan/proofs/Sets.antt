@@ -1,6 +1,6 @@
 -- What follows from the definitions of a set: one law for each way, and what a message that is read tells.
 use Prim.Native.Nat.{ℕ, zero, suc, _+_, _*_, _-_, _/_, _%_, _≤_, _<_}
-use mathlib.Core.Path.{_≡_, refl, sym, ap, subst, _∙_}
+use mathlib.Core.Path.{_≡_, refl, sym, ap, _∙_}
 use mathlib.Core.Bool.{Bool, true, false}
 use mathlib.Core.List.{List, [], _∷_, _++_}
 use native.Mathlib.Nat.{zero-add}
@@ -8,9 +8,9 @@ use native.Mathlib.Decide.{decLt, ℕ-discrete}
 use native.Mathlib.Omega.{arith}
 use borrow.Author.Tests.{eq-eqb, ne-eqb, le-leb, lt-leb}
 use lib.Dec.{leb}
-use lib.ListN.{length, getD, take, drop, set, replicate, length-append, length-take, length-drop, length-replicate, List·getD-append, List·getD-eq-default}
+use lib.ListN.{length, drop, set, replicate, length-append, length-drop, length-replicate, List·getD-append, List·getD-eq-default}
 use lib.Seq.{sets, sets-eq, getD-drop, getD-take, getD-append-add, drop-at, length-take-le}
-use Rattle.octets.specs.First.{First, firstOf}
+use Rattle.octets.specs.First.{firstOf}
 use Rattle.octets.specs.Part.{codeLen}
 use Rattle.octets.specs.Put.{Put, Stored}
 use Rattle.octets.specs.Refusal as refusal
@@ -18,10 +18,9 @@ use Rattle.octets.proofs.Laws.{clash, put-stored, stored-then, part-to-end, get
 use Rattle.message.specs.declared.Read.{Read}
 use Rattle.message.specs.Fields as field
 use Rattle.message.specs.Layouts.{layouts, layoutAt, numberOf, rowsAt, layoutRows, repeated, times, greens, cycleOffset}
-use Rattle.message.specs.Values.{sizeOf, valuesOf}
 use Rattle.message.specs.Reader.{kIn, codeIn, bodyIn, readOf}
 use Rattle.message.specs.Names.{planAt, planCountAt, maximumAt, redManAt}
-use Rattle.message.proofs.Accepted.{Accepted, accepted-in}
+use Rattle.message.proofs.Accepted.{accepted-in}
 use Rattle.message.proofs.Values.{size-append, size-repeated}
 use Rattle.plan.specs.declared.setting.Answered.{Answered}
 use Rattle.plan.specs.declared.setting.NewRecord.{NewRecord}
@@ -29,7 +28,7 @@ use Rattle.record.specs.Record.{recordLen, bookLen, empty, timesSet, ready, oct
 use Rattle.checks.specs.Standing.{between, timesDisagree, planDisagree, standingOf}
 use Rattle.plan.specs.BuiltIn.{padded}
 use Rattle.plan.specs.Reading.{recordStart, recordAt}
-use Rattle.plan.specs.Setting.{planIn, countIn, Times14, Plan15, timesRecord, readyRecord, made, notMade, timesField, planField, timesMade, readyMade, Setting, SetLeaves, answered, keptAs, setTimesCode, setPlanCode, otherCode, setFront, setOf}
+use Rattle.plan.specs.Setting.{planIn, countIn, Times14, Plan15, timesRecord, readyRecord, made, notMade, timesField, planField, timesMade, readyMade, SetLeaves, answered, keptAs, setTimesCode, setPlanCode, otherCode, setFront, setOf}
 use Rattle.checks.proofs.Fields.{Read1, pass-all}
 use Rattle.checks.proofs.Laws.{both-none}
 

@@ -1,32 +1,27 @@
 -- A 5F 14 is stored exactly when its checks pass.
-use Prim.Native.Nat.{ℕ, zero, suc, _+_, _*_, _-_, _/_, _%_, _≤_, _<_}
+use Prim.Native.Nat.{ℕ, _+_, _*_, _-_, _/_, _%_, _≤_, _<_}
 use mathlib.Core.Path.{_≡_, refl, sym, ap, subst, _∙_}
-use mathlib.Core.Bool.{Bool, true, false}
 use mathlib.Core.List.{List, [], _∷_, _++_, append-assoc}
 use native.Mathlib.Decide.{decLt, ℕ-discrete}
 use native.Mathlib.Omega.{arith}
 use borrow.Author.Tests.{eq-eqb, ne-eqb, ltb-true, ltb-false, leb-true, leb-false}
-use lib.Dec.{eqb}
-use lib.ListN.{length, getD, take, drop, replicate, length-take, length-drop, length-append, take-append-drop, List·getD-eq-default}
+use lib.ListN.{length, take, drop, replicate, length-drop, length-append, take-append-drop, List·getD-eq-default}
 use lib.Seq.{sets, sets-eq, length-sets, drop-drop, drop-at, take-at, drop-append-le, take-append-le, drop-append-add, getD-drop, length-take-le}
 use Rattle.octets.specs.First.{First, firstOf}
-use Rattle.octets.specs.Octet.{Octets}
 use Rattle.octets.specs.Part.{codeLen}
 use Rattle.octets.specs.Refusal as refusal
-use Rattle.octets.proofs.Laws.{clash}
 use Rattle.message.specs.declared.Read.{Read}
 use Rattle.message.specs.Layouts.{layouts, layoutAt, numberOf, rowsAt, layoutRows, repeated, times}
 use Rattle.message.specs.Reader.{readAs, partOf, kIn, codeIn, bodyIn, readOf}
 use Rattle.message.specs.Promises.{HasLayout, Judged, body, accepted}
 use Rattle.message.proofs.ReadSo.{read-so}
 use Rattle.message.proofs.Values.{size-append, size-repeated}
-use Rattle.plan.specs.declared.setting.Answered.{Answered}
 use Rattle.plan.specs.declared.setting.NewRecord.{NewRecord}
-use Rattle.record.specs.Record.{recordLen, bookLen, plansMost, timesSet, octetAt, wordAt, stateOf, kOf, timesAt, timesEnd, minimumOf, maximumOf, yellowOf, allRedOf, walkFlashOf, redManOf, Within, TimesFit, AllTimesFit, TimesSet}
+use Rattle.record.specs.Record.{recordLen, bookLen, plansMost, timesSet, octetAt, kOf, timesAt, timesEnd, minimumOf, maximumOf, walkFlashOf, redManOf, TimesFit}
 use Rattle.checks.specs.Standing.{timesFail, timesChecks, timesDisagree}
 use Rattle.plan.specs.BuiltIn.{padded}
 use Rattle.plan.specs.Reading.{recordStart, recordAt}
-use Rattle.plan.specs.Setting.{planIn, Setting, answered, made, notMade, timesRecord, timesField, timesMade, keptAs, setFront, setOf, setTimesCode, setTimesOf}
+use Rattle.plan.specs.Setting.{planIn, Setting, answered, made, notMade, timesRecord, timesField, timesMade, keptAs, setOf, setTimesCode, setTimesOf}
 use Rattle.plan.specs.Promises.{Fit14, PhaseAgrees, Disagrees14, maximum, redMan, RecordStored, SameTimes, Holds14, TimesJudged, TimesStoredExactlyWhen}
 use Rattle.checks.proofs.Fields.{at-one, inside, Pass, Read1, all-pass, pass-repeated, repeated-pass, phase-in, phase-out}
 use Rattle.checks.proofs.Stands.{phases-at, times-first, check-maximum, check-redman, times-ordered, times-walk, agree-times}

@@ -1,26 +1,23 @@
 -- What was set is what is reported: the INFO of the report is that of the set, but for its code.
-use Prim.Native.Nat.{ℕ, _+_, _*_, _-_, _≤_, _<_}
-use mathlib.Core.Path.{_≡_, refl, sym, ap, subst, _∙_}
+use Prim.Native.Nat.{ℕ, _-_, _≤_}
+use mathlib.Core.Path.{_≡_, refl, sym, ap, _∙_}
 use mathlib.Core.Bool.{true}
 use mathlib.Core.Logic.{_⊎_, inl, inr}
-use mathlib.Core.List.{List, [], _∷_, _++_, append-assoc}
+use mathlib.Core.List.{List, _∷_, _++_, append-assoc}
 use native.Mathlib.Omega.{arith}
 use borrow.Author.Tests.{eq-eqb, ne-eqb}
-use lib.ListN.{length, getD, take, drop, replicate, length-append, length-drop}
+use lib.ListN.{length, take, drop, replicate, length-append, length-drop}
 use lib.Seq.{take-at, drop-at, getD-drop, length-take-le}
 use Rattle.octets.specs.First.{firstOf}
-use Rattle.octets.specs.Octet.{Octets}
-use Rattle.octets.specs.Refusal as refusal
 use Rattle.octets.specs.Word.{highOf, lowOf}
 use Rattle.octets.proofs.Laws.{drop-next}
-use Rattle.message.specs.declared.Message.{Message}
 use Rattle.message.specs.declared.Read.{Read}
 use Rattle.message.specs.Layouts.{layouts, layoutAt, numberOf, rowsAt, layoutRows}
-use Rattle.message.specs.Reader.{readAs, partOf, kIn, codeIn, bodyIn, readOf}
-use Rattle.record.specs.Record.{recordLen, bookLen, empty, timesSet, ready, stateOf, kOf, timesEnd, greensAt, readyEnd, directOf, orderOf}
+use Rattle.message.specs.Reader.{readAs, partOf, bodyIn, readOf}
+use Rattle.record.specs.Record.{recordLen, empty, timesSet, ready, stateOf, kOf, timesEnd, greensAt, readyEnd, directOf, orderOf}
 use Rattle.checks.specs.Standing.{between, readyStands, standingOf}
 use Rattle.plan.specs.BuiltIn.{padded}
-use Rattle.plan.specs.Reading.{recordStart, recordAt}
+use Rattle.plan.specs.Reading.{recordAt}
 use Rattle.plan.specs.Setting.{planIn, countIn, Setting, timesRecord, readyRecord, setTimesCode, setPlanCode, setTimesOf, setPlanOf}
 use Rattle.plan.specs.Reporting.{reportTimesCode, reportPlanCode, reportRunningCode, timesInfo, planInfo, reportTimesOf, reportsPlan, reportPlanOf}
 use Rattle.plan.specs.Promises.{Fit14, directIn, orderIn, Fit15, Holds15, Reports, TimesReported, PlanReported}

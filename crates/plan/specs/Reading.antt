@@ -3,7 +3,7 @@
 -- "Reading a plan is lent the book and an 80-octet copy of the built-in record, and gives back a part of the plan book or of the
 -- built-in record. It refuses with an empty part: 8 if either length is wrong, then 12 for a plan over 48, then 13 for an empty
 -- plan, or for plan 0 where the copy differs from the built-in record."
-use Prim.Native.Nat.{ℕ, _+_, _*_, _-_, _≤_}
+use Prim.Native.Nat.{ℕ, _*_, _-_}
 use mathlib.Core.Path.{_≡_}
 use mathlib.Core.Bool.{Bool, true, false, not}
 use mathlib.Core.List.{List, [], _∷_}

@@ -5,7 +5,7 @@
 -- included, read as empty."
 use Prim.Native.Nat.{ℕ, zero, suc, _+_, _*_, _-_, _≤_, _<_}
 use mathlib.Core.Path.{_≡_}
-use mathlib.Core.List.{List, []}
+use mathlib.Core.List.{List}
 use lib.ListN.{length, getD, drop, replicate}
 use Rattle.octets.specs.Word.{wordOf}
 use Rattle.diagram.specs.Table.{phasesOf}

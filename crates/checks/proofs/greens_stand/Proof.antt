@@ -1,5 +1,5 @@
 -- `checks::greens_stand` meets its contract: the greens of all phases so far are within their bounds, and the sum so far is theirs.
-use Prim.Native.Nat.{ℕ, _+_, _*_, _≤_, _<_, _-_}
+use Prim.Native.Nat.{ℕ, _*_, _≤_, _<_, _-_}
 use mathlib.Core.Path.{_≡_, refl, sym, ap, _∙_}
 use mathlib.Core.Bool.{false}
 use native.Mathlib.Numerals.{add-one}

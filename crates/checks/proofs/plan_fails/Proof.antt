@@ -1,9 +1,6 @@
 -- `checks::plan_fails` meets its contract: the tests are the definition's.
-use Prim.Native.Nat.{_+_, _≤_}
-use mathlib.Core.Path.{_≡_, sym, ap, _∙_}
-use native.Mathlib.Omega.{arith}
+use mathlib.Core.Path.{ap, _∙_}
 use borrow.Author.Needs.{needs}
-use borrow.Author.Tests.{eq-eqb, ne-eqb, le-leb, lt-leb}
 use Rattle.diagram.specs.Table.{phasesOf}
 use Rattle.checks.proofs.Laws.{fails-count, fails-green, fails-cycle, fails-offset}
 use Rattle.checks.proofs.plan_fails.Statement.{statement}

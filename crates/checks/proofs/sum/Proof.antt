@@ -1,5 +1,5 @@
 -- `checks::sum` meets its contract: after i phases the sum is theirs, and no phase has more than 66,045 seconds.
-use Prim.Native.Nat.{_+_, _*_, _≤_, _-_}
+use Prim.Native.Nat.{_*_, _≤_, _-_}
 use mathlib.Core.Path.{_≡_, refl, ap, _∙_}
 use native.Mathlib.Numerals.{add-one}
 use native.Mathlib.Omega.{arith}

@@ -1,6 +1,6 @@
 -- `checks::zero_from` meets its contract: the last octet so far that is not 0 and what is left say the same as the whole.
 use Prim.Native.Nat.{_≤_, _-_}
-use mathlib.Core.Path.{_≡_, _∙_}
+use mathlib.Core.Path.{_≡_}
 use mathlib.Core.Logic.{⊎-elim}
 use borrow.Author.Needs.{needs}
 use lib.Dec.{leb}

@@ -1,5 +1,5 @@
 -- `codec::writer::put_twice` meets its contract: AA is stored as two octets, and any other as one.
-use mathlib.Core.Path.{sym, ap}
+use mathlib.Core.Path.{ap}
 use native.Mathlib.Omega.{arith}
 use borrow.Author.Needs.{needs}
 use lib.ListN.{length}

@@ -1,6 +1,5 @@
 -- `codec::writer::twice_len` meets its contract: AA is sent as two octets, and any other as one.
-use Prim.Native.Nat.{_≤_}
-use mathlib.Core.Path.{refl, sym, ap}
+use mathlib.Core.Path.{sym, ap}
 use native.Mathlib.Omega.{arith}
 use lib.ListN.{length}
 use Rattle.frame.proofs.Laws.{twice-aa, twice-other}

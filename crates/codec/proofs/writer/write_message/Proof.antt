@@ -1,5 +1,5 @@
 -- `codec::writer::write_message` meets its contract: INFO is judged first, and the parts are those of a message frame.
-use mathlib.Core.Path.{_≡_, refl, sym, _∙_}
+use mathlib.Core.Path.{refl, sym, _∙_}
 use native.Mathlib.Omega.{arith}
 use borrow.Author.Tests.{not-true, not-false}
 use lib.ListN.{length}

@@ -1,6 +1,5 @@
 -- `codec::writer::write_nak` meets its contract: its parts are those of a NAK.
-use mathlib.Core.Path.{_≡_, refl, ap, _∙_}
-use Rattle.octets.specs.ExclusiveOr.{exclusiveOr}
+use mathlib.Core.Path.{refl}
 use Rattle.frame.specs.Frame.{nak}
 use Rattle.frame.proofs.Laws.{nak-parts, write-as}
 use borrow.Author.Needs.{needs}

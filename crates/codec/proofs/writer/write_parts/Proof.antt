@@ -1,5 +1,5 @@
 -- `codec::writer::write_parts` meets its contract: the need is counted before the first octet is stored, and the parts are stored one after another.
-use Prim.Native.Nat.{ℕ, _+_, _≤_}
+use Prim.Native.Nat.{ℕ, _+_}
 use mathlib.Core.Path.{_≡_, refl, sym, _∙_}
 use mathlib.Core.List.{List, _++_}
 use native.Mathlib.Omega.{arith}

@@ -39,7 +39,7 @@ use denote.Triple.Clauses.{ensured, lasts}
 use denote.Triple.Entry.{Vals, onEntry}
 use denote.Triple.Spec.{Meets, tripleOf}
 use denote.Triple.Table.{entered, cited}
-use denote.Triple.Walked.{says, Stays, stay-none, stay-none-slice, walkOf, goes-none, goes-none-slice, Walks, ends-at, walked, walk-meets}
+use denote.Triple.Walked.{says, Stays, stay-none, stay-none-slice, walkOf, goes-none, goes-none-slice, ends-at, walked, walk-meets}
 use Rattle.message.specs.Fields.{valueOf}
 use Rattle.message.specs.Info.{readerAt, nextOctet, nextWord}
 use Rattle.message.specs.declared.info.Reader.{Reader}

@@ -1,5 +1,4 @@
 -- `message::layout::count` meets its contract: the number of the field is the layout's.
-use Prim.Native.Nat.{_-_}
 use mathlib.Core.Path.{sym, ap, _∙_}
 use native.Mathlib.Omega.{arith}
 use borrow.Author.Needs.{needs}

@@ -1,5 +1,4 @@
 -- `plan::book::is_built_in` meets its contract: octets of another length are not the same.
-use Prim.Native.Nat.{ℕ}
 use mathlib.Core.Path.{_≡_, _∙_}
 use borrow.Author.Needs.{needs}
 use lib.ListN.{length}

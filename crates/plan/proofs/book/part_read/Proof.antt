@@ -1,15 +1,12 @@
 -- `plan::book::part_read` meets its contract: what no refusal tells bounds the part, and each way gives the part that it names.
-use Prim.Native.Nat.{ℕ, _+_, _-_, _≤_}
-use mathlib.Core.Path.{_≡_, refl, sym, ap, _∙_}
+use Prim.Native.Nat.{ℕ, _+_, _≤_}
+use mathlib.Core.Path.{refl, sym, ap, _∙_}
 use native.Mathlib.Nat.{zero-add}
 use native.Mathlib.Omega.{arith}
 use borrow.Author.Needs.{needs}
 use borrow.Author.Tests.{eq-eqb, ne-eqb}
-use lib.ListN.{length, take, drop}
+use lib.ListN.{length}
 use lib.Seq.{take-all}
-use Rattle.octets.specs.Refusal as refusal
-use Rattle.record.specs.Record.{recordLen}
-use Rattle.plan.specs.Reading.{readRefusal}
 use Rattle.plan.proofs.Laws.{read-sound, record-from}
 use Rattle.plan.proofs.book.part_read.Statement.{statement}
 use Rattle.plan.proofs.book.part_read.Tie as tie

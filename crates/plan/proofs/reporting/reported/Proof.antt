@@ -1,7 +1,5 @@
 -- `plan::reporting::reported` meets its contract: what is read are the two runs of octets, one after the other.
-use mathlib.Core.Path.{_≡_, sym, ap, _∙_}
-use mathlib.Core.List.{List}
-use Prim.Native.Nat.{ℕ}
+use mathlib.Core.Path.{sym, ap, _∙_}
 use borrow.Author.Needs.{needs}
 use lib.Seq.{length-take-le}
 use Rattle.message.specs.Reader.{readOf}

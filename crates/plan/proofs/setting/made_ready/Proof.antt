@@ -1,5 +1,5 @@
 -- `plan::setting::made_ready` meets its contract: there are at most eleven checks, and one law for each way.
-use mathlib.Core.Path.{_≡_, sym, ap, _∙_}
+use mathlib.Core.Path.{ap, _∙_}
 use Prim.Native.Nat.{_≤_}
 use native.Mathlib.Omega.{arith}
 use borrow.Author.Needs.{needs}

@@ -1,10 +1,6 @@
 -- `plan::setting::set_plan` meets its contract: what passes the front is a 5F 15, and what it makes is kept.
-use Prim.Native.Nat.{_≤_}
-use mathlib.Core.Path.{_∙_}
 use native.Mathlib.Omega.{arith}
 use borrow.Author.Needs.{needs}
-use lib.ListN.{length, length-drop}
-use lib.Seq.{length-take-le}
 use Rattle.plan.specs.Reading.{recordAt}
 use Rattle.plan.specs.Setting.{setPlanCode, planIn, readyMade}
 use Rattle.message.specs.Reader.{bodyIn}

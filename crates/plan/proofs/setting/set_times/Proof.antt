@@ -1,5 +1,4 @@
 -- `plan::setting::set_times` meets its contract: what passes the front is a 5F 14, and what it makes is kept.
-use mathlib.Core.Path.{_∙_}
 use native.Mathlib.Omega.{arith}
 use borrow.Author.Needs.{needs}
 use Rattle.plan.specs.Setting.{setTimesCode, timesMade}
