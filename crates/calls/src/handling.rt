@@ -15,10 +15,10 @@ use message::FIELDS_MOST;
 use message::Message;
 use message::reader;
 use octets::refusal;
-use plan::book;
-use plan::reporting;
-use plan::setting;
 use plan::setting::Answered;
+use plan_calls::book;
+use plan_calls::reporting;
+use plan_calls::setting;
 
 // The first octet of the codes that are handled, and the second of each.
 const CODE_HIGH: u8 = 0x5F;

@@ -18,7 +18,7 @@ use controller::Started;
 use controller::State;
 use lamps::Row;
 use octets::refusal;
-use plan::book;
+use plan_calls::book;
 use record::BOOK_LEN;
 
 // "A fresh start runs and requests plan 0 at position 0."

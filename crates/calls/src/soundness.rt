@@ -6,7 +6,7 @@ use codec::decoder;
 use controller::ALL;
 use controller::Running;
 use controller::State;
-use plan::book;
+use plan_calls::book;
 use record::PLANS_MOST;
 
 pub(crate) fn stands(s: State) -> bool

@@ -9,7 +9,7 @@ ghost use Rattle.controller.specs.Seconds.{pickedOf, movedOn};
 ghost use Rattle.calls.specs.Stepper.{RecordOf};
 use controller::Running;
 use octets::refusal;
-use plan::book;
+use plan_calls::book;
 use record::RECORD_LEN;
 
 // A plan at its cycle's start.

@@ -11,4 +11,3 @@ pub mod OverRange
 pub mod Judged
 pub mod Numbers
 pub mod Reported
-pub mod Only

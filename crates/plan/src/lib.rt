@@ -1,4 +1,4 @@
-// 01, "Plan book": what is stored and what is read and reported.
-pub mod book;
-pub mod reporting;
+// 01, "Plan book": what is stored and what is read and reported. There is nothing to run: what a set leaves, what reading gives and
+// what a report holds is defined in specs/, and what 01 asks of them is proved in proofs/. The functions that are proved to do so
+// are the crate `plan_calls`.
 pub mod setting;

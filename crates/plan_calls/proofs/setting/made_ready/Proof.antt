@@ -1,0 +1,87 @@
+-- `plan_calls::setting::made_ready` meets its contract: there are at most eleven checks, and one law for each way.
+use mathlib.Core.Path.{ap, _∙_}
+use Prim.Native.Nat.{_≤_}
+use native.Mathlib.Omega.{arith}
+use borrow.Author.Needs.{needs}
+use Rattle.checks.specs.Standing.{planDisagree}
+use Rattle.plan.specs.Setting.{readyRecord}
+use Rattle.checks.proofs.Stands.{plan-first}
+use Rattle.plan.proofs.Sets.{ready-k, ready-unset, ready-count, ready-not, ready-is}
+use Rattle.plan_calls.proofs.setting.made_ready.Statement.{statement}
+use Rattle.plan_calls.proofs.setting.made_ready.Tie as tie
+
+returns : tie.Need-returns
+returns c =
+    let d = c .before .before in
+    let a = d .before .before .before .args in
+    c .not-made .ensures ∙ ready-unset (a .old .now) (a .body .now) (d .standing .ensures) (c .before .if1 .taken)
+
+returns-2 : tie.Need-returns-2
+returns-2 c =
+    let k = c .before .before in
+    let d = k .before .before .before in
+    let a = d .before .before .before .args in
+    c .not-made2 .ensures
+    ∙ ready-count (a .old .now) (a .body .now) (d .standing .ensures) (k .before .before .if1 .left) (k .before .octet-at .ensures) (k .count .ensures) (c .before .if2 .taken)
+
+ready-record-requires : tie.Need-ready-record-requires
+ready-record-requires c κs =
+    let k = c .before in
+    let d = k .before .before .before .before .before .before in
+    (search needs, omega (arith, k .count .ensures, k .before .octet-at .ensures, d .pre .1 .count .most), omega (arith, k .count .ensures, k .before .octet-at .ensures, d .pre .1 .long))
+
+-- the record has the stored count, so it has at most eleven checks
+few : (c : tie.After-plan-disagree) → c .plan-disagree .result ≤ 11
+few c =
+    let r = c .before .before in
+    let k = r .before .before in
+    let d = k .before .before .before .before .before .before in
+    let e = c .plan-disagree .ensures ∙ ap planDisagree (r .ready-record .ensures) in
+    let n = ready-k (d .args .old .now) (d .args .body .now) (omega (arith, k .count .ensures, k .before .octet-at .ensures, r .before .if2 .left, d .pre .1 .count .most, d .pre .0)) (omega (arith, d .pre .1 .long)) in
+    omega (arith, e, plan-first (readyRecord (d .args .old .now) (d .args .body .now)) .within, n, k .count .ensures, k .before .octet-at .ensures, r .before .if2 .left, d .pre .1 .count .most)
+
+returns-3 : tie.Need-returns-3
+returns-3 c =
+    let n = c .before .before in
+    let r = n .before .before in
+    let k = r .before .before in
+    let d = k .before .before .before in
+    let a = d .before .before .before .args in
+    c .not-made3 .ensures
+    ∙ ready-not (a .old .now) (a .body .now) (d .standing .ensures) (k .before .before .if1 .left) (k .before .octet-at .ensures) (k .count .ensures) (r .before .if2 .left)
+    (n .plan-disagree .ensures ∙ ap planDisagree (r .ready-record .ensures))
+    (c .before .if3 .taken)
+    (omega arith)
+
+returns-4 : tie.Need-returns-4
+returns-4 c =
+    let n = c .before in
+    let r = n .before .before in
+    let k = r .before .before in
+    let d = k .before .before .before in
+    let a = d .before .before .before .args in
+    ready-is (a .old .now) (a .body .now) (d .standing .ensures) (k .before .before .if1 .left) (k .before .octet-at .ensures) (k .count .ensures) (r .before .if2 .left)
+    (n .plan-disagree .ensures ∙ ap planDisagree (r .ready-record .ensures))
+    (c .if3 .left)
+    (r .ready-record .ensures)
+
+pub made-ready-spec : {M : Type 1} → statement M
+made-ready-spec =
+    tie.close
+    (tie.spec
+    (λ c κs. search needs)
+    (λ c κs. search needs)
+    returns
+    (λ c κs. search needs)
+    (λ c κs. search needs)
+    (λ c κs. search needs)
+    returns-2
+    ready-record-requires
+    (λ c. search needs)
+    (λ c κs. search needs)
+    (λ c. record { fits = omega (arith, few (c .before)) })
+    (λ c. record { fits = omega (arith, few (c .before)) })
+    (λ c. search needs)
+    (λ c κs. search needs)
+    returns-3
+    returns-4)
