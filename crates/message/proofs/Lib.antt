@@ -1,4 +1,3 @@
-pub mod Apart
 pub mod Layouts
 pub mod Values
 pub mod Reading
@@ -13,4 +12,3 @@ pub mod Places
 pub mod WrittenSo
 pub mod RoundTrips
 pub mod Cases
-pub mod Only

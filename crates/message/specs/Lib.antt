@@ -1,7 +1,6 @@
 pub mod Fields
 pub mod Layouts
 pub mod Values
-pub mod Info
 pub mod Reader
 pub mod Writer
 pub mod Names

@@ -1,0 +1,60 @@
+-- `message_calls::layout::first_out` meets its contract: what is left of the search yields what the whole does.
+use Prim.Native.Nat.{_-_}
+use mathlib.Core.Path.{_≡_, refl, sym, _∙_}
+use borrow.Author.Needs.{needs}
+use Rattle.octets.specs.First.{firstOf}
+use Rattle.octets.proofs.Search.{search-ends, search-stops, search-goes}
+use Rattle.message.specs.Layouts.{rowsAt}
+use Rattle.message.specs.Values.{fieldsMost, outAt, firstOut}
+use Rattle.message_calls.proofs.layout.first_out.Statement.{statement}
+use Rattle.message_calls.proofs.layout.first_out.Tie as tie
+
+abbrev Inv-loop : tie.InvT-loop
+Inv-loop l k values n i₀ i = firstOf (outAt (rowsAt l k) values) i (fieldsMost - i) ≡ firstOut (rowsAt l k) values
+
+abbrev μ-loop : tie.MeasureT-loop
+μ-loop l k values n i₀ i = fieldsMost - i
+
+loop-holds : tie.Need-loop-holds Inv-loop μ-loop
+unfolding firstOut
+loop-holds c = refl
+
+-- the test of the turn is the search's
+judged : (c : tie.After-out Inv-loop μ-loop)
+    → (let a = c .before .before .before .before .before .before .args in c .out .result ≡ outAt (rowsAt (a .l) (a .k)) (a .values .now) (c .before .before .before .loop .i))
+judged c = c .out .ensures
+
+loop-again : tie.Need-loop-again Inv-loop μ-loop
+loop-again c =
+    let v = c .before .before .before .before .loop in
+    let a = c .before .before .before .before .before .before .before .args in
+    sym (search-goes (outAt (rowsAt (a .l) (a .k)) (a .values .now)) fieldsMost (v .i) (search needs) (sym (judged (c .before)) ∙ c .if2 .left)) ∙ v .inv
+
+returns : tie.Need-returns Inv-loop μ-loop
+returns c =
+    let a = c .before .before .before .before .args in
+    sym (search-ends (outAt (rowsAt (a .l) (a .k)) (a .values .now)) fieldsMost (c .before .loop .i) (c .if1 .taken)) ∙ c .before .loop .inv
+
+returns-2 : tie.Need-returns-2 Inv-loop μ-loop
+returns-2 c =
+    let v = c .before .before .before .before .loop in
+    let a = c .before .before .before .before .before .before .before .args in
+    sym (search-stops (outAt (rowsAt (a .l) (a .k)) (a .values .now)) fieldsMost (v .i) (search needs) (sym (judged (c .before)) ∙ c .if2 .taken)) ∙ v .inv
+
+pub first-out-spec : {M : Type 1} → statement M
+first-out-spec =
+    tie.close
+    (tie.spec
+    Inv-loop
+    μ-loop
+    (λ c κs. search needs)
+    loop-holds
+    (λ c. search needs)
+    (λ c. search needs)
+    (λ c κs. search needs)
+    (λ c. search needs)
+    (λ c. search needs)
+    (λ c. search needs)
+    loop-again
+    returns
+    returns-2)
