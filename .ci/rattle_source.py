@@ -13,6 +13,7 @@ ROOT = os.path.dirname(os.path.dirname(os.path.abspath(__file__)))
 sys.stdout.reconfigure(encoding="utf-8")
 
 CLOSER = {"(": ")", "[": "]", "{": "}"}
+ANGLED = {"(": ")", "[": "]", "<": ">"}
 CLAUSES = ("requires", "ensures", "ghost")
 # a string, a byte, a lifetime or a word, or one sign
 TOKEN = re.compile(r"""b?"(?:\\.|[^"\\])*"|b?'(?:\\[^']+|[^'\\\n])'|'?\w+|[^\w\s]""", re.S)
@@ -22,8 +23,9 @@ ANTT_BLANK = re.compile(r'\{-|"(?:\\.|[^"\\])*"|(?<![^\s(){}.;,@"«»])--[^\n]*'
 
 # `owner` is the type whose `impl` the function stands in, or None; `public` says that the function is marked `pub` and,
 # if it has no owner, that each `mod` on the way to it is `pub mod`; `path` and `lines` are its file and the lines of it
-# from `fn` to the closing brace
-Function = collections.namedtuple("Function", "name path lines owner public clauses")
+# from `fn` to the closing brace; `parameters` are their types and `result` is its type, or '', as tokens with a space
+# between: `& mut [ u8 ]`
+Function = collections.namedtuple("Function", "name path lines owner public parameters result clauses")
 
 
 class Unreadable(Exception):
@@ -64,14 +66,14 @@ def antt_code(text):
 
 
 def antt_lines(path):
-    """The lines of an antt file that begin at its left edge, each with the indented lines below it as one text,
-    comments left out and each gap one space. What stands in a block, as `module _ (h : A) where`, is part of the
-    block's text and so is taken for no declaration of its own."""
+    """The lines of an antt file that begin at its left edge, each with the indented lines below it, and with what begins
+    by closing a bracket, as one text, comments left out and each gap one space. What stands in a block, as
+    `module _ (h : A) where`, is part of the block's text and so is taken for no declaration of its own."""
     lines = []
     for line in antt_code(read(path)).splitlines():
         if not line.strip():
             continue
-        if line[0].isspace() and lines:
+        if (line[0].isspace() or line[0] in CLOSER.values()) and lines:
             lines[-1] += " " + line
         else:
             lines.append(line)
@@ -126,6 +128,25 @@ class Source:
             elif token == "" or token in CLOSER.values():
                 self.refuse(token)
 
+    def parted(self, *last):
+        """The texts between commas from here to the first of the tokens `last`, which is passed over, and that token; a
+        text is its tokens with a space between, and what stands in brackets is part of a text."""
+        texts, inner = [[]], []
+        while True:
+            token = self.token()
+            if not inner and token in last:
+                return [" ".join(text) for text in texts if text], token
+            if token in ANGLED:
+                inner.append(ANGLED[token])
+            elif inner and token == inner[-1]:
+                inner.pop()
+            elif token in ("", *CLOSER.values()) or token == ";" and not inner:
+                self.refuse(token)
+            if token == "," and not inner:
+                texts.append([])
+            else:
+                texts[-1].append(token)
+
     def past_antt_line(self):
         """Passes over the rest of a `ghost use` item, which is antt's."""
         end = self.text.find(";", self.at)
@@ -166,7 +187,7 @@ class Library:
         pub = False
         while True:
             token = source.token()
-            place = source.place()
+            begun, place = source.at, source.place()
             if token == last:
                 return
             if token == "pub":
@@ -204,26 +225,28 @@ class Library:
                 source.skip(";")
             else:
                 source.refuse(token)
+            if token in ("struct", "enum", "type") and re.search(r"\bmut\b", source.text[begun:source.at]):
+                source.refuse("mut")  # who holds one is written through, and no signature shows it
             pub = False
 
     def function(self, source, module, is_open, owner, pub):
         first, name, clauses = source.line(), source.token(), []
-        while True:
-            token = source.token()
-            if token in CLAUSES:
-                clauses.append(token)
-                source.clause()
-            elif token == "{":
-                source.skip("}")
-                break
-            elif token in CLOSER:
-                source.skip(CLOSER[token])
-            elif token in ("", ";") or token in CLOSER.values():
+        source.parted("(")
+        parameters, _ = source.parted(")")
+        result, token = source.parted("{", *CLAUSES)
+        while token != "{":
+            if token not in CLAUSES:
                 source.refuse(token)
+            clauses.append(token)
+            source.clause()
+            token = source.token()
+        source.skip("}")
         path = module + [owner] * (owner is not None) + [name]
         lines = range(first, source.line() + 1)
         is_public = pub and (is_open or owner is not None)
-        self.functions.append(Function("::".join(path), source.path, lines, owner, is_public, clauses))
+        types = [parameter.split(" : ", 1)[-1] for parameter in parameters]
+        of = "".join(result)[len("- > "):]
+        self.functions.append(Function("::".join(path), source.path, lines, owner, is_public, types, of, clauses))
 
     def module(self, source, module, is_open):
         inner = module + [source.token()]

@@ -13,7 +13,7 @@ use controller::Handled;
 use controller::Running;
 use message::FIELDS_MOST;
 use message::Message;
-use message::reader;
+use message_calls::reader;
 use octets::refusal;
 use plan::setting::Answered;
 use plan_calls::book;

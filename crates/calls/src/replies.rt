@@ -245,7 +245,7 @@ fn write_reply(seq: u8, ours: u8, own: u16, reply: Message, out: &mut [u8]) -> u
     ensures { λ r. ⌜ Stored (sent (repliesOf seq ours own (infoOf reply))) 0 (now (out .entry)) r (now (out .exit)) ⌝ }
 {
     let mut info = [0u8; INFO_MOST];
-    let m = message::writer::write(reply, &mut info, 0);
+    let m = message_calls::writer::write(reply, &mut info, 0);
     let a = writer::write_ack(seq, own, &mut *out, 0);
     let w = writer::write_message(ours, own, &info[..m.count], &mut *out, a.count);
     a.count + w.count

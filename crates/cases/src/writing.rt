@@ -34,7 +34,7 @@ fn say_written(w: Written, out: &[u8], at: usize) -> usize {
 pub(crate) fn compose(o: &[u8], out: &mut [u8], at: usize) -> usize {
     say::text(b"\tcompose ");
     say::octets(o);
-    let w = message::writer::write(message_in(o), &mut *out, at);
+    let w = message_calls::writer::write(message_in(o), &mut *out, at);
     say_written(w, out, at)
 }
 

@@ -7,6 +7,7 @@ ghost use Rattle.octets.specs.First.{firstOf};
 ghost use Rattle.record.specs.Record.{recordLen, kOf, sumOf, phaseSeconds, empty, TimesFit, AllTimesFit, GreensWithin};
 ghost use Rattle.checks.specs.Standing.{timesFail, timesDisagree, greenFails, planFails, planDisagree, timesStand, planStands, readyStands, allZero, every, Tells, standingOf};
 use message::layout;
+use message_calls::layout::passes;
 
 // How the octets stand: empty, times set or ready.
 pub fn standing(rec: &[u8]) -> u8
@@ -67,7 +68,7 @@ fn times_stand(rec: &[u8]) -> bool
     ensures { λ r. ⌜ r ≡ timesStand (now (rec .entry)) ⌝ }
 {
     let k = record::count(rec);
-    if !layout::passes(layout::COUNT, k as u16) {
+    if !passes(layout::COUNT, k as u16) {
         return false;
     }
     for i in 0..k {
@@ -86,12 +87,12 @@ fn phase_stands(rec: &[u8], i: u8) -> bool
     let flash = record::walk_flash(rec, i) as u16;
     let man = record::red_man(rec, i) as u16;
     let checks = [
-        layout::passes(layout::MINIMUM, minimum),
-        layout::passes(layout::MAXIMUM, maximum),
-        layout::passes(layout::YELLOW, record::yellow(rec, i) as u16),
-        layout::passes(layout::ALL_RED, record::all_red(rec, i) as u16),
-        layout::passes(layout::WALK_FLASH, flash),
-        layout::passes(layout::RED_MAN, man),
+        passes(layout::MINIMUM, minimum),
+        passes(layout::MAXIMUM, maximum),
+        passes(layout::YELLOW, record::yellow(rec, i) as u16),
+        passes(layout::ALL_RED, record::all_red(rec, i) as u16),
+        passes(layout::WALK_FLASH, flash),
+        passes(layout::RED_MAN, man),
         minimum <= maximum,
         flash + man < minimum,
     ];
@@ -106,10 +107,10 @@ fn plan_stands(rec: &[u8]) -> bool
 {
     let cycle = record::cycle(rec);
     let checks = [
-        layout::passes(layout::DIRECT, record::direct(rec) as u16),
+        passes(layout::DIRECT, record::direct(rec) as u16),
         record::count(rec) == diagram::phases(record::order(rec)),
         greens_stand(rec, cycle),
-        layout::passes(layout::CYCLE, cycle),
+        passes(layout::CYCLE, cycle),
         record::offset(rec) < cycle,
     ];
     every(&checks)

@@ -67,7 +67,7 @@ fn reported(front: &[u8], rest: &[u8]) -> Message
     let mut info = [0u8; INFO_MOST];
     let p = octets::put(front, &mut info, 0);
     let n = octets::put(rest, &mut info, p);
-    let r = message::reader::read(&info[..n]);
+    let r = message_calls::reader::read(&info[..n]);
     r.message
 }
 

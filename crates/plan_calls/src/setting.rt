@@ -76,7 +76,7 @@ fn front(len: usize, info: &[u8], code: u16) -> Answered
     if other_code(info, code) {
         return answer(refusal::CODE_NOT_HANDLED, 0);
     }
-    let r = message::reader::read(info);
+    let r = message_calls::reader::read(info);
     answer(r.refusal, r.field)
 }
 
