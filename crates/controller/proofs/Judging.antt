@@ -7,14 +7,14 @@ use borrow.Author.Tests.{eq-eqb, ne-eqb, lt-ltb, le-leb, eqb-true, ltb-true, leb
 use lib.Dec.{eqb, ltb, leb}
 use Rattle.octets.specs.Choice.{pick, both}
 use Rattle.octets.specs.Octet.{Octets}
-use Rattle.octets.proofs.Laws.{pick-by, both-left, both-right, clash}
+use Rattle.octets.proofs.Laws.{pick-by, both-left, both-right, clash, octets-part}
 use native.Mathlib.Omega.{arith}
 use Rattle.frame.specs.Decoder.{possibleOf}
 use Rattle.record.specs.Record.{recordLen, plansMost, ready, cycleOf}
 use Rattle.checks.specs.Standing.{standingOf}
 use Rattle.plan.specs.BuiltIn.{padded, builtIn}
 use Rattle.plan.specs.Reading.{recordStart, same}
-use Rattle.plan.proofs.Laws.{same-is, is-same, octets-part}
+use Rattle.plan.proofs.Laws.{same-is, is-same}
 use Rattle.controller.specs.declared.Running.{Running}
 use Rattle.controller.specs.declared.State.{State}
 use Rattle.controller.specs.State.{all, runningSound, soundOf, planRecord}

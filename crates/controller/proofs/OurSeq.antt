@@ -12,7 +12,7 @@ use lib.ListN.{length, getD, take, replicate}
 use Rattle.octets.specs.Choice.{pick}
 use Rattle.octets.specs.First.{firstOf}
 use Rattle.octets.specs.Octet.{Octets}
-use Rattle.octets.proofs.Laws.{pick-by}
+use Rattle.octets.proofs.Laws.{pick-by, octets-zero}
 use Rattle.frame.specs.declared.Kind.{Kind}
 use Rattle.frame.specs.declared.Kind.the-variants.{Message, Ack, Nak}
 use Rattle.frame.specs.declared.decoder.Decoder.{Decoder}
@@ -265,10 +265,6 @@ module _ (own : ℕ) (hw : own < 65535) where
         counts = v .then (r .frames) (r .counts);
       }
 
-zero-octets : (n : ℕ) → Octets (replicate n 0)
-zero-octets zero = tt
-zero-octets (suc n) = (omega arith, zero-octets n)
-
 pub our-seq-counts : OurSeqCounts
 unfolding startedOf freshOf freshDecoder
 our-seq-counts own hw es =
@@ -276,7 +272,7 @@ our-seq-counts own hw es =
     let fresh : Able own hw 0 (freshOf own) = record {
       heard = record { decoder = freshDecoder; latest = 0 };
       kept = record { own = refl; sound = fresh-sound own n; octets = octets-built-in; decoder = refl; latest = refl };
-      octets = record { seq = omega arith; info = zero-octets 256 };
+      octets = record { seq = omega arith; info = octets-zero 256 };
       seq = refl;
     } in
     let r = run-sends own hw 0 (freshOf own) es fresh in

@@ -11,10 +11,10 @@ use borrow.Author.Tests.{eq-eqb, ne-eqb}
 use lib.ListN.{length, drop, length-map, length-drop, length-append, drop-of-length-le}
 use lib.Seq.{drop-cons}
 use Rattle.octets.specs.Octet.{Octets}
+use Rattle.octets.proofs.Laws.{octets-part}
 use Rattle.record.specs.Record.{recordLen, bookLen, ready, cycleOf, Ready}
 use Rattle.checks.specs.Standing.{standingOf, Stands}
 use Rattle.plan.specs.Reading.{recordStart, recordAt}
-use Rattle.plan.proofs.Laws.{octets-part}
 use Rattle.checks.proofs.Stands.{stands-as-it-is}
 use Rattle.lamps.specs.Rows.{rowsOf, rowAt, noRow}
 use Rattle.lamps.proofs.Cycle.{cycle-long, whole-phases}

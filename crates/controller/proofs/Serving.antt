@@ -13,7 +13,7 @@ use lib.Seq.{sets, take-at}
 use Rattle.octets.specs.Octet.{Octets}
 use Rattle.octets.specs.Refusal as refusal
 use Rattle.octets.specs.Writing.{Writing}
-use Rattle.octets.proofs.Laws.{pick-by}
+use Rattle.octets.proofs.Laws.{pick-by, octets-part}
 use Rattle.frame.specs.declared.Kind.{Kind}
 use Rattle.frame.specs.declared.Kind.the-variants.{Message, Ack, Nak}
 use Rattle.frame.specs.declared.decoder.Decoder.{Decoder}
@@ -38,7 +38,6 @@ use Rattle.plan.specs.Setting.{Setting, setTimesCode, setPlanCode, planIn, coun
 use Rattle.plan.specs.Reporting.{reportPlanCode, reportRunningCode, timesInfo, planInfo, reportTimesOf, reportPlanOf}
 use Rattle.plan.specs.Promises.{HasTimes, Disagrees14, Disagrees15, TimesJudged, PlanJudged}
 use Rattle.record.proofs.Laws.{octet-below}
-use Rattle.plan.proofs.Laws.{octets-part}
 use Rattle.checks.proofs.Stands.{stands-as-it-is}
 use Rattle.plan.proofs.Sets.{read-times, read-plan, times-body, plan-body}
 use Rattle.plan.proofs.Storing.{times-stored-exactly-when}

@@ -1,11 +1,10 @@
 -- Of octets the decoder holds octets: SEQ and INFO are octets that came, and so is what it finds.
-use Prim.Native.Nat.{ℕ, zero, suc, _<_}
-use mathlib.Core.List.{List, [], _∷_}
+use Prim.Native.Nat.{ℕ, _<_}
+use mathlib.Core.List.{List}
 use lib.Dec.{eqb}
-use lib.ListN.{take, set}
 use Rattle.octets.specs.Octet.{Octets}
 use Rattle.octets.specs.Word.{lowOf, wordOf}
-use Rattle.octets.proofs.Laws.{pick-by}
+use Rattle.octets.proofs.Laws.{pick-by, octets-take, octets-set}
 use Rattle.frame.specs.declared.Kind.{Kind}
 use Rattle.frame.specs.declared.Kind.the-variants.{Message, Ack, Nak}
 use Rattle.frame.specs.declared.decoder.Place.{Place}
@@ -70,20 +69,10 @@ module _ (h : Head) (i : List ℕ) (b : ℕ) (hs : h .seq < 256) (hb : b < 256) 
   step-octet Err = (hs, tt)
   step-octet Cks = pick-by SteppedOctet (eqb (cksIn h i) b) (λ _. (hs, sound-octet (h .kind))) (λ _. (hs, hs))
 
-set-octets : (l : List ℕ) (i v : ℕ) → v < 256 → Octets l → Octets (set l i v)
-set-octets [] i v h o = tt
-set-octets (x ∷ xs) zero v h o = (h, o .1)
-set-octets (x ∷ xs) (suc i) v h o = (o .0, set-octets xs i v h (o .1))
-
-take-octets : (n : ℕ) (l : List ℕ) → Octets l → Octets (take n l)
-take-octets zero l o = tt
-take-octets (suc n) [] o = tt
-take-octets (suc n) (x ∷ xs) o = (o .0, take-octets n xs (o .1))
-
 means-octets : (f : Found) (i : List ℕ) → FoundOctet f → Octets i → OutcomeOctets (foundMeans f i)
 means-octets found.Nothing i p o = tt
 means-octets (found.Refused n k s a) i p o = p
-means-octets (found.Message s a n) i p o = (p, take-octets n i o)
+means-octets (found.Message s a n) i p o = (p, octets-take n i o)
 means-octets (found.Ack s a) i p o = tt
 means-octets (found.Nak s a e) i p o = tt
 
@@ -100,7 +89,7 @@ taken-octets d b hb o =
     w = step-octet (d .head) (d .info) b (o .seq) hb (d .head .place)
 
     kept : Octets (infoThen d b (t .keeps))
-    kept = pick-by Octets (t .keeps) (λ _. set-octets (d .info) (d .head .filled) b hb (o .info)) (λ _. o .info)
+    kept = pick-by Octets (t .keeps) (λ _. octets-set (d .info) (d .head .filled) b hb (o .info)) (λ _. o .info)
 
 pub idled-octets : (d : Decoder) → HoldsOctets d → HoldsOctets (idledOf d .decoder)
 unfolding idledOf

@@ -6,10 +6,10 @@ use mathlib.Core.List.{List, [], _∷_, _++_, append-nil}
 use native.Mathlib.Omega.{arith}
 use borrow.Author.Tests.{eqb-true, ltb-true}
 use lib.Dec.{eqb, ltb}
-use lib.ListN.{length, take, drop, take-append-drop}
+use lib.ListN.{length, take}
 use lib.Seq.{sets, length-take-le}
 use Rattle.octets.specs.Octet.{Octets}
-use Rattle.octets.proofs.Laws.{both-left, both-right, clash, octets-append, octets-left}
+use Rattle.octets.proofs.Laws.{both-left, both-right, clash, octets-append, octets-take}
 use Rattle.frame.specs.declared.Kind.{Kind}
 use Rattle.frame.specs.declared.Kind.the-variants.{Message, Ack, Nak}
 use Rattle.frame.specs.declared.decoder.Place.{Place}
@@ -26,9 +26,6 @@ use Rattle.frame.proofs.Reading.{Quiet, done, once, quiet-then, quiet-a
 use Rattle.frame.proofs.Refusing.{open-run, closed-run}
 
 -- Octets lead to every possible decoder
-
-octets-take : (g : ℕ) (l : List ℕ) → Octets l → Octets (take g l)
-octets-take g l o = octets-left (take g l) (drop g l) (rw (take-append-drop g l) o)
 
 module _ (k₀ : Kind) (s₀ e₀ a₀ n₀ g₀ : ℕ) (l₀ : List ℕ) (hl₀ : length l₀ ≡ infoMost) where
   abbrev rest : Decoder

@@ -12,7 +12,7 @@ use lib.Seq.{ext-getD, getD-take, getD-drop, length-take-le}
 use Rattle.octets.specs.Choice.{both}
 use Rattle.octets.specs.Octet.{Octets}
 use Rattle.octets.specs.Word.{lowOf}
-use Rattle.octets.proofs.Laws.{both-left, both-right, octets-append, word-back, high-word, low-word}
+use Rattle.octets.proofs.Laws.{both-left, both-right, octets-append, octets-drop, word-back, high-word, low-word}
 use Rattle.octets.proofs.Every.{every, every-at}
 use Rattle.message.specs.declared.layout.Field.{Field}
 use Rattle.message.specs.declared.layout.Field.the-variants.{Octet, Two, Order}
@@ -132,11 +132,6 @@ octets-front true [] h o = absurd (omega arith)
 octets-front true (a ∷ []) h o = absurd (omega arith)
 octets-front false (a ∷ os) h o = let e : lowOf a ≡ a = omega (arith, o .0) in rw e
 octets-front true (a ∷ b ∷ os) h o = rw (high-word a b (o .1 .0), low-word a b (o .1 .0))
-
-octets-drop : (n : ℕ) (os : List ℕ) → Octets os → Octets (drop n os)
-octets-drop zero os o = o
-octets-drop (suc n) [] o = tt
-octets-drop (suc n) (a ∷ os) o = octets-drop n os (o .1)
 
 pub octets-back : (fs : List Field) (os : List ℕ) → length os ≡ sizeOf fs → Octets os → octetsOf fs (valuesOf fs os) ≡ os
 octets-back [] [] e o = refl

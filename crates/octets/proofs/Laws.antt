@@ -10,7 +10,7 @@ use native.Mathlib.Omega.{arith}
 use borrow.Author.Tests.{le-leb, lt-leb}
 use lib.Bits.{xor-self, xor-lt}
 use lib.Dec.{T, leb}
-use lib.ListN.{length, set, take, drop, getD, length-append, length-drop, drop-of-length-le}
+use lib.ListN.{length, set, take, drop, getD, replicate, length-append, length-drop, drop-of-length-le}
 use lib.Seq.{sets, drop-cons, drop-length, getD-append-add, length-sets, take-all}
 use Rattle.octets.specs.Choice.{pick, both}
 use Rattle.octets.specs.Octet.{Octets}
@@ -80,6 +80,28 @@ octets-left (x ∷ xs) ys o = (o .0, octets-left xs ys (o .1))
 pub octets-right : (xs ys : List ℕ) → Octets (xs ++ ys) → Octets ys
 octets-right [] ys o = o
 octets-right (x ∷ xs) ys o = octets-right xs ys (o .1)
+
+pub octets-take : (n : ℕ) (xs : List ℕ) → Octets xs → Octets (take n xs)
+octets-take zero xs o = tt
+octets-take (suc n) [] o = tt
+octets-take (suc n) (x ∷ xs) o = (o .0, octets-take n xs (o .1))
+
+pub octets-drop : (n : ℕ) (xs : List ℕ) → Octets xs → Octets (drop n xs)
+octets-drop zero xs o = o
+octets-drop (suc n) [] o = tt
+octets-drop (suc n) (x ∷ xs) o = octets-drop n xs (o .1)
+
+pub octets-part : (n m : ℕ) (xs : List ℕ) → Octets xs → Octets (take n (drop m xs))
+octets-part n m xs o = octets-take n (drop m xs) (octets-drop m xs o)
+
+pub octets-set : (xs : List ℕ) (i v : ℕ) → v < 256 → Octets xs → Octets (set xs i v)
+octets-set [] i v h o = tt
+octets-set (x ∷ xs) zero v h o = (h, o .1)
+octets-set (x ∷ xs) (suc i) v h o = (o .0, octets-set xs i v h (o .1))
+
+pub octets-zero : (n : ℕ) → Octets (replicate n 0)
+octets-zero zero = tt
+octets-zero (suc n) = (omega arith, octets-zero n)
 
 -- Lists
 

@@ -1,5 +1,5 @@
 -- What follows from the definitions of specs/: one law for each way through.
-use Prim.Native.Nat.{ℕ, zero, suc, _+_, _-_, _≤_, _<_}
+use Prim.Native.Nat.{ℕ, _+_, _-_, _≤_, _<_}
 use mathlib.Core.Path.{_≡_, refl, sym, ap, _∙_}
 use mathlib.Core.Bool.{Bool, true, false, not}
 use mathlib.Core.List.{List, [], _∷_}
@@ -9,7 +9,6 @@ use lib.Dec.{eqb, leb}
 use lib.ListN.{length, take, drop, getD, drop-of-length-le, length-drop}
 use lib.Seq.{length-take-le}
 use Rattle.octets.specs.Choice.{pick, both}
-use Rattle.octets.specs.Octet.{Octets}
 use Rattle.octets.specs.Refusal as refusal
 use Rattle.octets.proofs.Laws.{both-left, both-right, clash, drop-next}
 use Rattle.record.specs.Record.{recordLen, plansMost, bookLen, empty}
@@ -115,16 +114,3 @@ module _ (book copy : List ℕ) (p : ℕ) where
       by true ea true eb false ec n h = absurd (omega arith)
       by true ea false eb c ec n h = absurd (omega arith)
       by false ea b eb c ec n h = absurd (omega arith)
-
-octets-drop : (n : ℕ) (l : List ℕ) → Octets l → Octets (drop n l)
-octets-drop zero l o = o
-octets-drop (suc n) [] o = tt
-octets-drop (suc n) (x ∷ l) o = octets-drop n l (o .1)
-
-octets-take : (n : ℕ) (l : List ℕ) → Octets l → Octets (take n l)
-octets-take zero l o = tt
-octets-take (suc n) [] o = tt
-octets-take (suc n) (x ∷ l) o = (o .0, octets-take n l (o .1))
-
-pub octets-part : (n m : ℕ) (l : List ℕ) → Octets l → Octets (take n (drop m l))
-octets-part n m l o = octets-take n (drop m l) (octets-drop m l o)

@@ -12,7 +12,7 @@ use lib.Seq.{sets, drop-drop, getD-drop, length-take-le}
 use Rattle.octets.specs.First.{First, firstOf}
 use Rattle.octets.specs.Octet.{Octets}
 use Rattle.octets.specs.Refusal as refusal
-use Rattle.octets.proofs.Laws.{clash}
+use Rattle.octets.proofs.Laws.{clash, octets-part}
 use Rattle.diagram.specs.Table.{phasesOf}
 use Rattle.message.specs.Layouts.{layouts, layoutAt, numberOf, rowsAt, layoutRows, repeated, greens, cycleOffset}
 use Rattle.message.specs.Names.{planAt, planCountAt}
@@ -25,7 +25,6 @@ use Rattle.plan.specs.BuiltIn.{padded}
 use Rattle.plan.specs.Reading.{recordStart, recordAt}
 use Rattle.plan.specs.Setting.{planIn, countIn, Setting, answered, readyRecord, planField, readyMade, setPlanCode, setPlanOf}
 use Rattle.plan.specs.Promises.{directIn, orderIn, greenIn, cycleIn, offsetIn, sumIn, Ranges15, HasTimes, CountAgrees, GreenAgrees, Fit15, Disagrees15, count, green, cycle, offset, RecordStored, SameTimes, Holds15, PlanJudged, PlanStoredExactlyWhen}
-use Rattle.plan.proofs.Laws.{octets-part}
 use Rattle.checks.proofs.Fields.{at-one, within, inside, Pass, Read1, greens-in, greens-out}
 use Rattle.checks.proofs.Stands.{PlanAgrees, plan-first, plan-agrees, agrees-plan, green-within, within-green, check-green, check-cycle, check-offset, stands-as-it-is}
 use Rattle.plan.proofs.Sets.{read-plan, plan-body, padded-at, padded-long, padded-rest, ready-times, ready-two, ready-rest, ready-k}
