@@ -1,4 +1,4 @@
--- What stands where in a record: each name's place is 01's number, by arithmetic.
+-- What stands where in a record, and which octets are one: each name's place is 01's number, by arithmetic.
 use Prim.Native.Nat.{ℕ, _+_, _*_}
 use mathlib.Core.Path.{_≡_, refl}
 use mathlib.Core.List.{List}
