@@ -2,5 +2,6 @@ pub mod Laws
 pub mod Search
 pub mod Every
 pub mod Words
+pub mod Relations
 pub mod Only
 pub mod Refusals
