@@ -3,6 +3,7 @@
 use Prim.Native.Nat.{ℕ, _+_, _-_, _*_, _/_, _%_, _≤_, _<_}
 use mathlib.Core.Path.{_≡_}
 use mathlib.Core.Bool.{true, false}
+use mathlib.Core.Logic.{_⊎_}
 use mathlib.Core.List.{List, [], _∷_, _++_}
 use lib.Bits.{bitXor}
 use lib.ListN.{length, take, drop, replicate, getD}
@@ -20,7 +21,7 @@ use Rattle.frame.specs.declared.decoder.Taken.{Taken}
 use Rattle.frame.specs.Frame.{Frame, message, ack, nak, opener, infoLeast, infoMost, messageLen, ackLen, nakLen, lenOf, doubled, cksOf, undoubled, written}
 use Rattle.frame.specs.Decoder.{possibleOf, freshDecoder, idleDrops, takenOf, idledOf}
 use Rattle.frame.specs.Writer.{writeFrame}
-use Rattle.frame.specs.Run.{nothing, refused, sound, outcomeOf, outcomes, decoderAfter, AtRest, NothingDropped}
+use Rattle.frame.specs.Run.{nothing, refused, sound, foundMeans, outcomeOf, outcomes, decoderAfter, AtRest, drops, NothingDropped}
 
 -- What a frame is
 
@@ -106,6 +107,42 @@ pub data FrameWriteJudged (f : Frame) (at : ℕ) (out : List ℕ) : Writing → 
 -- "When, and only then": refusals 4 and 9.
 abbrev pub FramesWrittenSo : Type 0
 FramesWrittenSo = (f : Frame) (at : ℕ) (out : List ℕ) (w : Writing) → (FrameWriteJudged f at out w → w ≡ writeFrame f at out) × (w ≡ writeFrame f at out → FrameWriteJudged f at out w)
+
+-- Octets taken one after another
+
+-- "Idle: AA is remembered, all else is dropped. After a lone AA: BB, DD or EE opens a frame": which octets leave octets behind that belong
+-- to no frame
+pub record DropsSo (b : ℕ) : Type 0 where
+  pub idle : (b ≡ 0xAA → ⊥) → drops Idle b ≡ true
+  pub idleNot : b ≡ 0xAA → drops Idle b ≡ false
+  pub lone : (b ≡ 0xBB → ⊥) → (b ≡ 0xDD → ⊥) → (b ≡ 0xEE → ⊥) → drops LoneAa b ≡ true
+  pub loneNot : (b ≡ 0xBB) ⊎ ((b ≡ 0xDD) ⊎ (b ≡ 0xEE)) → drops LoneAa b ≡ false
+  pub nowhere : (p : Place) → (p ≡ Idle → ⊥) → (p ≡ LoneAa → ⊥) → drops p b ≡ false
+
+-- the octet x is not dropped, refuses no frame and ends none, and neither does any after it
+abbrev pub NoneYet : Decoder → ℕ → List ℕ → Type 0
+NoneYet d x xs = (drops (d .head .place) x ≡ false) × (outcomeOf (takenOf d x) ≡ nothing) × NothingDropped (takenOf d x .decoder) xs
+
+-- What the later statements mean by an octet's outcome, the outcomes of octets, the decoder after them, a decoder at rest, and nothing
+-- dropped: what the decoder's own call gives for each octet in turn, the state handed back as given.
+pub record RunRows : Type 0 where
+  -- what the decoder gives for an octet stands for 01's frame, or refused frame, with the same numbers
+  pub none : (i : List ℕ) → foundMeans found.Nothing i ≡ nothing
+  pub refusal : (n : ℕ) (k : Kind) (s a : ℕ) (i : List ℕ) → foundMeans (found.Refused n k s a) i ≡ refused n k s a
+  pub message : (s a n : ℕ) (i : List ℕ) → foundMeans (found.Message s a n) i ≡ sound (message s a (take n i))
+  pub ack : (s a : ℕ) (i : List ℕ) → foundMeans (found.Ack s a) i ≡ sound (ack s a)
+  pub nak : (s a e : ℕ) (i : List ℕ) → foundMeans (found.Nak s a e) i ≡ sound (nak s a e)
+  pub outcome : (t : Taken) → outcomeOf t ≡ foundMeans (t .found) (t .decoder .info)
+  pub noOctet : (d : Decoder) → (outcomes d [] ≡ []) × (decoderAfter d [] ≡ d)
+  pub octetMore : (d : Decoder) (x : ℕ) (xs : List ℕ) → (outcomes d (x ∷ xs) ≡ outcomeOf (takenOf d x) ∷ outcomes (takenOf d x .decoder) xs)
+      × (decoderAfter d (x ∷ xs) ≡ decoderAfter (takenOf d x .decoder) xs)
+  pub rest : (d : Decoder) → (AtRest d → (d .head .place ≡ Idle) × (length (d .info) ≡ 256)) × (d .head .place ≡ Idle → length (d .info) ≡ 256 → AtRest d)
+  pub dropped : (b : ℕ) → DropsSo b
+  pub nothingYet : (d : Decoder) → NothingDropped d []
+  pub nothingMore : (d : Decoder) (x : ℕ) (xs : List ℕ) → (NothingDropped d (x ∷ xs) → NoneYet d x xs) × (NoneYet d x xs → NothingDropped d (x ∷ xs))
+
+abbrev pub RunsAsSaid : Type 0
+RunsAsSaid = RunRows
 
 -- The decoder's calls
 
