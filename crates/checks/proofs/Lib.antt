@@ -2,4 +2,5 @@ pub mod Laws
 pub mod Fields
 pub mod Stands
 pub mod Judging
+pub mod Order
 pub mod Only

@@ -1,13 +1,13 @@
 -- 01, "Plan book": "Octets that are not such a record, checks included, read as empty." How a record stands, computed, and the
 -- statements that say it is what specs/Record.antt says.
-use Prim.Native.Nat.{ℕ, _+_, _*_, _-_, _/_, _%_, _≤_}
+use Prim.Native.Nat.{ℕ, _+_, _*_, _-_, _/_, _%_, _≤_, _<_}
 use mathlib.Core.Path.{_≡_}
 use mathlib.Core.Bool.{Bool, true, not}
 use mathlib.Core.List.{List, [], _∷_}
 use lib.Dec.{eqb, leb, ltb}
 use lib.ListN.{length, take, drop}
 use Rattle.octets.specs.Choice.{pick, both}
-use Rattle.octets.specs.First.{firstOf}
+use Rattle.octets.specs.First.{First, firstOf}
 use Rattle.octets.specs.Octet.{Octets}
 use Rattle.octets.specs.Refusal as refusal
 use Rattle.diagram.specs.Table.{phasesOf}
@@ -105,3 +105,22 @@ pub record Stands (rec : List ℕ) : Type 0 where
 
 abbrev pub StandsAsItIs : Type 0
 StandsAsItIs = (rec : List ℕ) → Octets rec → Stands rec
+
+-- "Agreement, 5F 14, phase by phase: maximum at least minimum ..; walk flash plus red man less than minimum": of any octets the first of
+-- these checks that fails is told, from 1, and 0 where none does
+pub record TimesInOrder (rec : List ℕ) : Type 0 where
+  pub maximum : (i : ℕ) → timesFail rec (2 * i) ≡ ltb (maximumOf rec i) (minimumOf rec i)
+  pub redMan : (i : ℕ) → timesFail rec (2 * i + 1) ≡ leb (minimumOf rec i) (walkFlashOf rec i + redManOf rec i)
+  pub first : First (timesFail rec) (2 * kOf rec) (timesDisagree rec)
+
+-- "count equal .. to the diagram's ..; each green within its phase's bounds; cycle equal to the sum of green, yellow and all-red; offset
+-- below cycle": likewise
+pub record PlanInOrder (rec : List ℕ) : Type 0 where
+  pub count : planFails rec 0 ≡ not (eqb (kOf rec) (phasesOf (orderOf rec)))
+  pub green : (i : ℕ) → i < kOf rec → planFails rec (i + 1) ≡ pick (ltb (greenOf rec i) (minimumOf rec i)) true (ltb (maximumOf rec i) (greenOf rec i))
+  pub cycle : planFails rec (kOf rec + 1) ≡ not (eqb (cycleOf rec) (sumOf rec (kOf rec)))
+  pub offset : planFails rec (kOf rec + 2) ≡ leb (cycleOf rec) (offsetOf rec)
+  pub first : First (planFails rec) (kOf rec + 3) (planDisagree rec)
+
+abbrev pub ChecksInOrder : Type 0
+ChecksInOrder = (rec : List ℕ) → TimesInOrder rec × PlanInOrder rec
