@@ -22,7 +22,7 @@ unfolding planDisagree
 plan-in-order rec =
     record {
       count = refl;
-      green = λ i l. let e : i + 1 - 1 ≡ i = omega arith in rw (ne-eqb (i + 1) 0 (λ z. omega arith), le-leb (i + 1) (kOf rec) l, e);
+      green = λ i l. let e : i + 1 - 1 ≡ i = omega arith in rw (ne-eqb (i + 1) 0 (λ z. omega arith), le-leb (i + 1) (kOf rec) (omega arith), e);
       cycle = rw (ne-eqb (kOf rec + 1) 0 (λ z. omega arith), lt-leb (kOf rec + 1) (kOf rec) (omega arith), eq-eqb (kOf rec + 1) (kOf rec + 1) refl);
       offset = rw (ne-eqb (kOf rec + 2) 0 (λ z. omega arith), lt-leb (kOf rec + 2) (kOf rec) (omega arith), ne-eqb (kOf rec + 2) (kOf rec + 1) (λ z. omega arith));
       first = search-first (planFails rec) (planChecks rec);
