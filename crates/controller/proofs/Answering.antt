@@ -45,7 +45,7 @@ use Rattle.controller.specs.Handling as handling
 use Rattle.controller.specs.Handling.{setAs, unlessUnread, runAs, queryTimesAs, queryPlanAs, queryRunningAs, handlingOf}
 use Rattle.controller.specs.Replies.{Call, sent, refusedCall, errOf, naks, acks, forUs, isAnswer, repliesOf, CanFind, ResultAndBook, unchanged, leaves, repliedOf, messageOf, eventFor, broughtOf, madeOf, octetOf}
 use Rattle.controller.specs.Seconds.{startedOf, secondOf, noSecond}
-use Rattle.controller.specs.Demand1.{Sound, SoundAsItIs, OctetRefused, CallRefused, InDone, OctetsAnswered, SecondRefused, ShownRefused, SecondsAnswered, IdlesAnswered, StartsAnswered, RefusedLeavesBook, OutputsLeft, NumbersAsSaid}
+use Rattle.controller.specs.Demand1.{Sound, SoundAsItIs, OctetRefused, CallRefused, InDone, OctetsAnswered, SecondRefused, ShownRefused, SecondsAnswered, IdlesAnswered, StartsAnswered, RefusedLeavesBook, OutputsLeft, NumbersAsSaid, CallsLeaveSo}
 use Rattle.controller.proofs.Laws.{octet-7, octet-8, octet-9, octet-brings, idle-7, idle-done, second-7, second-8, second-done}
 use Rattle.controller.proofs.Judging.{RunningParts, SoundParts, sound-parts, parts-sound}
 use Rattle.controller.proofs.Keeping.{fresh-sound}
@@ -343,3 +343,6 @@ outputs-left s book out b =
 
 pub numbers-as-said : NumbersAsSaid
 numbers-as-said = (refl, refl, refl, refl, refl)
+
+pub calls-leave-so : CallsLeaveSo
+calls-leave-so w r b o l = (l .answer, l .book, l .out)

@@ -19,7 +19,7 @@ use Rattle.controller.specs.declared.Event.the-variants as event
 use Rattle.controller.specs.declared.Answer.{Answer}
 use Rattle.controller.specs.declared.Shown.{Shown}
 use Rattle.controller.specs.State.{all, outputLen, soundOf}
-use Rattle.controller.specs.Replies.{Call, octetOf, lineIdleOf}
+use Rattle.controller.specs.Replies.{Call, CallLeaves, octetOf, lineIdleOf}
 use Rattle.controller.specs.Seconds.{startedOf, secondOf}
 
 -- Which states are sound
@@ -187,6 +187,10 @@ pub record SoundKeptBy (s : State) : Type 0 where
 
 abbrev pub SoundKept : Type 0
 SoundKept = (s : State) → SoundKeptBy s
+
+-- What the contract of the octet call says: it answers what is due, the event too, and leaves the book and the output that are due.
+abbrev pub CallsLeaveSo : Type 0
+CallsLeaveSo = (w : Call) (r : Answer) (b o : List ℕ) → CallLeaves w r b o → (r ≡ w .answer) × (b ≡ w .book) × (o ≡ w .out)
 
 -- The numbers that have names: "Plan p, 1 to 48, has 80 octets", "plan book is not 3,840 octets", "544 for an octet call", "FFFF is
 -- for all"

@@ -15,7 +15,8 @@ use Rattle.checks.specs.Standing.{standingOf}
 use Rattle.plan.specs.BuiltIn.{builtIn}
 use Rattle.plan.specs.Reading.{recordAt, same, readRefusal, PlanRead}
 use Rattle.plan.specs.Reporting.{timesInfo, planInfo, reportTimesOf, reportPlanOf}
-use Rattle.plan.specs.Setting.{planIn, countIn, Setting, setTimesOf, setPlanOf}
+use Rattle.plan.specs.declared.setting.Answered.{Answered}
+use Rattle.plan.specs.Setting.{planIn, countIn, Setting, SetLeaves, setTimesOf, setPlanOf}
 
 -- The checks of a message
 
@@ -141,6 +142,10 @@ pub record Holds15 (old body rec : List ℕ) : Type 0 where
   pub green : (i : ℕ) → i < countIn body → greenOf rec i ≡ greenIn body i
   pub cycle : cycleOf rec ≡ cycleIn body
   pub offset : offsetOf rec ≡ offsetIn body
+
+-- What the contract of a set says: the call answers what is due, and leaves the book that is due.
+abbrev pub SetsLeaveSo : Type 0
+SetsLeaveSo = (w : Setting) (r : Answered) (b : List ℕ) → SetLeaves w r b → (r ≡ w .answer) × (b ≡ w .book)
 
 -- What every set refuses
 
