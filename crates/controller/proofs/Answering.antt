@@ -86,6 +86,7 @@ unfolding startedOf soundOf freshOf freshDecoder
 starts-answered own =
     record {
       state = refl;
+      fresh = refl;
       refused = λ e. (rw (eq-eqb own all e), rw (eq-eqb own all e));
       done = λ n. (rw (ne-eqb own all n), fresh-sound own n);
     }

@@ -32,7 +32,7 @@ use Rattle.controller.specs.declared.State.{State}
 use Rattle.controller.specs.State.{all, freshOf, soundOf, readyIn}
 use Rattle.controller.specs.Replies.{octetOf, lineIdleOf}
 use Rattle.controller.specs.Seconds.{startedOf, pickedOf, noSecond, secondOf}
-use Rattle.controller.specs.Demand3.{HostCall, octet, lineIdle, second, next, goesOn, run, Second, secondOfPlan, secondAccepted, says, saysOn, seconds, latestRun, cycleOfPlan, Chosen, OneChoice, SecondsLeave, CyclesInRun, unfinished, whole, RunsWholeCycles, HoldsWhole, AnyWindow, NoSecond, SetsNeverAlter, leftOf, crossing, CrossingCycles, CrossingHolds}
+use Rattle.controller.specs.Demand3.{HostCall, octet, lineIdle, second, next, goesOn, run, Second, secondOfPlan, secondAccepted, says, saysOn, SecondsInARow, seconds, latestRun, cycleOfPlan, Chosen, OneChoice, SecondsLeave, CyclesInRun, unfinished, whole, RunsWholeCycles, HoldsWhole, AnyWindow, NoSecond, SetsNeverAlter, leftOf, crossing, CrossingCycles, CrossingHolds}
 use Rattle.plan.proofs.Cases.{built-in-stands}
 use Rattle.controller.proofs.Laws.{picked-ready, picked-stays, moved-within, moved-ends, second-8, second-done}
 use Rattle.controller.proofs.Judging.{RunningParts, sound-parts}
@@ -66,6 +66,9 @@ module _ (book : List ℕ) (p : ℕ) (o : Octets book) where
         ready = λ z r. let e = same-plan (h ∙ picked-ready u p book (set-ready z r)) in (e .0, e .1 ∙ rw (ne-eqb p 0 z));
         stays = λ z n. same-plan (h ∙ picked-stays u p book (not-ready z n));
       }
+
+pub seconds-in-a-row : SecondsInARow
+seconds-in-a-row s = record { end = refl; quiet = λ e es h. rw h; second = λ e es a h. rw h }
 
 pub one-choice : OneChoice
 one-choice latest book p rec p₁ p₂ rec₁ rec₂ o a b =

@@ -18,7 +18,7 @@ use Rattle.controller.specs.declared.State.{State}
 use Rattle.controller.specs.declared.Event.the-variants as event
 use Rattle.controller.specs.declared.Answer.{Answer}
 use Rattle.controller.specs.declared.Shown.{Shown}
-use Rattle.controller.specs.State.{all, outputLen, soundOf}
+use Rattle.controller.specs.State.{all, outputLen, freshOf, soundOf}
 use Rattle.controller.specs.Replies.{Call, CallLeaves, octetOf, lineIdleOf}
 use Rattle.controller.specs.Seconds.{startedOf, secondOf}
 
@@ -157,6 +157,7 @@ FreshAt own t =
 -- "fresh start with address FFFF": "a fresh state but for own address FFFF, so unsound"
 pub record StartAnswered (own : ℕ) : Type 0 where
   pub state : FreshAt own (startedOf own .state)
+  pub fresh : FreshAt own (freshOf own)
   pub refused : own ≡ 0xFFFF → (startedOf own .refusal ≡ 6) × (soundOf (startedOf own .state) ≡ false)
   pub done : (own ≡ 0xFFFF → ⊥) → (startedOf own .refusal ≡ 0) × (soundOf (startedOf own .state) ≡ true)
 

@@ -76,6 +76,15 @@ abbrev pub saysOn : State → List HostCall → List Second
 saysOn s [] = []
 saysOn s (e ∷ es) = rowThen (says s e) (saysOn (next s e) es)
 
+-- each accepted second is one row more, and no other call adds any
+pub record InARow (s : State) : Type 0 where
+  pub end : saysOn s [] ≡ []
+  pub quiet : (e : HostCall) (es : List HostCall) → says s e ≡ none → saysOn s (e ∷ es) ≡ saysOn (next s e) es
+  pub second : (e : HostCall) (es : List HostCall) (a : Second) → says s e ≡ some a → saysOn s (e ∷ es) ≡ a ∷ saysOn (next s e) es
+
+abbrev pub SecondsInARow : Type 0
+SecondsInARow = (s : State) → InARow s
+
 -- the accepted seconds of the events es, after those of `past`
 abbrev pub seconds : ℕ → List HostCall → List HostCall → List Second
 seconds own past es = saysOn (run own past) es

@@ -27,6 +27,8 @@ record-as-said = (
   record { octets = refl; plans = refl; book = refl; emptyBook = refl; empty = refl; timesSet = refl; ready = refl },
   λ rec.
       record {
+        octet = λ at. refl;
+        word = λ at. word rec refl;
         state = refl;
         count = refl;
         minimum = λ i. refl;

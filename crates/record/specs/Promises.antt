@@ -24,6 +24,8 @@ wordFrom rec at = getD rec at 0 * 256 + getD rec (at + 1) 0
 
 -- phases are counted from 0
 pub record EachPlace (rec : List ℕ) (k : ℕ) : Type 0 where
+  pub octet : (at : ℕ) → kept.octetAt rec at ≡ getD rec at 0
+  pub word : (at : ℕ) → kept.wordAt rec at ≡ wordFrom rec at
   pub state : kept.stateOf rec ≡ getD rec 0 0
   pub count : kept.kOf rec ≡ k
   -- "the 7k octets of 5F 14"
