@@ -9,10 +9,10 @@ use Rattle.record.specs.Promises.{EachPlace, Ranges, PhaseTimes, TimesOf
 use Rattle.record.proofs.Places.{record-as-said}
 
 ranges : {l x y m : ℕ} → x ≡ y → Within l x m → Ranges l y m
-ranges e w = (omega (arith, e, w .least), omega (arith, e, w .most))
+ranges e w = (rw (← e) (w .least), rw (← e) (w .most))
 
 within : {l x y m : ℕ} → x ≡ y → Ranges l y m → Within l x m
-within e r = record { least = omega (arith, e, r .0); most = omega (arith, e, r .1) }
+within e r = record { least = rw e (r .0); most = rw e (r .1) }
 
 zero-from : (rec : List ℕ) (m n r : ℕ) → m ≡ n → recordLen - n ≡ r → (ZeroFrom rec m → drop n rec ≡ replicate r 0) × (drop n rec ≡ replicate r 0 → ZeroFrom rec m)
 zero-from rec m n r e f = (λ z. rw (← e, ← f, ← e) z, λ z. rw (e, f) z)
@@ -33,8 +33,8 @@ module _ (rec : List ℕ) where
         allRed = ranges (p .allRed i) (f .allRed);
         walkFlash = ranges (p .walkFlash i) (f .walkFlash);
         redMan = ranges (p .redMan i) (f .redMan);
-        ordered = omega (arith, f .ordered, p .maximum i);
-        walk = omega (arith, f .walk, p .walkFlash i, p .redMan i);
+        ordered = rw (← p .maximum i) (f .ordered);
+        walk = rw (← p .walkFlash i, ← p .redMan i) (f .walk);
       }
 
   phase-from : (i : ℕ) → PhaseTimes rec i → TimesFit rec i
@@ -46,8 +46,8 @@ module _ (rec : List ℕ) where
         allRed = within (p .allRed i) (f .allRed);
         walkFlash = within (p .walkFlash i) (f .walkFlash);
         redMan = within (p .redMan i) (f .redMan);
-        ordered = omega (arith, f .ordered, p .maximum i);
-        walk = omega (arith, f .walk, p .walkFlash i, p .redMan i);
+        ordered = rw (p .maximum i) (f .ordered);
+        walk = rw (p .walkFlash i, p .redMan i) (f .walk);
       }
 
   times-to : AllTimesFit rec → TimesOfAll rec k
