@@ -1,7 +1,7 @@
 -- What specs/Known.antt promises. Each line of the directory and each row of the table pass a computed test.
 use Prim.Native.Nat.{ℕ, suc, _+_, _-_, _≤_, _<_}
 use mathlib.Core.Path.{_≡_, refl, sym, ap, _∙_}
-use mathlib.Core.Bool.{Bool, true}
+use mathlib.Core.Bool.{Bool, true, false, _||_}
 use mathlib.Core.List.{List, [], _∷_}
 use native.Mathlib.Decide.{ℕ-discrete, decLe, decLt}
 use native.Mathlib.Omega.{arith}
@@ -12,8 +12,8 @@ use Rattle.octets.specs.Choice.{pick, both}
 use Rattle.octets.proofs.Every.{every, every-at, below, below-at, all, all-at}
 use Rattle.diagram.specs.Row.{LampRow, Diagram, diagram}
 use Rattle.diagram.specs.Rows.{lampRows, directory}
-use Rattle.diagram.specs.Table.{unknown, find, diagramOf, phasesOf, stepsIn, stepsOf, rowNumber}
-use Rattle.diagram.specs.Known.{noLine, lineAt, Known, phasesDue, SupportedCodes, EachFound, KnownPhases, FiveSteps, EachUsed, AllDark, OutsideDark, Absent, UnknownDark}
+use Rattle.diagram.specs.Table.{unknown, find, diagramOf, phasesOf, inRange, stepsIn, stepsOf, rowNumber}
+use Rattle.diagram.specs.Known.{noLine, lineAt, Known, SupportedCodes, EachFound, KnownPhases, FiveSteps, EachUsed, AllDark, OutsideDark, Absent, UnknownDark}
 use Rattle.diagram.proofs.Laws.{number-none, number-past, row-past}
 
 -- What is not there
@@ -27,7 +27,7 @@ outside-dark order step out = by (ℕ-discrete step 0) (decLt (stepsOf order) st
     by : Dec (step ≡ 0) → Dec (stepsOf order < step) → AllDark order step
     by (yes z) l = dark (omega (arith, number-none order step z))
     by (no s) (yes l) = dark (omega (arith, number-past order step l))
-    by (no s) (no l) = absurd (out (record { first = omega arith; last = omega arith }))
+    by (no s) (no l) = absurd (out (omega arith) (omega arith))
 
 -- what the search finds: a line of the directory, or none
 data Found (order : ℕ) (ds : List Diagram) : Type 0 where
@@ -56,7 +56,7 @@ unknown-dark order out = by (found order directory)
           phases = z;
           approaches = ap (λ (d : Diagram). d .approaches) p;
           steps = omega arith;
-          dark = λ step. outside-dark order step (λ s. omega (arith, s .first, s .last));
+          dark = λ step. outside-dark order step (λ f l. omega (arith, f, l));
         }
 
 -- an order with phases is known
@@ -169,6 +169,13 @@ codes-below order k =
     let t = every-at (λ d. ltb (d .order) codesEnd) directory (k .line) noLine refl (λ _. refl) in
     omega (arith, ltb-true (lineAt (k .line) .order) codesEnd t, k .there)
 
+-- the phases of each code, as the code asks for them
+unfoldable pub phasesDue : ℕ → ℕ
+phasesDue order =
+    pick (eqb order 0x00) 2
+    (pick (eqb order 0x20 || eqb order 0x38) 3
+    (pick (inRange 0x50 order 0x57 || inRange 0x60 order 0x6d) 4 0))
+
 codes-pass : below (λ o. eqb (phasesOf o) (phasesDue o)) codesEnd ≡ true
 unfolding below directory diagramOf find phasesDue
 codes-pass = refl
@@ -186,10 +193,29 @@ none-due order h =
       lt-leb order 0x6d (omega arith),
     )
 
-pub supported-codes : SupportedCodes
-supported-codes order = by (decLt order codesEnd) (decLe 1 (phasesOf order))
+pub phases-due : (order : ℕ) → phasesOf order ≡ phasesDue order
+phases-due order = by (decLt order codesEnd) (decLe 1 (phasesOf order))
   where
     by : Dec (order < codesEnd) → Dec (1 ≤ phasesOf order) → phasesOf order ≡ phasesDue order
     by (yes l) _ = eqb-true (phasesOf order) (phasesDue order) (below-at (λ o. eqb (phasesOf o) (phasesDue o)) codesEnd order codes-pass l)
     by (no g) (yes p) = absurd (g (codes-below order (phases-known order p)))
     by (no g) (no z) = omega (arith, none-due order (omega arith))
+
+outside : (least v greatest : ℕ) → (least ≤ v → v ≤ greatest → ⊥) → both (leb least v) (leb v greatest) ≡ false
+outside least v greatest out = by (decLe least v) (decLe v greatest)
+  where
+    by : Dec (least ≤ v) → Dec (v ≤ greatest) → both (leb least v) (leb v greatest) ≡ false
+    by (yes h) (yes l) = absurd (out h l)
+    by (yes h) (no g) = rw (le-leb least v h, lt-leb v greatest (omega arith))
+    by (no g) _ = rw (lt-leb least v (omega arith))
+
+pub supported-codes : SupportedCodes
+unfolding phasesDue
+supported-codes order = record {
+  at00 = λ e. rw (phases-due order, e);
+  at20 = λ e. rw (phases-due order, e);
+  at38 = λ e. rw (phases-due order, e);
+  from50 = λ h l. rw (phases-due order, ne-eqb order 0x00 (λ e. omega arith), ne-eqb order 0x20 (λ e. omega arith), ne-eqb order 0x38 (λ e. omega arith), le-leb 0x50 order h, le-leb order 0x57 l);
+  from60 = λ h l. rw (phases-due order, ne-eqb order 0x00 (λ e. omega arith), ne-eqb order 0x20 (λ e. omega arith), ne-eqb order 0x38 (λ e. omega arith), le-leb 0x50 order (omega arith), lt-leb order 0x57 (omega arith), le-leb 0x60 order h, le-leb order 0x6d l);
+  others = λ x y z f g. rw (phases-due order, ne-eqb order 0x00 x, ne-eqb order 0x20 y, ne-eqb order 0x38 z, outside 0x50 order 0x57 f, outside 0x60 order 0x6d g);
+}

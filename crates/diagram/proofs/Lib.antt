@@ -4,3 +4,4 @@ pub mod Rule
 pub mod Words
 pub mod Named
 pub mod Only
+pub mod Shown

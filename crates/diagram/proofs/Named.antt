@@ -14,9 +14,9 @@ use Rattle.octets.proofs.Every.{every, all, all-at, below, below-at}
 use Rattle.diagram.specs.Row.{LampRow, Diagram}
 use Rattle.diagram.specs.Rows.{lampRows, directory}
 use Rattle.diagram.specs.Table.{diagramOf, stepsAPhase, stepsIn, lampRowOf, flashingOf}
-use Rattle.diagram.specs.Known.{Step, inRange}
+use Rattle.diagram.specs.Known.{Step}
 use Rattle.diagram.specs.Lamps.{bit, lit, lampIn, greenManOf, redLit, yellowLit, greenLit, roundLit, straightLit, greenManLit}
-use Rattle.diagram.specs.Named.{placeOf, SomeApproach, VehiclesAlike, AsNamed, StepsAsNamed, Follows, StepsFollow, EndsRed, EachServed}
+use Rattle.diagram.specs.Named.{placeOf, PlacesAsSaid, SomeApproach, VehiclesAlike, AsNamed, StepsAsNamed, Follows, StepsFollow, EndsRed, EachServed}
 use Rattle.diagram.proofs.Laws.{approachesInWord, lampsAnApproach, vehicleLamps, lastLamp, greenPlace, walkFlashPlace, redManPlace, yellowPlace, row-there}
 use Rattle.diagram.proofs.Known.{found-passes, outside-dark}
 use Rattle.diagram.proofs.Rule.{rowIn}
@@ -78,7 +78,7 @@ alike r s a j = same (lit r (lampsAnApproach * a + (j + 1))) (lit s (lampsAnAppr
 followTests : LampRow → LampRow → ℕ → ℕ → List Bool
 followTests r s n a =
     implies (greenLit r a) (greenLit s a || yellowLit s a) ∷ implies (yellowLit r a) (redLit s a) ∷ implies (yellowLit s a) (greenLit r a)
-    ∷ implies (inRange walkFlashPlace (place n) redManPlace) (below (alike r s a) vehicleLamps)
+    ∷ implies (both (leb walkFlashPlace (place n)) (leb (place n) redManPlace)) (below (alike r s a) vehicleLamps)
     ∷ implies (eqb (place n) walkFlashPlace) (same (lampIn (s .flashing) (greenManOf a)) (greenManLit r a))
     ∷ []
 
@@ -226,7 +226,7 @@ module _ (order step : ℕ) (s : Step order step) where
     keep : walkFlashPlace ≤ placeOf (step + 1) → placeOf (step + 1) ≤ redManPlace → VehiclesAlike r next a
     unfolding followTests
     keep f g j l =
-        let p = inRange walkFlashPlace (place step) redManPlace in
+        let p = both (leb walkFlashPlace (place step)) (leb (place step) redManPlace) in
         let t : p ≡ true = rw (le-leb walkFlashPlace (place step) (omega (arith, f, placed)), le-leb (place step) redManPlace (omega (arith, g, placed))) in
         same-eq (lit r (lampsAnApproach * a + (j + 1))) (lit next (lampsAnApproach * a + (j + 1)))
         (below-at (alike r next a) vehicleLamps j (implied p (below (alike r next a) vehicleLamps) (follow 3) t) l)
@@ -247,6 +247,9 @@ module _ (order step : ℕ) (s : Step order step) where
       walk = rw (there, next-there, flashingOf) walks;
     }
 
+pub places-as-said : PlacesAsSaid
+places-as-said i j h l = omega arith
+
 pub steps-as-named : StepsAsNamed
 steps-as-named order step s = as-named order step s
 
@@ -256,8 +259,8 @@ quiet-else order step ne = by (decLe 1 step) (decLe step (stepsIn (diagramOf ord
   where
     by : Dec (1 ≤ step) → Dec (step ≤ stepsIn (diagramOf order)) → flashingOf order step ≡ 0
     by (yes f) (yes l) = as-named order step (record { first = f; last = l }) .quiet (λ e. ne (omega (arith, e)))
-    by (yes f) (no g) = outside-dark order step (λ s. g (s .last)) .flashing
-    by (no z) _ = outside-dark order step (λ s. z (s .first)) .flashing
+    by (yes f) (no g) = outside-dark order step (λ _ l. g l) .flashing
+    by (no z) _ = outside-dark order step (λ f _. z f) .flashing
 
 pub steps-follow : StepsFollow
 steps-follow order step a s n h = followed order step s a n h

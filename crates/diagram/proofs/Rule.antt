@@ -1,5 +1,5 @@
 -- The lamp rule: one computed test over the whole table, and the law that turns it into the rule at each row.
-use Prim.Native.Nat.{ℕ, _+_, _-_}
+use Prim.Native.Nat.{ℕ, _+_, _*_, _-_, _≤_}
 use mathlib.Core.Path.{_≡_, refl}
 use mathlib.Core.Bool.{Bool, true, false, not}
 use mathlib.Core.List.{List, [], _∷_}
@@ -14,14 +14,31 @@ use Rattle.diagram.specs.Row.{LampRow, Diagram}
 use Rattle.diagram.specs.Rows.{lampRows, directory}
 use Rattle.diagram.specs.Table.{darkRow, diagramOf, stepsIn}
 use Rattle.diagram.specs.Lamps.{bit, lit, redLit, yellowLit, greenLit, redManLit, greenManLit, LampsNumbered, Shows, Dark, LampRule}
-use Rattle.diagram.proofs.Laws.{approachesInWord, row-there}
+use Rattle.diagram.proofs.Laws.{approachesInWord, lampsAnApproach, row-there}
 use Rattle.diagram.proofs.Known.{found-passes}
 
 -- The lamps' numbers
 
+-- the bit of an approach's lamp
+bit-of : (n m : ℕ) → 1 ≤ m → lampsAnApproach * n + m - 1 ≡ lampsAnApproach * n + (m - 1)
+bit-of n m h = omega arith
+
 pub lamps-numbered : LampsNumbered
-unfolding lit
-lamps-numbered r = record { a = refl; b = refl; c = refl; d = refl }
+unfolding lit greenLit
+lamps-numbered r = record {
+  a = refl;
+  b = refl;
+  c = refl;
+  d = refl;
+  e = refl;
+  f = refl;
+  g = refl;
+  h = refl;
+  word = λ w m. refl;
+  lamp = λ m. refl;
+  green = λ n. rw (bit-of n 3 (omega arith), bit-of n 4 (omega arith), bit-of n 5 (omega arith), bit-of n 6 (omega arith));
+  greenMan = λ n. refl;
+}
 
 -- The test
 

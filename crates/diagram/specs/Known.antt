@@ -1,10 +1,7 @@
 -- What the directory promises: which phase orders are known, that each row is a step of one, and that all else is dark.
 use Prim.Native.Nat.{ℕ, _*_, _≤_, _<_}
 use mathlib.Core.Path.{_≡_}
-use mathlib.Core.Bool.{Bool, _||_}
-use lib.Dec.{eqb, leb}
 use lib.ListN.{length, getD}
-use Rattle.octets.specs.Choice.{pick, both}
 use Rattle.diagram.specs.Row.{Diagram, diagram}
 use Rattle.diagram.specs.Rows.{lampRows, directory}
 use Rattle.diagram.specs.Table.{diagramOf, phasesOf, approachesOf, stepsOf, rowNumber, steadyOf, flashingOf}
@@ -26,20 +23,20 @@ pub record Known (order : ℕ) : Type 0 where
 abbrev pub EachFound : Type 0
 EachFound = (i : ℕ) → i < length directory → diagramOf (lineAt i .order) ≡ lineAt i
 
-abbrev pub inRange : ℕ → ℕ → ℕ → Bool
-inRange least v greatest = both (leb least v) (leb v greatest)
+-- 02, E2: "01's range for phase order becomes the supported codes", each "the type code of Appendix 1, as 60 and 61 for number 22 (A) and (B)".
+pub record Supported (order : ℕ) : Type 0 where
+  -- numbers 00, 07 and 14
+  pub at00 : order ≡ 0x00 → phasesOf order ≡ 2
+  pub at20 : order ≡ 0x20 → phasesOf order ≡ 3
+  pub at38 : order ≡ 0x38 → phasesOf order ≡ 3
+  -- 19 to 21, and 22 to 28
+  pub from50 : 0x50 ≤ order → order ≤ 0x57 → phasesOf order ≡ 4
+  pub from60 : 0x60 ≤ order → order ≤ 0x6d → phasesOf order ≡ 4
+  -- an order that is none of them has none
+  pub others : (order ≡ 0x00 → ⊥) → (order ≡ 0x20 → ⊥) → (order ≡ 0x38 → ⊥) → (0x50 ≤ order → order ≤ 0x57 → ⊥) → (0x60 ≤ order → order ≤ 0x6d → ⊥) → phasesOf order ≡ 0
 
--- 02, E2: "The phase order is the type code of Appendix 1, as 60 and 61 for number 22 (A) and (B)."
--- The phases of each supported code: of number 00, of 07 and 14, of 19 to 21 and 22 to 28; an order that is none of them has none.
-unfoldable pub phasesDue : ℕ → ℕ
-phasesDue order =
-    pick (eqb order 0x00) 2
-    (pick (eqb order 0x20 || eqb order 0x38) 3
-    (pick (inRange 0x50 order 0x57 || inRange 0x60 order 0x6d) 4 0))
-
--- 02, E2: "01's range for phase order becomes the supported codes"
 abbrev pub SupportedCodes : Type 0
-SupportedCodes = (order : ℕ) → phasesOf order ≡ phasesDue order
+SupportedCodes = (order : ℕ) → Supported order
 
 -- 02, E2: "up to eight phases". A known order has one at least.
 abbrev pub KnownPhases : Type 0
@@ -72,7 +69,7 @@ pub record AllDark (order step : ℕ) : Type 0 where
 
 -- A step that is not there, 0 or over the last, is dark.
 abbrev pub OutsideDark : Type 0
-OutsideDark = (order step : ℕ) → (Step order step → ⊥) → AllDark order step
+OutsideDark = (order step : ℕ) → (1 ≤ step → step ≤ 5 * phasesOf order → ⊥) → AllDark order step
 
 -- An unknown order has no phases, no approaches and no steps, and each step of it is dark.
 pub record Absent (order : ℕ) : Type 0 where

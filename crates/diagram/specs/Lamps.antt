@@ -68,12 +68,23 @@ bitLit r i = eqb (r .steady / 2 ^ i % 2) 1 || eqb (r .flashing / 2 ^ i % 2) 1
 abbrev pub eightBits : LampRow → ℕ → List Bool
 eightBits r i = bitLit r i ∷ bitLit r (i + 1) ∷ bitLit r (i + 2) ∷ bitLit r (i + 3) ∷ bitLit r (i + 4) ∷ bitLit r (i + 5) ∷ bitLit r (i + 6) ∷ bitLit r (i + 7) ∷ []
 
--- "1 to 8 for A, 9 to 16 for B, on to 32. Lamp number m is bit m-1": A has bits 0 to 7, B 8 to 15, C 16 to 23, D 24 to 31.
+-- "1 to 8 for A, 9 to 16 for B, on to 32. Lamp number m is bit m-1": A has bits 0 to 7, B 8 to 15, C 16 to 23, D 24 to 31; and so on
+-- for 02's "up to .. eight approaches".
 pub record Numbered (r : LampRow) : Type 0 where
   pub a : lampsOf r 0 ≡ eightBits r 0
   pub b : lampsOf r 1 ≡ eightBits r 8
   pub c : lampsOf r 2 ≡ eightBits r 16
   pub d : lampsOf r 3 ≡ eightBits r 24
+  pub e : lampsOf r 4 ≡ eightBits r 32
+  pub f : lampsOf r 5 ≡ eightBits r 40
+  pub g : lampsOf r 6 ≡ eightBits r 48
+  pub h : lampsOf r 7 ≡ eightBits r 56
+  pub word : (w m : ℕ) → lampIn w m ≡ eqb (w / 2 ^ (m - 1) % 2) 1
+  pub lamp : (m : ℕ) → lit r m ≡ bitLit r (m - 1)
+  -- "left, round, straight, right green" are four lamps: green is any of them
+  pub green : (n : ℕ) → greenLit r n ≡ (bitLit r (8 * n + 2) || (bitLit r (8 * n + 3) || (bitLit r (8 * n + 4) || bitLit r (8 * n + 5))))
+  -- the green man is an approach's last lamp, 8 for A, 16 for B
+  pub greenMan : (n : ℕ) → greenManOf n ≡ 8 * n + 8
 
 abbrev pub LampsNumbered : Type 0
 LampsNumbered = (r : LampRow) → Numbered r

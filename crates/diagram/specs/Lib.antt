@@ -4,3 +4,4 @@ pub mod Table
 pub mod Known
 pub mod Lamps
 pub mod Named
+pub mod Shown

@@ -13,6 +13,10 @@ use Rattle.diagram.specs.Lamps.{lit, lampIn, greenManOf, redLit, yellowL
 abbrev pub placeOf : ℕ → ℕ
 placeOf step = (step - 1) % 5 + 1
 
+-- 01's table: step 6 is "as 1 with phase 2", 7 is "as 2", on to 10, "as 5". Step j of a phase, which i phases come before, has place j.
+abbrev pub PlacesAsSaid : Type 0
+PlacesAsSaid = (i j : ℕ) → 1 ≤ j → j ≤ 5 → placeOf (5 * i + j) ≡ j
+
 -- some approach shows it
 pub record SomeApproach (lamp : LampRow → ℕ → Bool) (order step : ℕ) : Type 0 where
   pub approach : ℕ

@@ -1,8 +1,7 @@
 // 01, "Lamps and seconds": the step table. The lamp words of all diagrams stand in one table, row by row; for each phase order
 // there are its phases and its first row.
 ghost use mathlib.Core.Path.{_≡_};
-ghost use Rattle.diagram.specs.Table.{diagramOf, phasesOf, stepsOf, rowNumber, steadyOf, flashingOf};
-ghost use Rattle.diagram.specs.Known.{inRange};
+ghost use Rattle.diagram.specs.Table.{diagramOf, phasesOf, inRange, stepsOf, rowNumber, steadyOf, flashingOf};
 
 mod rows;
 

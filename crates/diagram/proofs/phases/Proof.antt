@@ -2,33 +2,32 @@
 use mathlib.Core.Path.{sym, _∙_}
 use borrow.Author.Needs.{needs}
 use borrow.Author.Tests.{eq-eqb, ne-eqb}
-use Rattle.diagram.specs.Known.{phasesDue}
-use Rattle.diagram.proofs.Known.{supported-codes}
+use Rattle.diagram.proofs.Known.{phasesDue, phases-due}
 use Rattle.diagram.proofs.phases.Statement.{statement}
 use Rattle.diagram.proofs.phases.Tie as tie
 
 returns : tie.Need-returns
 unfolding phasesDue
-returns c = rw (supported-codes (c .before .args .order), eq-eqb _ _ (c .if1 .taken))
+returns c = rw (phases-due (c .before .args .order), eq-eqb _ _ (c .if1 .taken))
 
 returns-2 : tie.Need-returns-2
 unfolding phasesDue
-returns-2 c = rw (supported-codes (c .before .before .args .order), ne-eqb _ _ (c .before .if1 .left), eq-eqb _ _ (c .if2 .taken))
+returns-2 c = rw (phases-due (c .before .before .args .order), ne-eqb _ _ (c .before .if1 .left), eq-eqb _ _ (c .if2 .taken))
 
 returns-3 : tie.Need-returns-3
 unfolding phasesDue
-returns-3 c = rw (supported-codes (c .before .before .before .args .order), ne-eqb _ _ (c .before .before .if1 .left), ne-eqb _ _ (c .before .if2 .left), eq-eqb _ _ (c .if3 .taken))
+returns-3 c = rw (phases-due (c .before .before .before .args .order), ne-eqb _ _ (c .before .before .if1 .left), ne-eqb _ _ (c .before .if2 .left), eq-eqb _ _ (c .if3 .taken))
 
 returns-4 : tie.Need-returns-4
 unfolding phasesDue
 returns-4 c =
-    rw (supported-codes (c .before .before .before .before .before .args .order), ne-eqb _ _ (c .before .before .before .before .if1 .left), ne-eqb _ _ (c .before .before .before .if2 .left), ne-eqb _ _ (c .before .before .if3 .left), sym (c .before .in-range .ensures) ∙ c .if4 .taken)
+    rw (phases-due (c .before .before .before .before .before .args .order), ne-eqb _ _ (c .before .before .before .before .if1 .left), ne-eqb _ _ (c .before .before .before .if2 .left), ne-eqb _ _ (c .before .before .if3 .left), sym (c .before .in-range .ensures) ∙ c .if4 .taken)
 
 returns-5 : tie.Need-returns-5
 unfolding phasesDue
 returns-5 c =
     rw (
-      supported-codes (c .before .before .before .before .before .before .before .args .order),
+      phases-due (c .before .before .before .before .before .before .before .args .order),
       ne-eqb _ _ (c .before .before .before .before .before .before .if1 .left),
       ne-eqb _ _ (c .before .before .before .before .before .if2 .left),
       ne-eqb _ _ (c .before .before .before .before .if3 .left),
@@ -40,7 +39,7 @@ returns-6 : tie.Need-returns-6
 unfolding phasesDue
 returns-6 c =
     rw (
-      supported-codes (c .before .before .before .before .before .before .before .args .order),
+      phases-due (c .before .before .before .before .before .before .before .args .order),
       ne-eqb _ _ (c .before .before .before .before .before .before .if1 .left),
       ne-eqb _ _ (c .before .before .before .before .before .if2 .left),
       ne-eqb _ _ (c .before .before .before .before .if3 .left),
