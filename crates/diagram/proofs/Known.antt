@@ -180,18 +180,14 @@ codes-pass : below (λ o. eqb (phasesOf o) (phasesDue o)) codesEnd ≡ true
 unfolding below directory diagramOf find phasesDue
 codes-pass = refl
 
-none-due : (order : ℕ) → codesEnd ≤ order → phasesDue order ≡ 0
+-- past the three codes that stand alone
+past-three : (order : ℕ) → 0x38 < order → phasesDue order ≡ pick (inRange 0x50 order 0x57 || inRange 0x60 order 0x6d) 4 0
 unfolding phasesDue
+past-three order h = rw (ne-eqb order 0x00 (λ e. omega arith), ne-eqb order 0x20 (λ e. omega arith), ne-eqb order 0x38 (λ e. omega arith))
+
+none-due : (order : ℕ) → codesEnd ≤ order → phasesDue order ≡ 0
 none-due order h =
-    rw (
-      ne-eqb order 0x00 (λ e. omega arith),
-      ne-eqb order 0x20 (λ e. omega arith),
-      ne-eqb order 0x38 (λ e. omega arith),
-      le-leb 0x50 order (omega arith),
-      lt-leb order 0x57 (omega arith),
-      le-leb 0x60 order (omega arith),
-      lt-leb order 0x6d (omega arith),
-    )
+    rw (past-three order (omega arith), le-leb 0x50 order (omega arith), lt-leb order 0x57 (omega arith), le-leb 0x60 order (omega arith), lt-leb order 0x6d (omega arith))
 
 pub phases-due : (order : ℕ) → phasesOf order ≡ phasesDue order
 phases-due order = by (decLt order codesEnd) (decLe 1 (phasesOf order))
@@ -201,6 +197,7 @@ phases-due order = by (decLt order codesEnd) (decLe 1 (phasesOf order))
     by (no g) (yes p) = absurd (g (codes-below order (phases-known order p)))
     by (no g) (no z) = omega (arith, none-due order (omega arith))
 
+-- a number that is not from the least to the greatest
 outside : (least v greatest : ℕ) → (least ≤ v → v ≤ greatest → ⊥) → both (leb least v) (leb v greatest) ≡ false
 outside least v greatest out = by (decLe least v) (decLe v greatest)
   where
@@ -215,7 +212,7 @@ supported-codes order = record {
   at00 = λ e. rw (phases-due order, e);
   at20 = λ e. rw (phases-due order, e);
   at38 = λ e. rw (phases-due order, e);
-  from50 = λ h l. rw (phases-due order, ne-eqb order 0x00 (λ e. omega arith), ne-eqb order 0x20 (λ e. omega arith), ne-eqb order 0x38 (λ e. omega arith), le-leb 0x50 order h, le-leb order 0x57 l);
-  from60 = λ h l. rw (phases-due order, ne-eqb order 0x00 (λ e. omega arith), ne-eqb order 0x20 (λ e. omega arith), ne-eqb order 0x38 (λ e. omega arith), le-leb 0x50 order (omega arith), lt-leb order 0x57 (omega arith), le-leb 0x60 order h, le-leb order 0x6d l);
+  from50 = λ h l. rw (phases-due order, past-three order (omega arith), le-leb 0x50 order h, le-leb order 0x57 l);
+  from60 = λ h l. rw (phases-due order, past-three order (omega arith), le-leb 0x50 order (omega arith), lt-leb order 0x57 (omega arith), le-leb 0x60 order h, le-leb order 0x6d l);
   others = λ x y z f g. rw (phases-due order, ne-eqb order 0x00 x, ne-eqb order 0x20 y, ne-eqb order 0x38 z, outside 0x50 order 0x57 f, outside 0x60 order 0x6d g);
 }
