@@ -1,7 +1,7 @@
 -- What specs/Shown.antt promises: the search finds each order's line, and the laws of the rows say the rest.
-use Prim.Native.Nat.{ℕ, _+_, _*_, _-_, _≤_, _<_}
+use Prim.Native.Nat.{ℕ, _+_, _*_, _-_, _≤_}
 use mathlib.Core.Path.{_≡_, refl, ap, _∙_}
-use mathlib.Core.Bool.{true, false}
+use mathlib.Core.Bool.{true}
 use native.Mathlib.Omega.{arith}
 use Rattle.octets.proofs.Every.{below, below-at}
 use Rattle.diagram.specs.Row.{LampRow, Diagram, diagram}
