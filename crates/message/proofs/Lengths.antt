@@ -64,24 +64,24 @@ has : (l : ℕ) → 1 ≤ l → l < 14 → HasLayout l
 unfolding layouts
 has l a b = record { first = a; last = b }
 
-third : (os : List ℕ) → getD (drop 1 (drop 1 (drop 1 os))) 0 0 ≡ getD os 3 0
+pub third : (os : List ℕ) → getD (drop 1 (drop 1 (drop 1 os))) 0 0 ≡ getD os 3 0
 third os = simp (drop-drop, getD-drop)
 
 pub lengths-as-said : LengthsAsSaid
 unfolding numberOf firstOf layouts layoutAt
 lengths-as-said =
     record {
-      carriedOut = plain 0x0F 0x80 (has 1 (omega arith) (omega arith)) 2 refl refl (λ os. refl) (field-numbers .carriedOut .size);
-      refused = plain 0x0F 0x81 (has 2 (omega arith) (omega arith)) 4 refl refl (λ os. refl) (field-numbers .refused .size);
+      carriedOut = plain 0x0F 0x80 (has 1 (omega arith) (omega arith)) 2 refl refl (λ os. refl) (field-numbers .carriedOut 0 .size);
+      refused = plain 0x0F 0x81 (has 2 (omega arith) (omega arith)) 4 refl refl (λ os. refl) (field-numbers .refused 0 .size);
       setTimes = counted 0x5F 0x14 (has 3 (omega arith) (omega arith)) 1 2 7 refl refl (λ os. value-one os 1) (λ k. field-numbers .setTimes k .size);
       reportTimes = counted 0x5F 0xC4 (has 4 (omega arith) (omega arith)) 1 2 7 refl refl (λ os. value-one os 1) (λ k. field-numbers .reportTimes k .size);
       setPlan = counted 0x5F 0x15 (has 5 (omega arith) (omega arith)) 3 8 2 refl refl third (λ k. field-numbers .setPlan k .size);
       reportPlan = counted 0x5F 0xC5 (has 6 (omega arith) (omega arith)) 3 8 2 refl refl third (λ k. field-numbers .reportPlan k .size);
       reportRunning = counted 0x5F 0xC8 (has 7 (omega arith) (omega arith)) 3 8 2 refl refl third (λ k. field-numbers .reportRunning k .size);
-      run = plain 0x5F 0x18 (has 8 (omega arith) (omega arith)) 1 refl refl (λ os. refl) (field-numbers .run .size);
-      queryTimes = plain 0x5F 0x44 (has 9 (omega arith) (omega arith)) 1 refl refl (λ os. refl) (field-numbers .queryTimes .size);
-      queryPlan = plain 0x5F 0x45 (has 10 (omega arith) (omega arith)) 1 refl refl (λ os. refl) (field-numbers .queryPlan .size);
-      queryRunning = plain 0x5F 0x48 (has 11 (omega arith) (omega arith)) 0 refl refl (λ os. refl) (ap sizeOf (field-numbers .queryRunning));
+      run = plain 0x5F 0x18 (has 8 (omega arith) (omega arith)) 1 refl refl (λ os. refl) (field-numbers .run 0 .size);
+      queryTimes = plain 0x5F 0x44 (has 9 (omega arith) (omega arith)) 1 refl refl (λ os. refl) (field-numbers .queryTimes 0 .size);
+      queryPlan = plain 0x5F 0x45 (has 10 (omega arith) (omega arith)) 1 refl refl (λ os. refl) (field-numbers .queryPlan 0 .size);
+      queryRunning = plain 0x5F 0x48 (has 11 (omega arith) (omega arith)) 0 refl refl (λ os. refl) (ap sizeOf (field-numbers .queryRunning 0));
     }
 
 -- every value that fits its octets is in range

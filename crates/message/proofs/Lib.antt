@@ -7,6 +7,7 @@ pub mod Fitting
 pub mod Numbers
 pub mod ReadSo
 pub mod Lengths
+pub mod Counts
 pub mod Accepted
 pub mod Places
 pub mod WrittenSo

@@ -14,8 +14,8 @@ use Rattle.message.specs.declared.layout.Field.the-variants.{Octet}
 use Rattle.message.specs.Fields as field
 use Rattle.message.specs.Fields.{noField}
 use Rattle.message.specs.Layouts.{layouts, layoutAt, numberOf, rowsAt, layoutRows, repeated, times, greens, cycleOffset}
-use Rattle.message.specs.Values.{sizeOf, fieldStart}
-use Rattle.message.specs.Promises.{listed, CodesListed, FieldStands, PhaseFields, GreenFields, TimesFields, PlanFields, OnePlan, FieldNumbers, NamesAsSaid, StoredParts}
+use Rattle.message.specs.Values.{sizeOf}
+use Rattle.message.specs.Promises.{listed, CodesListed, FieldStands, AnswerFields, RefusalFields, PhaseFields, GreenFields, TimesFields, PlanFields, OnePlan, FieldNumbers, NamesAsSaid, StoredParts}
 use Rattle.message.proofs.Layouts.{length-repeated}
 use Rattle.message.proofs.Values.{size-append, size-repeated}
 
@@ -149,29 +149,53 @@ module _ (least k : ℕ) where
         greens = green planHead k refl refl;
       }
 
--- a layout with no repeated field
-alone : (fs : List Field) (j : ℕ) {n s : ℕ} → n ≡ j + 1 → j < length fs → fieldStart fs j ≡ s → FieldStands fs n (getD fs j noField) s
-alone fs j en l es = record { place = j; number = en; within = l; there = refl; start = es }
+-- the layouts with no repeated field: nothing comes k times, whatever k is
+none-repeated : (k : ℕ) → repeated k [] ++ [] ≡ []
+none-repeated zero = refl
+none-repeated (suc k) = none-repeated k
 
-abbrev refusalRows : List Field
-refusalRows = field.code ∷ field.errorNumber ∷ field.parameterNumber ∷ []
+module _ (k : ℕ) where
+  abbrev answerHead : List Field
+  answerHead = field.code ∷ []
 
-one-plan : OnePlan (field.plan ∷ [])
-one-plan = record { many = refl; size = refl; planned = alone (field.plan ∷ []) 0 refl (omega arith) refl }
+  answer-fields : AnswerFields (answerHead ++ (repeated k [] ++ []))
+  answer-fields =
+      record {
+        many = omega (arith, many answerHead [] [] k);
+        size = omega (arith, size answerHead [] [] k);
+        answered = in-head answerHead [] [] k 0 (omega arith) refl refl;
+      }
+
+  abbrev refusalHead : List Field
+  refusalHead = field.code ∷ field.errorNumber ∷ field.parameterNumber ∷ []
+
+  refusal-fields : RefusalFields (refusalHead ++ (repeated k [] ++ []))
+  refusal-fields =
+      record {
+        many = omega (arith, many refusalHead [] [] k);
+        size = omega (arith, size refusalHead [] [] k);
+        answered = in-head refusalHead [] [] k 0 (omega arith) refl refl;
+        error = in-head refusalHead [] [] k 1 (omega arith) refl refl;
+        parameter = in-head refusalHead [] [] k 2 (omega arith) refl refl;
+      }
+
+  abbrev oneHead : List Field
+  oneHead = field.plan ∷ []
+
+  one-plan : OnePlan (oneHead ++ (repeated k [] ++ []))
+  one-plan =
+      record {
+        many = omega (arith, many oneHead [] [] k);
+        size = omega (arith, size oneHead [] [] k);
+        planned = in-head oneHead [] [] k 0 (omega arith) refl refl;
+      }
 
 pub field-numbers : FieldNumbers
 unfolding numberOf firstOf layouts layoutAt rowsAt layoutRows
 field-numbers =
     record {
-      carriedOut = record { many = refl; size = refl; answered = alone (field.code ∷ []) 0 refl (omega arith) refl };
-      refused =
-          record {
-            many = refl;
-            size = refl;
-            answered = alone refusalRows 0 refl (omega arith) refl;
-            error = alone refusalRows 1 refl (omega arith) refl;
-            parameter = alone refusalRows 2 refl (omega arith) refl;
-          };
+      carriedOut = answer-fields;
+      refused = refusal-fields;
       setTimes = λ k. times-fields 1 k;
       reportTimes = λ k. times-fields 0 k;
       setPlan = λ k. plan-fields 1 k;
@@ -180,7 +204,7 @@ field-numbers =
       run = one-plan;
       queryTimes = one-plan;
       queryPlan = one-plan;
-      queryRunning = refl;
+      queryRunning = none-repeated;
     }
 
 pub names-as-said : NamesAsSaid

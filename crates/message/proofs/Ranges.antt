@@ -17,7 +17,7 @@ use Rattle.message.specs.declared.layout.Field.{Field}
 use Rattle.message.specs.declared.layout.Field.the-variants.{Octet, Two, Order}
 use Rattle.message.specs.Fields.{passes, noField}
 use Rattle.message.specs.Values.{fieldsMost, placed, outAt, firstOut}
-use Rattle.message.specs.Promises.{InRange, RightAt, FirstWrong}
+use Rattle.message.specs.Promises.{InRange, RangesAsSaid, RightAt, FirstWrong}
 
 -- Ranges
 
@@ -36,6 +36,9 @@ pub range-in : (f : Field) (v : ℕ) → InRange f v → passes f v ≡ true
 range-in (Octet l g) v h = both-true (le-leb l v (h .0)) (le-leb v g (h .1))
 range-in (Two l g) v h = both-true (le-leb l v (h .0)) (le-leb v g (h .1))
 range-in Order v h = both-true (le-leb v 255 (h .0)) (le-leb 1 (phasesOf v) (h .1))
+
+pub ranges-as-said : RangesAsSaid
+ranges-as-said f v = (in-range f v, range-in f v)
 
 -- The places of a message
 

@@ -4,6 +4,7 @@ pub mod Values
 pub mod Reader
 pub mod Writer
 pub mod Names
+pub mod Counts
 pub mod Promises
 pub mod Cases
 pub mod Table

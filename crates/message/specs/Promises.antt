@@ -1,6 +1,7 @@
 -- What 01 demands of messages, stated from outside.
 use Prim.Native.Nat.{ℕ, _+_, _*_, _≤_, _<_}
 use mathlib.Core.Path.{_≡_}
+use mathlib.Core.Bool.{true}
 use mathlib.Core.List.{List, [], _∷_, _++_}
 use lib.Dec.{eqb}
 use lib.ListN.{length, getD, take, drop, replicate}
@@ -12,7 +13,7 @@ use Rattle.message.specs.declared.Message.{Message}
 use Rattle.message.specs.declared.Read.{Read}
 use Rattle.message.specs.declared.layout.Field.{Field}
 use Rattle.message.specs.declared.layout.Field.the-variants.{Octet, Two, Order}
-use Rattle.message.specs.Fields.{noField}
+use Rattle.message.specs.Fields.{passes, noField}
 use Rattle.message.specs.Layouts.{layouts, layoutAt, numberOf, rowsAt, storedTimes, storedPlan}
 use Rattle.message.specs.Values.{sizeOf, fieldStart, valuesOf}
 use Rattle.message.specs.Reader.{kIn, partOf, readPartOf, readOf, codeIn, bodyIn}
@@ -93,19 +94,19 @@ pub record OnePlan (fs : List Field) : Type 0 where
 abbrev pub fieldsOf : ℕ → ℕ → List Field
 fieldsOf c k = rowsAt (numberOf c) k
 
--- every code of 01's table; "Plan is 1 to 48 in a set, 0 to 48 elsewhere"
+-- every code of 01's table, for every k, which changes nothing where there is no count; "Plan is 1 to 48 in a set, 0 to 48 elsewhere"
 pub record EachCode : Type 0 where
-  pub carriedOut : AnswerFields (fieldsOf 0x0F80 0)
-  pub refused : RefusalFields (fieldsOf 0x0F81 0)
+  pub carriedOut : (k : ℕ) → AnswerFields (fieldsOf 0x0F80 k)
+  pub refused : (k : ℕ) → RefusalFields (fieldsOf 0x0F81 k)
   pub setTimes : (k : ℕ) → TimesFields 1 k (fieldsOf 0x5F14 k)
   pub reportTimes : (k : ℕ) → TimesFields 0 k (fieldsOf 0x5FC4 k)
   pub setPlan : (k : ℕ) → PlanFields 1 k (fieldsOf 0x5F15 k)
   pub reportPlan : (k : ℕ) → PlanFields 0 k (fieldsOf 0x5FC5 k)
   pub reportRunning : (k : ℕ) → PlanFields 0 k (fieldsOf 0x5FC8 k)
-  pub run : OnePlan (fieldsOf 0x5F18 0)
-  pub queryTimes : OnePlan (fieldsOf 0x5F44 0)
-  pub queryPlan : OnePlan (fieldsOf 0x5F45 0)
-  pub queryRunning : fieldsOf 0x5F48 0 ≡ []
+  pub run : (k : ℕ) → OnePlan (fieldsOf 0x5F18 k)
+  pub queryTimes : (k : ℕ) → OnePlan (fieldsOf 0x5F44 k)
+  pub queryPlan : (k : ℕ) → OnePlan (fieldsOf 0x5F45 k)
+  pub queryRunning : (k : ℕ) → fieldsOf 0x5F48 k ≡ []
 
 -- Each field of each code stands under its number, at its place, with its range.
 abbrev pub FieldNumbers : Type 0
@@ -177,6 +178,10 @@ abbrev pub InRange : Field → ℕ → Type 0
 InRange (Octet least greatest) v = (least ≤ v) × (v ≤ greatest)
 InRange (Two least greatest) v = (least ≤ v) × (v ≤ greatest)
 InRange Order v = (v ≤ 255) × (1 ≤ phasesOf v)
+
+-- "field out of range": exactly the values that are in their field's range pass
+abbrev pub RangesAsSaid : Type 0
+RangesAsSaid = (f : Field) (v : ℕ) → (passes f v ≡ true → InRange f v) × (InRange f v → passes f v ≡ true)
 
 -- the values vs of the fields fs, at place j
 abbrev pub RightAt : List Field → List ℕ → ℕ → Type 0

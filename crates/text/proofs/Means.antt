@@ -11,7 +11,7 @@ use lib.ListN.{length, take, drop, getD, List·getD-append}
 use lib.Seq.{drop-nil, drop-drop, getD-drop}
 use Rattle.octets.proofs.Laws.{drop-next}
 use Rattle.text.specs.Text.{digit, digits, hex2, places, decimal, blankHex2, spaced, octetsHex}
-use Rattle.text.specs.Promises.{worth, IsDigit, AllDigits, readFrom, Means, HexMeans, HexAsPrinted, DecimalMeans, OctetsParted}
+use Rattle.text.specs.Promises.{worth, IsDigit, AllDigits, readFrom, Means, HexMeans, HexAsPrinted, DecimalMeans, OctetsParted, AsciiAsSaid}
 use Rattle.text.proofs.Laws.{digits-length, places-one, places-more, places-some, decimal-digits, decimal-one, decimal-more, decimal-length, octets-length}
 
 digit-worth : (d : ℕ) → d < 16 → worth (digit d) ≡ d
@@ -119,3 +119,6 @@ module _ (xs : List ℕ) (i : ℕ) where
 
 pub octets-parted : OctetsParted
 octets-parted xs = (octets-length xs, λ i h. record { digits = digits-at xs i h; means = λ l. rw (digits-at xs i h) (hex-means 2 (getD xs i 0) (omega arith)); blank = blank-at xs i })
+
+pub ascii-as-said : AsciiAsSaid
+ascii-as-said = record { none = refl; next = λ c s. refl; header = refl; reply = refl; bad = refl }

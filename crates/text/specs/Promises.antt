@@ -1,16 +1,22 @@
 -- What the texts mean: read again, they give back what was put.
+use Prim.Native.Char.{Char, code}
 use Prim.Native.Nat.{ℕ, _+_, _*_, _-_, _^_, _≤_, _<_}
+use Prim.Native.String.{String, _∷_ as _then_}
 use mathlib.Core.Path.{_≡_}
+use mathlib.Core.Bool.{Bool, true, false}
 use mathlib.Core.Logic.{_⊎_}
 use mathlib.Core.List.{List, [], _∷_}
 use lib.Dec.{ltb}
 use lib.ListN.{length, take, drop, getD}
-use Rattle.octets.specs.Choice.{pick}
-use Rattle.text.specs.Text.{digits, hex2, hex16, decimal, octetsHex}
+use Rattle.text.specs.Text.{ascii, digits, hex2, hex16, decimal, octetsHex}
 
--- what a digit stands for
+-- what a digit stands for, one below `A` and another
+abbrev pub worthIf : Bool → ℕ → ℕ
+worthIf true c = c - 0x30
+worthIf false c = c - 0x41 + 10
+
 abbrev pub worth : ℕ → ℕ
-worth c = pick (ltb c 0x41) (c - 0x30) (c - 0x41 + 10)
+worth c = worthIf (ltb c 0x41) c
 
 -- `0` to `9` or `A` to `F`, and below the base
 pub record IsDigit (b c : ℕ) : Type 0 where
@@ -56,3 +62,20 @@ pub record OctetAt (xs : List ℕ) (i : ℕ) : Type 0 where
 
 abbrev pub OctetsParted : Type 0
 OctetsParted = (xs : List ℕ) → (length (octetsHex xs) ≡ 3 * length xs - 1) × ((i : ℕ) → i < length xs → OctetAt xs i)
+
+-- a text is the codes of its characters, one after another: so 01's header, and the words `reply` and `bad`, each with its tab
+pub record EachText : Type 0 where
+  pub none : ascii "" ≡ []
+  pub next : (c : Char) (s : String) → ascii (c then s) ≡ code c ∷ ascii s
+  pub header : ascii "second\tplan\tstep\tleft\tsteady\tflashing\n"
+      ≡ 0x73 ∷ 0x65 ∷ 0x63 ∷ 0x6F ∷ 0x6E ∷ 0x64 ∷ 0x09
+      ∷ 0x70 ∷ 0x6C ∷ 0x61 ∷ 0x6E ∷ 0x09
+      ∷ 0x73 ∷ 0x74 ∷ 0x65 ∷ 0x70 ∷ 0x09
+      ∷ 0x6C ∷ 0x65 ∷ 0x66 ∷ 0x74 ∷ 0x09
+      ∷ 0x73 ∷ 0x74 ∷ 0x65 ∷ 0x61 ∷ 0x64 ∷ 0x79 ∷ 0x09
+      ∷ 0x66 ∷ 0x6C ∷ 0x61 ∷ 0x73 ∷ 0x68 ∷ 0x69 ∷ 0x6E ∷ 0x67 ∷ 0x0A ∷ []
+  pub reply : ascii "reply\t" ≡ 0x72 ∷ 0x65 ∷ 0x70 ∷ 0x6C ∷ 0x79 ∷ 0x09 ∷ []
+  pub bad : ascii "bad\t" ≡ 0x62 ∷ 0x61 ∷ 0x64 ∷ 0x09 ∷ []
+
+abbrev pub AsciiAsSaid : Type 0
+AsciiAsSaid = EachText
