@@ -1,2 +1,3 @@
 pub mod Apart
+pub mod Promised
 pub mod Only
