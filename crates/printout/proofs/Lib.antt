@@ -1,3 +1,4 @@
 pub mod Laws
 pub mod Promised
+pub mod Puts
 pub mod Only

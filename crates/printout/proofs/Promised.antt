@@ -50,7 +50,7 @@ whole : (word : ℕ) → word < 2 ^ 64 → WordWhole word
 unfolding wordText
 whole word h = hex-means 16 word (omega arith)
 
-abbrev Fits : Row → Type 0
+abbrev pub Fits : Row → Type 0
 Fits r = (r .steady < 2 ^ 64) × (r .flashing < 2 ^ 64)
 
 row-fits : (rec : List ℕ) (p : ℕ) → Fits (rowAt rec p)
@@ -72,19 +72,18 @@ words-whole s book = let f = second-fits s book in (whole (secondOf s book .row 
 
 -- What each line does and prints
 
-second-printed : (s : State) (n : ℕ) (b : List ℕ) → SecondPrinted n (secondOf s b .plan) (secondOf s b .row) (secondSaid s n b .text)
-unfolding field numbers secondLine secondSaid
-second-printed s n b =
-    let w = words-whole s b in
+pub second-printed : (n plan : ℕ) (row : Row) → Fits row → SecondPrinted n plan row (secondLine n plan row)
+unfolding field numbers secondLine
+second-printed n plan row f =
     record {
-      steady = wordText (secondOf s b .row .steady);
-      flashing = wordText (secondOf s b .row .flashing);
+      steady = wordText (row .steady);
+      flashing = wordText (row .flashing);
       columns = simp append-assoc;
-      steadyWhole = w .0;
-      flashingWhole = w .1;
+      steadyWhole = whole (row .steady) (f .0);
+      flashingWhole = whole (row .flashing) (f .1);
     }
 
-reply-printed : (xs : List ℕ) → ReplyPrinted xs (replyLine xs)
+pub reply-printed : (xs : List ℕ) → ReplyPrinted xs (replyLine xs)
 unfolding replyLine
 reply-printed [] = none
 reply-printed (x ∷ xs) = some
@@ -93,7 +92,7 @@ pub lines-print : LinesPrint
 unfolding lineMade secondSaid badSaid badLine octetMade
 lines-print s n b o =
     record {
-      second = record { state = refl; seconds = refl; line = second-printed s n b; book = refl; out = refl };
+      second = record { state = refl; seconds = refl; line = second-printed n (secondOf s b .plan) (secondOf s b .row) (second-fits s b); book = refl; out = refl };
       octet = λ x. let w = octetOf s b o x in
           record { state = refl; seconds = refl; line = reply-printed (take (w .answer .count) (w .out)); book = refl; out = refl };
       bad = λ k. record { state = refl; seconds = refl; line = refl; book = refl; out = refl };

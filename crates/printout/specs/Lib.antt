@@ -1,3 +1,4 @@
 pub mod Listing
 pub mod Run
 pub mod Promises
+pub mod Puts
