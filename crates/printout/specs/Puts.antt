@@ -1,8 +1,9 @@
 -- 01, "Cases": the texts that are put, and what a line leaves, stated from outside.
-use Prim.Native.Nat.{ℕ, _+_, _^_, _≤_, _<_}
+use Prim.Native.Nat.{ℕ, _^_, _≤_, _<_}
 use mathlib.Core.Path.{_≡_}
 use mathlib.Core.List.{List, [], _∷_, _++_}
-use lib.ListN.{length, take, drop}
+use lib.ListN.{length}
+use Rattle.octets.specs.Promises.{PutSo}
 use Rattle.text.specs.Text.{ascii, decimal}
 use Rattle.lamps.specs.declared.Row.{Row}
 use Rattle.printout.specs.declared.run.Run.{Run}
@@ -26,23 +27,14 @@ PutsAsSaid = EachPut
 
 -- What a line leaves
 
--- the text that is added stands in t′ behind what was used of t, and u is the place after it; where there is no room for it,
--- nothing is added
-pub record Added (text : List ℕ) (used : ℕ) (t : List ℕ) (u : ℕ) (t′ : List ℕ) : Type 0 where
-  pub room : used + length text ≤ length t → (u ≡ used + length text) × (t′ ≡ take used t ++ (text ++ drop (used + length text) t))
-  pub none : length t < used + length text → (u ≡ used) × (t′ ≡ t)
-
--- the run r, the book b, the output o and the text t′ are those that the line makes
+-- the run r, the book b and the output o are those that the line makes, and its text, never longer than 1,638, is put behind what was used
 pub record Left (m : Making) (used : ℕ) (t : List ℕ) (r : Run) (b o t′ : List ℕ) : Type 0 where
   pub state : r .state ≡ m .said .state
   pub seconds : r .seconds ≡ m .said .seconds
-  pub text : Added (m .said .text) used t (r .used) t′
+  pub text : PutSo (m .said .text) used t (r .used) t′
+  pub short : length (m .said .text) ≤ 1638
   pub book : b ≡ m .book
   pub out : o ≡ m .out
 
--- Exactly what a line makes is listed, no text of which is longer than 1,638.
 abbrev pub LinesLeave : Type 0
-LinesLeave =
-    (m : Making) (used : ℕ) (t : List ℕ) (r : Run) (b o t′ : List ℕ)
-    → (Listed m used t r b o t′ → Left m used t r b o t′ × (length (m .said .text) ≤ 1638))
-    × (Left m used t r b o t′ → length (m .said .text) ≤ 1638 → Listed m used t r b o t′)
+LinesLeave = (m : Making) (used : ℕ) (t : List ℕ) (r : Run) (b o t′ : List ℕ) → Listed m used t r b o t′ → Left m used t r b o t′
