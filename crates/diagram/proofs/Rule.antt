@@ -1,7 +1,7 @@
 -- The lamp rule: one computed test over the whole table, and the law that turns it into the rule at each row.
 use Prim.Native.Nat.{ℕ, _+_, _*_, _-_, _≤_}
 use mathlib.Core.Path.{_≡_, refl}
-use mathlib.Core.Bool.{Bool, true, false, not}
+use mathlib.Core.Bool.{Bool, true, false, not, _||_}
 use mathlib.Core.List.{List, [], _∷_}
 use mathlib.Core.Logic.{inl, inr}
 use native.Mathlib.Omega.{arith}
@@ -13,7 +13,7 @@ use Rattle.octets.proofs.Every.{every, every-at, below, below-at}
 use Rattle.diagram.specs.Row.{LampRow, Diagram}
 use Rattle.diagram.specs.Rows.{lampRows, directory}
 use Rattle.diagram.specs.Table.{darkRow, diagramOf, stepsIn}
-use Rattle.diagram.specs.Lamps.{bit, lit, redLit, yellowLit, greenLit, redManLit, greenManLit, LampsNumbered, Shows, Dark, LampRule}
+use Rattle.diagram.specs.Lamps.{bit, lit, redLit, yellowLit, greenLit, redManLit, greenManLit, bitLit, LampsNumbered, Shows, Dark, LampRule}
 use Rattle.diagram.proofs.Laws.{approachesInWord, lampsAnApproach, row-there}
 use Rattle.diagram.proofs.Known.{found-passes}
 
@@ -22,6 +22,12 @@ use Rattle.diagram.proofs.Known.{found-passes}
 -- the bit of an approach's lamp
 bit-of : (n m : ℕ) → 1 ≤ m → lampsAnApproach * n + m - 1 ≡ lampsAnApproach * n + (m - 1)
 bit-of n m h = omega arith
+
+four-greens : (r : LampRow) (n : ℕ)
+    → (lit r (lampsAnApproach * n + 3) || (lit r (lampsAnApproach * n + 4) || (lit r (lampsAnApproach * n + 5) || lit r (lampsAnApproach * n + 6))))
+    ≡ (bitLit r (lampsAnApproach * n + 2) || (bitLit r (lampsAnApproach * n + 3) || (bitLit r (lampsAnApproach * n + 4) || bitLit r (lampsAnApproach * n + 5))))
+unfolding lit
+four-greens r n = rw (bit-of n 3 (omega arith), bit-of n 4 (omega arith), bit-of n 5 (omega arith), bit-of n 6 (omega arith))
 
 pub lamps-numbered : LampsNumbered
 unfolding lit greenLit
@@ -36,7 +42,7 @@ lamps-numbered r = record {
   h = refl;
   word = λ w m. refl;
   lamp = λ m. refl;
-  green = λ n. rw (bit-of n 3 (omega arith), bit-of n 4 (omega arith), bit-of n 5 (omega arith), bit-of n 6 (omega arith));
+  green = four-greens r;
   greenMan = λ n. refl;
 }
 
