@@ -86,6 +86,7 @@ unfolding startedOf soundOf freshOf freshDecoder
 starts-answered own =
     record {
       state = refl;
+      others = refl;
       fresh = refl;
       refused = λ e. (rw (eq-eqb own all e), rw (eq-eqb own all e));
       done = λ n. (rw (ne-eqb own all n), fresh-sound own n);
@@ -96,10 +97,10 @@ starts-answered own =
 pub idles-answered : IdlesAnswered
 idles-answered s =
     record {
-      refused = λ h. rw (idle-7 s h) (record { refusal = refl; state = refl; parameter = refl; event = refl; count = refl });
+      refused = λ h. rw (idle-7 s h);
       done = λ h.
           rw (idle-done s h, idled-done (s .decoder) (sound-parts s h .decoder))
-          (record { refusal = refl; state = refl; parameter = refl; event = refl; count = refl });
+          (record { state = refl; others = refl });
     }
 
 -- The second call
@@ -109,7 +110,7 @@ unfolding noSecond
 seconds-answered s book = record { refused = λ n r. refused r; done = λ h n. rw (second-done s book h n); either = by (soundOf s) refl (ℕ-discrete (length book) bookLen) }
   where
     dark : {n : ℕ} → ShownRefused s n (noSecond s n)
-    dark = record { refusal = refl; state = refl; plan = refl; step = refl; left = refl; steady = refl; flashing = refl }
+    dark = refl
 
     refused : {n : ℕ} → SecondRefused s book n → ShownRefused s n (secondOf s book)
     refused (SecondRefused.unsound h) = rw (second-7 s book h) dark
@@ -288,7 +289,7 @@ octets-answered s book out b =
     }
   where
     refused : {n : ℕ} → OctetRefused s book out n → CallRefused s book out n (octetOf s book out b)
-    refused r = rw (octet-refused s book out b r) (record { answer = record { refusal = refl; state = refl; parameter = refl; event = refl; count = refl }; book = refl; out = refl })
+    refused r = rw (octet-refused s book out b r) (record { answer = refl; book = refl; out = refl })
 
     by : (t : Bool) → soundOf s ≡ t → Dec (length book ≡ bookLen) → Dec (length out < outputLen)
         → ((n : ℕ) × OctetRefused s book out n) ⊎ ((soundOf s ≡ true) × (length book ≡ bookLen) × (outputLen ≤ length out))

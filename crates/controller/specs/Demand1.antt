@@ -58,12 +58,8 @@ pub data OctetRefused (s : State) (book out : List ℕ) : ℕ → Type 0 where
   output : soundOf s ≡ true → length book ≡ 3840 → length out < 544 → OctetRefused s book out 9
 
 -- "same state, nothing written"; "Other numbers in a refused call's result are 0": no parameter, no count, and no event
-pub record AnswerRefused (s : State) (n : ℕ) (a : Answer) : Type 0 where
-  pub refusal : a .refusal ≡ n
-  pub state : a .state ≡ s
-  pub parameter : a .parameter ≡ 0
-  pub event : a .event ≡ event.Nothing
-  pub count : a .count ≡ 0
+abbrev pub AnswerRefused : State → ℕ → Answer → Type 0
+AnswerRefused s n a = a ≡ record { state = s; refusal = n; parameter = 0; event = event.Nothing; count = 0 }
 
 -- "leaves book and output as they came"
 pub record CallRefused (s : State) (lent output : List ℕ) (n : ℕ) (w : Call) : Type 0 where
@@ -92,14 +88,8 @@ pub data SecondRefused (s : State) (book : List ℕ) : ℕ → Type 0 where
   book : soundOf s ≡ true → (length book ≡ 3840 → ⊥) → SecondRefused s book 8
 
 -- "same state"; "Other numbers in a refused call's result are 0": no plan, no step, no seconds left, and all lamps dark
-pub record ShownRefused (s : State) (n : ℕ) (w : Shown) : Type 0 where
-  pub refusal : w .refusal ≡ n
-  pub state : w .state ≡ s
-  pub plan : w .plan ≡ 0
-  pub step : w .row .step ≡ 0
-  pub left : w .row .left ≡ 0
-  pub steady : w .row .steady ≡ 0
-  pub flashing : w .row .flashing ≡ 0
+abbrev pub ShownRefused : State → ℕ → Shown → Type 0
+ShownRefused s n w = w ≡ record { state = s; refusal = n; plan = 0; row = record { step = 0; left = 0; steady = 0; flashing = 0 } }
 
 pub record SecondAnswered (s : State) (book : List ℕ) : Type 0 where
   pub refused : (n : ℕ) → SecondRefused s book n → ShownRefused s n (secondOf s book)
@@ -127,11 +117,8 @@ AtIdle s t =
     }
 
 pub record IdleDone (s : State) (a : Answer) : Type 0 where
-  pub refusal : a .refusal ≡ 0
   pub state : AtIdle s (a .state)
-  pub parameter : a .parameter ≡ 0
-  pub event : a .event ≡ event.Nothing
-  pub count : a .count ≡ 0
+  pub others : a ≡ record { state = a .state; refusal = 0; parameter = 0; event = event.Nothing; count = 0 }
 
 -- refusal 7 of it
 pub record IdleAnswered (s : State) : Type 0 where
@@ -157,6 +144,7 @@ FreshAt own t =
 -- "fresh start with address FFFF": "a fresh state but for own address FFFF, so unsound"
 pub record StartAnswered (own : ℕ) : Type 0 where
   pub state : FreshAt own (startedOf own .state)
+  pub others : startedOf own ≡ record { refusal = startedOf own .refusal; state = startedOf own .state }
   pub fresh : FreshAt own (freshOf own)
   pub refused : own ≡ 0xFFFF → (startedOf own .refusal ≡ 6) × (soundOf (startedOf own .state) ≡ false)
   pub done : (own ≡ 0xFFFF → ⊥) → (startedOf own .refusal ≡ 0) × (soundOf (startedOf own .state) ≡ true)

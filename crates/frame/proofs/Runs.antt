@@ -8,7 +8,8 @@ use lib.Dec.{eqb}
 use Rattle.frame.specs.declared.decoder.Place.{Place}
 use Rattle.frame.specs.declared.decoder.Place.the-variants.{Idle, LoneAa, Seq, AddrHigh, AddrLow, LenHigh, LenLow, Info, InfoAa, CloseAa, CloseCc, Err, Cks}
 use Rattle.frame.specs.Run.{outcomes, decoderAfter, AtRest, drops, NothingDropped}
-use Rattle.frame.specs.Promises.{DropsSo, RunsAsSaid}
+use Rattle.frame.specs.Promises.{FoundFits, DropsSo, RunsAsSaid}
+use Rattle.frame.proofs.Finding.{finds}
 
 drops-so : (b : ℕ) → DropsSo b
 drops-so b =
@@ -49,6 +50,7 @@ runs-as-said =
       message = λ s a n i. refl;
       ack = λ s a i. refl;
       nak = λ s a e i. refl;
+      found = finds {P = FoundFits} (record { nothing = tt; refused = λ n k s a h. h; message = λ s a n l h. (l, h); ack = λ s a. tt; nak = λ s a e. tt });
       outcome = λ t. refl;
       noOctet = λ d. (refl, refl);
       octetMore = λ d x xs. (refl, refl);

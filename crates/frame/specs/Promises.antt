@@ -16,6 +16,7 @@ use Rattle.frame.specs.declared.decoder.Place.{Place}
 use Rattle.frame.specs.declared.decoder.Place.the-variants.{Idle, LoneAa, Seq, AddrHigh, AddrLow, LenHigh, LenLow, Info, InfoAa, CloseAa, CloseCc, Err, Cks}
 use Rattle.frame.specs.declared.decoder.Head.{Head}
 use Rattle.frame.specs.declared.decoder.Decoder.{Decoder}
+use Rattle.frame.specs.declared.decoder.Found.{Found}
 use Rattle.frame.specs.declared.decoder.Found.the-variants as found
 use Rattle.frame.specs.declared.decoder.Taken.{Taken}
 use Rattle.frame.specs.Frame.{Frame, message, ack, nak, opener, infoLeast, infoMost, messageLen, ackLen, nakLen, lenOf, doubled, cksOf, undoubled, written}
@@ -123,6 +124,14 @@ pub record DropsSo (b : ℕ) : Type 0 where
 abbrev pub NoneYet : Decoder → ℕ → List ℕ → Type 0
 NoneYet d x xs = (drops (d .head .place) x ≡ false) × (outcomeOf (takenOf d x) ≡ nothing) × NothingDropped (takenOf d x .decoder) xs
 
+-- what the decoder's own call can give: nothing; a refusal, 1 to 3; a message frame, and of how many octets its INFO is; an ACK; a NAK
+abbrev pub FoundFits : Found → Type 0
+FoundFits found.Nothing = Unit
+FoundFits (found.Refused n k s a) = n ≤ 3
+FoundFits (found.Message s a n) = (2 ≤ n) × (n ≤ 256)
+FoundFits (found.Ack s a) = Unit
+FoundFits (found.Nak s a e) = Unit
+
 -- What the later statements mean by an octet's outcome, the outcomes of octets, the decoder after them, a decoder at rest, and nothing
 -- dropped: what the decoder's own call gives for each octet in turn, the state handed back as given.
 pub record RunRows : Type 0 where
@@ -132,6 +141,7 @@ pub record RunRows : Type 0 where
   pub message : (s a n : ℕ) (i : List ℕ) → foundMeans (found.Message s a n) i ≡ sound (message s a (take n i))
   pub ack : (s a : ℕ) (i : List ℕ) → foundMeans (found.Ack s a) i ≡ sound (ack s a)
   pub nak : (s a e : ℕ) (i : List ℕ) → foundMeans (found.Nak s a e) i ≡ sound (nak s a e)
+  pub found : (d : Decoder) (b : ℕ) → possibleOf (d .head) ≡ true → FoundFits (takenOf d b .found)
   pub outcome : (t : Taken) → outcomeOf t ≡ foundMeans (t .found) (t .decoder .info)
   pub noOctet : (d : Decoder) → (outcomes d [] ≡ []) × (decoderAfter d [] ≡ d)
   pub octetMore : (d : Decoder) (x : ℕ) (xs : List ℕ) → (outcomes d (x ∷ xs) ≡ outcomeOf (takenOf d x) ∷ outcomes (takenOf d x .decoder) xs)
