@@ -5,3 +5,4 @@ pub mod Words
 pub mod Named
 pub mod Only
 pub mod Shown
+pub mod Crossing

@@ -23,11 +23,11 @@ use Rattle.diagram.proofs.Rule.{rowIn}
 use Rattle.diagram.proofs.Words.{flashing-fits, bit-past}
 
 -- where the first holds, the second does
-abbrev implies : Bool → Bool → Bool
+abbrev pub implies : Bool → Bool → Bool
 implies true y = y
 implies false y = true
 
-implied : (x y : Bool) → implies x y ≡ true → x ≡ true → y ≡ true
+pub implied : (x y : Bool) → implies x y ≡ true → x ≡ true → y ≡ true
 implied true y t e = t
 implied false y t e = absurd (clash refl e)
 

@@ -5,3 +5,4 @@ pub mod Known
 pub mod Lamps
 pub mod Named
 pub mod Shown
+pub mod Crossing
