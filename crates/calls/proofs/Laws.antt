@@ -25,12 +25,13 @@ use Rattle.message.specs.Reader.{codeIn, bodyIn, readOf}
 use Rattle.plan.specs.declared.setting.Answered.{Answered}
 use Rattle.record.specs.Record.{recordLen, plansMost, bookLen, empty, ready, cycleOf}
 use Rattle.checks.specs.Standing.{standingOf}
+use Rattle.plan.specs.declared.Which.{Which}
 use Rattle.plan.specs.BuiltIn.{builtIn}
-use Rattle.plan.specs.Reading.{recordStart, recordAt, same, readRefusal, PartRead}
+use Rattle.plan.specs.Reading.{recordStart, recordAt, same, eitherBuiltIn, readRefusal, PartRead}
 use Rattle.plan.specs.Setting.{setTimesCode, setPlanCode, setTimesOf, setPlanOf, planIn}
 use Rattle.plan.specs.Setting as setting
 use Rattle.plan.specs.Reporting.{reportPlanCode, reportRunningCode, reportTimesOf, reportPlanOf}
-use Rattle.plan.proofs.Laws.{same-is, is-same, length-built-in, refused-range, read-zero, refused-empty, read-set}
+use Rattle.plan.proofs.Laws.{same-is, length-built-in, is-either, refused-range, read-zero, refused-empty, read-set}
 use Rattle.checks.proofs.Stands.{some-long, some-state, plan-fits, ready-plan}
 use Rattle.plan.proofs.Reportable.{standing-none, standing-past}
 use Rattle.plan.proofs.Cases.{built-in-stands}
@@ -44,7 +45,7 @@ use Rattle.controller.specs.Seconds.{pickedOf}
 use Rattle.controller.proofs.Laws.{picked-ready, picked-stays}
 use Rattle.controller.proofs.Judging.{sound-parts}
 use Rattle.calls.specs.Handling.{HandlingLeaves}
-use Rattle.calls.specs.Stepper.{RecordOf}
+use Rattle.calls.specs.Stepper.{recordWith, RecordOf}
 
 -- The octet call
 
@@ -78,32 +79,35 @@ module _ (book copy r : RefT (List ℕ)) (p : ℕ) (f : PartRead book copy p r) 
       let q′ : PartOf book (recordStart p) recordLen r = subst (λ (t : Bool). pick t (PartOf copy 0 recordLen r) (PartOf book (recordStart p) recordLen r)) (ne-eqb p 0 n) q in
       q′ .octets
 
-  pub record-of : length (now book) ≡ bookLen → now copy ≡ builtIn → RecordOf (now book) p (now r)
-  record-of hb ho = by (decLe p plansMost) (ℕ-discrete p 0) (ℕ-discrete (standingOf (recordAt (now book) p)) empty)
+  abbrev rec : List ℕ
+  rec = recordWith (now copy) (now book) p
+
+  pub record-of : length (now book) ≡ bookLen → (which : Which) → now copy ≡ builtIn which → RecordOf (now copy) (now book) p (now r)
+  record-of hb which ho = by (decLe p plansMost) (ℕ-discrete p 0) (ℕ-discrete (standingOf (recordAt (now book) p)) empty)
     where
       lo : length (now copy) ≡ recordLen
-      lo = ap length ho ∙ length-built-in
+      lo = ap length ho ∙ length-built-in which
 
       -- an empty part stands as an empty plan
-      nothing-there : now r ≡ [] → standingOf (planRecord (now book) p) ≡ empty → RecordOf (now book) p (now r)
+      nothing-there : now r ≡ [] → standingOf rec ≡ empty → RecordOf (now copy) (now book) p (now r)
       nothing-there e h =
           let s : standingOf (now r) ≡ empty = rw e standing-none in
           record { stands = s ∙ sym h; octets = λ n. absurd (n s); state = rw e (sym standing-none) }
 
-      there : (standingOf (planRecord (now book) p) ≡ empty → ⊥) → now r ≡ planRecord (now book) p → RecordOf (now book) p (now r)
-      there n e = record { stands = ap standingOf e; octets = λ _. e; state = rw e (some-state (planRecord (now book) p) n) }
+      there : (standingOf rec ≡ empty → ⊥) → now r ≡ rec → RecordOf (now copy) (now book) p (now r)
+      there n e = record { stands = ap standingOf e; octets = λ _. e; state = rw e (some-state rec n) }
 
-      by : Dec (p ≤ plansMost) → Dec (p ≡ 0) → Dec (standingOf (recordAt (now book) p) ≡ empty) → RecordOf (now book) p (now r)
+      by : Dec (p ≤ plansMost) → Dec (p ≡ 0) → Dec (standingOf (recordAt (now book) p) ≡ empty) → RecordOf (now copy) (now book) p (now r)
       by (no g) d e =
           let z : p ≡ 0 → ⊥ = λ (q : p ≡ 0). absurd (omega arith) in
           let l : plansMost < p = omega arith in
           let n : refusalIs ≡ refusal.none → ⊥ = λ (q : refusalIs ≡ refusal.none). absurd (omega (arith, q, refused-range (now book) (now copy) p hb lo l)) in
           nothing-there (read-none n) (rw (ne-eqb p 0 z) (standing-past (now book) p hb l))
       by (yes l) (yes z) e =
-          let s : true ≡ same (now copy) builtIn = sym (rw ho (is-same builtIn)) in
+          let s : true ≡ eitherBuiltIn (now copy) = sym (rw ho (is-either which)) in
           let q = sym (read-zero (now book) (now copy) p hb lo l z s refl) in
-          let n : standingOf builtIn ≡ empty → ⊥ = λ (e : standingOf builtIn ≡ empty). absurd (omega (arith, built-in-stands, e)) in
-          there (rw (eq-eqb p 0 z) n) (read-built-in q z ∙ (rw (ho, eq-eqb p 0 z) (take-all recordLen builtIn (omega (arith, length-built-in)))))
+          let n : standingOf (now copy) ≡ empty → ⊥ = λ (e : standingOf (now copy) ≡ empty). absurd (omega (arith, built-in-stands which, ap standingOf ho, e)) in
+          there (rw (eq-eqb p 0 z) n) (read-built-in q z ∙ (rw (eq-eqb p 0 z) (take-all recordLen (now copy) (omega (arith, lo)))))
       by (yes l) (no z) (yes e) =
           let n : refusalIs ≡ refusal.none → ⊥ = λ (q : refusalIs ≡ refusal.none). absurd (omega (arith, q, refused-empty (now book) (now copy) p hb lo l z refl e)) in
           nothing-there (read-none n) (rw (ne-eqb p 0 z) e)
@@ -113,7 +117,7 @@ module _ (book copy r : RefT (List ℕ)) (p : ℕ) (f : PartRead book copy p r) 
 
 -- Messages
 
-module _ (code requested : ℕ) (book info : List ℕ) {m : Read} (em : m ≡ readOf info) where
+module _ (which : Which) (code requested : ℕ) (book info : List ℕ) {m : Read} (em : m ≡ readOf info) where
   unread : (h : Handled) → (m .refusal ≡ refusal.none → ⊥) → refusedWith code requested (m .refusal) (m .field) ≡ unlessUnread code requested info h
   unread h n = rw (← em, ne-eqb (m .refusal) refusal.none n)
 
@@ -121,15 +125,15 @@ module _ (code requested : ℕ) (book info : List ℕ) {m : Read} (em : m ≡ re
   was-read h e = rw (← em, eq-eqb (m .refusal) refusal.none e)
 
   module _ (n : m .refusal ≡ refusal.none → ⊥) where
-    pub run-unread : refusedWith code requested (m .refusal) (m .field) ≡ runAs code requested book info
+    pub run-unread : refusedWith code requested (m .refusal) (m .field) ≡ runAs which code requested book info
     unfolding runAs
     run-unread = unread _ n
 
-    pub times-unread : refusedWith code requested (m .refusal) (m .field) ≡ queryTimesAs code requested book info
+    pub times-unread : refusedWith code requested (m .refusal) (m .field) ≡ queryTimesAs which code requested book info
     unfolding queryTimesAs
     times-unread = unread _ n
 
-    pub plan-unread : refusedWith code requested (m .refusal) (m .field) ≡ queryPlanAs code requested book info
+    pub plan-unread : refusedWith code requested (m .refusal) (m .field) ≡ queryPlanAs which code requested book info
     unfolding queryPlanAs
     plan-unread = unread _ n
 
@@ -142,37 +146,37 @@ module _ (code requested : ℕ) (book info : List ℕ) {m : Read} (em : m ≡ re
     unfolding queryRunningAs
     running-done u ew = sym (was-read _ e ∙ rw ew)
 
-    module _ {p n : ℕ} {rec : List ℕ} (ep : p ≡ planIn (bodyIn info)) (f : RecordOf book p rec) (en : n ≡ standingOf rec) where
-      stands : n ≡ standingOf (planRecord book (planIn (bodyIn info)))
-      stands = en ∙ (f .stands ∙ rw ep)
+    module _ {p n : ℕ} {zero rec : List ℕ} (ep : p ≡ planIn (bodyIn info)) (ez : zero ≡ builtIn which) (f : RecordOf zero book p rec) (en : n ≡ standingOf rec) where
+      stands : n ≡ standingOf (planRecord which book (planIn (bodyIn info)))
+      stands = en ∙ (f .stands ∙ rw (ep, ez))
 
-      pub run-13 : (n ≡ ready → ⊥) → refusedWith code requested refusal.notReady planAt ≡ runAs code requested book info
+      pub run-13 : (n ≡ ready → ⊥) → refusedWith code requested refusal.notReady planAt ≡ runAs which code requested book info
       unfolding runAs
       run-13 g = sym (was-read _ e ∙ rw (← stands, ne-eqb n ready g))
 
-      pub run-done : n ≡ ready → {w : Message} → w ≡ carriedOutReply code → accepted p w ≡ runAs code requested book info
+      pub run-done : n ≡ ready → {w : Message} → w ≡ carriedOutReply code → accepted p w ≡ runAs which code requested book info
       unfolding runAs
       run-done g ew = sym (was-read _ e ∙ rw (← stands, eq-eqb n ready g, ew, ep))
 
-      pub times-13 : n ≡ empty → refusedWith code requested refusal.notReady planAt ≡ queryTimesAs code requested book info
+      pub times-13 : n ≡ empty → refusedWith code requested refusal.notReady planAt ≡ queryTimesAs which code requested book info
       unfolding queryTimesAs
       times-13 g = sym (was-read _ e ∙ rw (← stands, eq-eqb n empty g))
 
-      pub times-done : (n ≡ empty → ⊥) → {w : Message} → w ≡ reportTimesOf rec p → accepted requested w ≡ queryTimesAs code requested book info
+      pub times-done : (n ≡ empty → ⊥) → {w : Message} → w ≡ reportTimesOf rec p → accepted requested w ≡ queryTimesAs which code requested book info
       unfolding queryTimesAs
       times-done g ew =
-          let r : rec ≡ planRecord book p = f .octets (λ (z : standingOf rec ≡ empty). g (en ∙ z)) in
-          sym (was-read _ e ∙ rw (← stands, ne-eqb n empty g, ew, r, ep))
+          let r : rec ≡ recordWith zero book p = f .octets (λ (z : standingOf rec ≡ empty). g (en ∙ z)) in
+          sym (was-read _ e ∙ rw (← stands, ne-eqb n empty g, ew, r, ep, ez))
 
-      pub plan-13 : (n ≡ ready → ⊥) → refusedWith code requested refusal.notReady planAt ≡ queryPlanAs code requested book info
+      pub plan-13 : (n ≡ ready → ⊥) → refusedWith code requested refusal.notReady planAt ≡ queryPlanAs which code requested book info
       unfolding queryPlanAs
       plan-13 g = sym (was-read _ e ∙ rw (← stands, ne-eqb n ready g))
 
-      pub plan-done : n ≡ ready → {w : Message} → w ≡ reportPlanOf rec p reportPlanCode → accepted requested w ≡ queryPlanAs code requested book info
+      pub plan-done : n ≡ ready → {w : Message} → w ≡ reportPlanOf rec p reportPlanCode → accepted requested w ≡ queryPlanAs which code requested book info
       unfolding queryPlanAs
       plan-done g ew =
-          let r : rec ≡ planRecord book p = f .octets (λ (z : standingOf rec ≡ empty). absurd (omega (arith, g, en, z))) in
-          sym (was-read _ e ∙ rw (← stands, eq-eqb n ready g, ew, r, ep))
+          let r : rec ≡ recordWith zero book p = f .octets (λ (z : standingOf rec ≡ empty). absurd (omega (arith, g, en, z))) in
+          sym (was-read _ e ∙ rw (← stands, eq-eqb n ready g, ew, r, ep, ez))
 
 -- by the code
 module _ (u : Running) (requested : ℕ) (book info : List ℕ) {code : ℕ} (ec : code ≡ codeIn info) {h : Handled} where
@@ -186,15 +190,15 @@ module _ (u : Running) (requested : ℕ) (book info : List ℕ) {code : ℕ} (ec
   unfolding handlingOf
   handles-plan e d eh = rw e (record { handled = eh ∙ rw (ec ∙ e, d .answer); book = d .book })
 
-  pub handles-run : codeIn info ≡ runCode → h ≡ runAs code requested book info → HandlingLeaves (handlingOf u requested book info) h book
+  pub handles-run : codeIn info ≡ runCode → h ≡ runAs (u .which) code requested book info → HandlingLeaves (handlingOf u requested book info) h book
   unfolding handlingOf
   handles-run e eh = rw e (record { handled = eh ∙ rw (ec ∙ e); book = refl })
 
-  pub handles-query-times : codeIn info ≡ queryTimesCode → h ≡ queryTimesAs code requested book info → HandlingLeaves (handlingOf u requested book info) h book
+  pub handles-query-times : codeIn info ≡ queryTimesCode → h ≡ queryTimesAs (u .which) code requested book info → HandlingLeaves (handlingOf u requested book info) h book
   unfolding handlingOf
   handles-query-times e eh = rw e (record { handled = eh ∙ rw (ec ∙ e); book = refl })
 
-  pub handles-query-plan : codeIn info ≡ queryPlanCode → h ≡ queryPlanAs code requested book info → HandlingLeaves (handlingOf u requested book info) h book
+  pub handles-query-plan : codeIn info ≡ queryPlanCode → h ≡ queryPlanAs (u .which) code requested book info → HandlingLeaves (handlingOf u requested book info) h book
   unfolding handlingOf
   handles-query-plan e eh = rw e (record { handled = eh ∙ rw (ec ∙ e); book = refl })
 
@@ -233,13 +237,13 @@ module _ (u : Running) where
 
       module _ (hp : u .plan ≤ plansMost) where
         -- the built-in record stands ready
-        pub zero-plan : u .plan ≡ 0 → {t : Bool} → t ≡ same (u .copy) builtIn → t ≡ runningSound u
+        pub zero-plan : u .plan ≡ 0 → {t : Bool} → t ≡ same (u .copy) (builtIn (u .which)) → t ≡ runningSound u
         unfolding runningSound
         zero-plan z {t} e = by t e
           where
-            by : (t : Bool) → t ≡ same (u .copy) builtIn → t ≡ runningSound u
+            by : (t : Bool) → t ≡ same (u .copy) (builtIn (u .which)) → t ≡ runningSound u
             by true e =
-                let s : standingOf (u .copy) ≡ ready = rw (same-is (u .copy) builtIn (sym e)) built-in-stands in
+                let s : standingOf (u .copy) ≡ ready = rw (same-is (u .copy) (builtIn (u .which)) (sym e)) (built-in-stands (u .which)) in
                 rw (← ec, lt-ltb (u .position) c hc, le-leb (u .plan) plansMost hp, eq-eqb (standingOf (u .copy)) ready s, eq-eqb (u .plan) 0 z) e
             by false e =
                 rw (← ec, lt-ltb (u .position) c hc, le-leb (u .plan) plansMost hp, eq-eqb (u .plan) 0 z, ← e) (sym (and-false (eqb (standingOf (u .copy)) ready)))
@@ -282,14 +286,20 @@ filled vs l e p =
 pub ready-long : (rec : List ℕ) {n : ℕ} → n ≡ standingOf rec → n ≡ ready → length rec ≡ recordLen
 ready-long rec en e = some-long rec (λ (z : standingOf rec ≡ empty). absurd (omega (arith, en, e, z)))
 
-module _ (u : Running) (requested : ℕ) (book : List ℕ) {rec : List ℕ} (f : RecordOf book requested rec) {n : ℕ} (en : n ≡ standingOf rec) where
-  pub picks : n ≡ ready → {copy : List ℕ} → copy ≡ rec → startedAt requested copy ≡ pickedOf u requested book
-  picks e ec =
-      let r : rec ≡ planRecord book requested = f .octets (λ (z : standingOf rec ≡ empty). absurd (omega (arith, en, e, z))) in
-      rw (ec, r) (sym (picked-ready u requested book (eq-eqb _ _ (sym (f .stands) ∙ (sym en ∙ e)))))
+module _ (u : Running) (requested : ℕ) (book : List ℕ) {zero rec : List ℕ} (ez : zero ≡ builtIn (u .which)) (f : RecordOf zero book requested rec) {n : ℕ} (en : n ≡ standingOf rec) where
+  abbrev due : List ℕ
+  due = planRecord (u .which) book requested
 
-  pub stays : (n ≡ ready → ⊥) → startedAt (u .plan) (u .copy) ≡ pickedOf u requested book
-  stays g = sym (picked-stays u requested book (ne-eqb _ _ (λ (q : standingOf (planRecord book requested) ≡ ready). g (en ∙ (f .stands ∙ q)))))
+  stands-due : standingOf rec ≡ standingOf due
+  stands-due = f .stands ∙ rw ez
+
+  pub picks : n ≡ ready → {copy : List ℕ} → copy ≡ rec → startedAt (u .which) requested copy ≡ pickedOf u requested book
+  picks e ec =
+      let r : rec ≡ due = f .octets (λ (z : standingOf rec ≡ empty). absurd (omega (arith, en, e, z))) ∙ rw ez in
+      rw (ec, r) (sym (picked-ready u requested book (eq-eqb _ _ (sym stands-due ∙ (sym en ∙ e)))))
+
+  pub stays : (n ≡ ready → ⊥) → startedAt (u .which) (u .plan) (u .copy) ≡ pickedOf u requested book
+  stays g = sym (picked-stays u requested book (ne-eqb _ _ (λ (q : standingOf due ≡ ready). g (en ∙ (stands-due ∙ q)))))
 
 -- The octets of a code
 

@@ -2,12 +2,16 @@
 use mathlib.Core.Path.{_≡_, sym, _∙_}
 use denote.Ref.{now}
 use Rattle.calls.proofs.fresh.Reads as fresh
+use Rattle.calls.proofs.fresh_old.Reads as fresh-old
 use Rattle.calls.proofs.octet.Reads as octet
 use Rattle.calls.proofs.line_idle.Reads as line-idle
 use Rattle.calls.proofs.second.Reads as second
 
 only-fresh : (κs : _) (a : _) (r s : _) (x y : _) → fresh.Post κs a r x → fresh.Post κs a s y → r ≡ s
 only-fresh κs a r s x y p q = p ∙ sym q
+
+only-fresh-old : (κs : _) (a : _) (r s : _) (x y : _) → fresh-old.Post κs a r x → fresh-old.Post κs a s y → r ≡ s
+only-fresh-old κs a r s x y p q = p ∙ sym q
 
 only-octet : (κs : _) (a : _) (r s : _) (x y : _) → octet.Post κs a r x → octet.Post κs a s y
     → (r ≡ s) × (now (x .1 .0) ≡ now (y .1 .0)) × (now (x .1 .1 .0) ≡ now (y .1 .1 .0))

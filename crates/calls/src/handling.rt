@@ -15,6 +15,7 @@ use message::FIELDS_MOST;
 use message::Message;
 use message_calls::reader;
 use octets::refusal;
+use plan::Which;
 use plan::setting::Answered;
 use plan_calls::book;
 use plan_calls::reporting;
@@ -47,13 +48,14 @@ pub(crate) fn carry_out(u: Running, requested: u8, book: &mut [u8], info: &[u8])
     if info[0] != CODE_HIGH {
         return refused(code, requested, refusal::CODE_NOT_HANDLED, 0);
     }
+    let which = u.which;
     let second = info[1];
     match second {
         SET_TIMES => set(code, requested, setting::set_times(book, info)),
         SET_PLAN => set(code, requested, setting::set_plan(book, info)),
-        RUN => run(code, requested, book, info),
-        QUERY_TIMES => query_times(code, requested, book, info),
-        QUERY_PLAN => query_plan(code, requested, book, info),
+        RUN => run(which, code, requested, book, info),
+        QUERY_TIMES => query_times(which, code, requested, book, info),
+        QUERY_PLAN => query_plan(which, code, requested, book, info),
         QUERY_RUNNING => query_running(code, requested, u, info),
         _ => refused(code, requested, refusal::CODE_NOT_HANDLED, 0),
     }
@@ -127,16 +129,16 @@ fn plan_named(info: &[u8]) -> u8
 }
 
 // "5F 18 notes the requested plan."
-fn run(code: u16, requested: u8, book: &[u8], info: &[u8]) -> Handled
+fn run(which: Which, code: u16, requested: u8, book: &[u8], info: &[u8]) -> Handled
     requires { ⌜ length (now book) ≡ bookLen ⌝ }
-    ensures { λ r. ⌜ r ≡ runAs code requested (now (book .entry)) (now (info .entry)) ⌝ }
+    ensures { λ r. ⌜ r ≡ runAs which code requested (now (book .entry)) (now (info .entry)) ⌝ }
 {
     let m = reader::read(info);
     if m.refusal != refusal::NONE {
         return refused(code, requested, m.refusal, m.field);
     }
     let plan = plan_named(info);
-    let lent = book::built_in();
+    let lent = book::built_in(which);
     let rec = stepper::record_of(book, &lent, plan);
     if checks::standing(rec) != record::READY {
         return refused(code, requested, refusal::NOT_READY, PLAN);
@@ -144,16 +146,16 @@ fn run(code: u16, requested: u8, book: &[u8], info: &[u8]) -> Handled
     accepted(plan, carried_out_reply(code))
 }
 
-fn query_times(code: u16, requested: u8, book: &[u8], info: &[u8]) -> Handled
+fn query_times(which: Which, code: u16, requested: u8, book: &[u8], info: &[u8]) -> Handled
     requires { ⌜ length (now book) ≡ bookLen ⌝ }
-    ensures { λ r. ⌜ r ≡ queryTimesAs code requested (now (book .entry)) (now (info .entry)) ⌝ }
+    ensures { λ r. ⌜ r ≡ queryTimesAs which code requested (now (book .entry)) (now (info .entry)) ⌝ }
 {
     let m = reader::read(info);
     if m.refusal != refusal::NONE {
         return refused(code, requested, m.refusal, m.field);
     }
     let plan = plan_named(info);
-    let lent = book::built_in();
+    let lent = book::built_in(which);
     let rec = stepper::record_of(book, &lent, plan);
     if checks::standing(rec) == record::EMPTY {
         return refused(code, requested, refusal::NOT_READY, PLAN);
@@ -161,16 +163,16 @@ fn query_times(code: u16, requested: u8, book: &[u8], info: &[u8]) -> Handled
     accepted(requested, reporting::report_times(rec, plan))
 }
 
-fn query_plan(code: u16, requested: u8, book: &[u8], info: &[u8]) -> Handled
+fn query_plan(which: Which, code: u16, requested: u8, book: &[u8], info: &[u8]) -> Handled
     requires { ⌜ length (now book) ≡ bookLen ⌝ }
-    ensures { λ r. ⌜ r ≡ queryPlanAs code requested (now (book .entry)) (now (info .entry)) ⌝ }
+    ensures { λ r. ⌜ r ≡ queryPlanAs which code requested (now (book .entry)) (now (info .entry)) ⌝ }
 {
     let m = reader::read(info);
     if m.refusal != refusal::NONE {
         return refused(code, requested, m.refusal, m.field);
     }
     let plan = plan_named(info);
-    let lent = book::built_in();
+    let lent = book::built_in(which);
     let rec = stepper::record_of(book, &lent, plan);
     if checks::standing(rec) != record::READY {
         return refused(code, requested, refusal::NOT_READY, PLAN);

@@ -6,6 +6,7 @@ mod soundness;
 mod stepper;
 
 ghost use mathlib.Core.Path.{_≡_};
+ghost use Rattle.plan.specs.declared.Which.the-variants.{New, Old};
 ghost use Rattle.controller.specs.Replies.{CallLeaves, quiet, octetOf, lineIdleOf};
 ghost use Rattle.controller.specs.Seconds.{startedOf, noSecond, secondOf};
 use codec::decoder;
@@ -18,14 +19,28 @@ use controller::Started;
 use controller::State;
 use lamps::Row;
 use octets::refusal;
+use plan::Which;
 use plan_calls::book;
 use record::BOOK_LEN;
 
-// "A fresh start runs and requests plan 0 at position 0."
+// "A fresh start runs and requests plan 0 at position 0."; 02, E1: "the plain start takes the new one".
 pub fn fresh(own: u16) -> Started
-    ensures { λ r. ⌜ r ≡ startedOf own ⌝ }
+    ensures { λ r. ⌜ r ≡ startedOf New own ⌝ }
 {
-    let running = stepper::started(0, book::built_in());
+    fresh_with(Which::New, own)
+}
+
+// "A start call that names the old built-in plan stays".
+pub fn fresh_old(own: u16) -> Started
+    ensures { λ r. ⌜ r ≡ startedOf Old own ⌝ }
+{
+    fresh_with(Which::Old, own)
+}
+
+fn fresh_with(which: Which, own: u16) -> Started
+    ensures { λ r. ⌜ r ≡ startedOf which own ⌝ }
+{
+    let running = stepper::started(which, 0, book::built_in(which));
     let state = State {
         own,
         seq: 0,

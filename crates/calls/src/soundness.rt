@@ -25,7 +25,7 @@ pub(crate) fn stands(s: State) -> bool
     running_stands(s.running)
 }
 
-// The built-in record passes the checks, so plan 0 is only compared with it.
+// A built-in record passes the checks, so plan 0 is only compared with the one that is kept.
 fn running_stands(u: Running) -> bool
     ensures { λ r. ⌜ r ≡ runningSound u ⌝ }
 {
@@ -37,7 +37,8 @@ fn running_stands(u: Running) -> bool
         return false;
     }
     if u.plan == 0 {
-        return book::is_built_in(&copy);
+        let which = u.which;
+        return book::is_built_in(&copy, which);
     }
     checks::standing(&copy) == record::READY
 }

@@ -5,6 +5,7 @@ use crate::script;
 use codec::writer;
 use controller::Event;
 use controller::OUTPUT_LEN;
+use controller::Started;
 use controller::State;
 use lamps::Row;
 use octets::refusal;
@@ -69,6 +70,7 @@ fn called(s: State, word: u8, o: &[u8], book: &mut [u8], out: &mut [u8]) -> Stat
     let own = s.own;
     match word {
         b'f' => fresh(octets::word(script::at(o, 0), script::at(o, 1))),
+        b'e' => earlier(octets::word(script::at(o, 0), script::at(o, 1))),
         b't' => taken(s, o, book, out),
         b's' => send(s, own, o, book, out),
         b'b' => send(s, controller::ALL, o, book, out),
@@ -82,8 +84,17 @@ fn called(s: State, word: u8, o: &[u8], book: &mut [u8], out: &mut [u8]) -> Stat
 // A fresh start with this own address.
 fn fresh(own: u16) -> State {
     say::text(b"\tfresh ");
+    started(own, calls::fresh(own))
+}
+
+// The same with the old built-in plan.
+fn earlier(own: u16) -> State {
+    say::text(b"\tfresh with the old plan 0 ");
+    started(own, calls::fresh_old(own))
+}
+
+fn started(own: u16, f: Started) -> State {
     say::octets(&[octets::high(own), octets::low(own)]);
-    let f = calls::fresh(own);
     if f.refusal != refusal::NONE {
         say::call_refused(f.refusal);
     }

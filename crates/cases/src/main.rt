@@ -15,6 +15,7 @@
 //     output               the output is shown
 //
 //     fresh ADDR           the controller starts fresh at this address
+//     earlier ADDR         the same with the old built-in plan
 //     take OCTETS          the controller is handed the octets, one a call
 //     send SEQ INFO        it is handed a message frame for its address, or
 //     broadcast SEQ INFO   for FFFF, or

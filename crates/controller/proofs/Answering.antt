@@ -83,13 +83,13 @@ sound-as-it-is s o = record { from = λ h. from (sound-parts s h); to = λ h. pa
 
 pub starts-answered : StartsAnswered
 unfolding startedOf soundOf freshOf freshDecoder
-starts-answered own =
+starts-answered which own =
     record {
       state = refl;
       others = refl;
       fresh = refl;
       refused = λ e. (rw (eq-eqb own all e), rw (eq-eqb own all e));
-      done = λ n. (rw (ne-eqb own all n), fresh-sound own n);
+      done = λ n. (rw (ne-eqb own all n), fresh-sound which own n);
     }
 
 -- The line-idle call
@@ -202,10 +202,10 @@ module _ (u : Running) (requested : ℕ) (book info : List ℕ) where
       handling-by (λ h. InDone (h .handled .refusal)) u requested book info
       (as-in-done (setTimesOf book info .answer) (set-in-done setTimesCode (timesMade (bodyIn info)) book info refl hb (times-in-done (bodyIn info))))
       (as-in-done (setPlanOf book info .answer) (set-in-done setPlanCode (readyMade (recordAt book p) (bodyIn info)) book info refl hb (ready-in-done (recordAt book p) (bodyIn info))))
-      (read-or-done _ (or-not-ready (readyIn book p) _ (inl (omega arith))))
+      (read-or-done _ (or-not-ready (readyIn (u .which) book p) _ (inl (omega arith))))
       (read-or-done _
-      (pick-by (λ (h : Handled). InDone (h .refusal)) (eqb (standingOf (planRecord book p)) empty) (λ _. inr (omega arith, omega arith)) (λ _. inl (omega arith))))
-      (read-or-done _ (or-not-ready (readyIn book p) _ (inl (omega arith))))
+      (pick-by (λ (h : Handled). InDone (h .refusal)) (eqb (standingOf (planRecord (u .which) book p)) empty) (λ _. inr (omega arith, omega arith)) (λ _. inl (omega arith))))
+      (read-or-done _ (or-not-ready (readyIn (u .which) book p) _ (inl (omega arith))))
       (read-or-done _ (inl (omega arith)))
       (inr (omega arith, omega arith))
 

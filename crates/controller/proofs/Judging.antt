@@ -12,9 +12,11 @@ use native.Mathlib.Omega.{arith}
 use Rattle.frame.specs.Decoder.{possibleOf}
 use Rattle.record.specs.Record.{recordLen, plansMost, ready, cycleOf}
 use Rattle.checks.specs.Standing.{standingOf}
-use Rattle.plan.specs.BuiltIn.{padded, builtIn}
+use Rattle.plan.specs.declared.Which.{Which}
+use Rattle.plan.specs.BuiltIn.{builtIn}
 use Rattle.plan.specs.Reading.{recordStart, same}
 use Rattle.plan.proofs.Laws.{same-is, is-same}
+use Rattle.plan.proofs.Cases.{octets-built-in}
 use Rattle.controller.specs.declared.Running.{Running}
 use Rattle.controller.specs.declared.State.{State}
 use Rattle.controller.specs.State.{all, runningSound, soundOf, planRecord}
@@ -29,18 +31,21 @@ pub record RunningParts (u : Running) : Type 0 where
   pub position : u .position < cycleOf (u .copy)
   pub plan : u .plan ≤ plansMost
   pub checks : standingOf (u .copy) ≡ ready
-  pub zero : u .plan ≡ 0 → u .copy ≡ builtIn
+  pub zero : u .plan ≡ 0 → u .copy ≡ builtIn (u .which)
 
 module _ (u : Running) where
-  zeroes : pick (eqb (u .plan) 0) (same (u .copy) builtIn) true ≡ true → u .plan ≡ 0 → u .copy ≡ builtIn
-  zeroes h z = same-is (u .copy) builtIn (rw (eq-eqb (u .plan) 0 z) at h)
+  abbrev kept : List ℕ
+  kept = builtIn (u .which)
+
+  zeroes : pick (eqb (u .plan) 0) (same (u .copy) kept) true ≡ true → u .plan ≡ 0 → u .copy ≡ kept
+  zeroes h z = same-is (u .copy) kept (rw (eq-eqb (u .plan) 0 z) at h)
 
   pub running-parts : runningSound u ≡ true → RunningParts u
   unfolding runningSound
   running-parts h =
       let p =
       four (ltb (u .position) (cycleOf (u .copy))) (leb (u .plan) plansMost) (eqb (standingOf (u .copy)) ready)
-      (pick (eqb (u .plan) 0) (same (u .copy) builtIn) true) h in
+      (pick (eqb (u .plan) 0) (same (u .copy) kept) true) h in
       record {
         position = ltb-true (u .position) (cycleOf (u .copy)) (p .0);
         plan = leb-true (u .plan) plansMost (p .1);
@@ -52,7 +57,7 @@ module _ (u : Running) where
   unfolding runningSound
   parts-running p =
       rw (lt-ltb (u .position) (cycleOf (u .copy)) (p .position), le-leb (u .plan) plansMost (p .plan), eq-eqb (standingOf (u .copy)) ready (p .checks))
-      (pick-by (λ (t : Bool). t ≡ true) (eqb (u .plan) 0) (λ z. rw (p .zero (eqb-true (u .plan) 0 z)) (is-same builtIn)) (λ _. refl))
+      (pick-by (λ (t : Bool). t ≡ true) (eqb (u .plan) 0) (λ z. rw (p .zero (eqb-true (u .plan) 0 z)) (is-same kept)) (λ _. refl))
 
 pub record SoundParts (s : State) : Type 0 where
   pub own : s .own ≡ all → ⊥
@@ -78,9 +83,5 @@ module _ (s : State) where
 
 -- The record of a plan is octets
 
-pub octets-built-in : Octets builtIn
-unfolding builtIn padded
-octets-built-in = search arith
-
-pub record-octets : (book : List ℕ) (p : ℕ) → Octets book → Octets (planRecord book p)
-record-octets book p o = pick-by Octets (eqb p 0) (λ _. octets-built-in) (λ _. octets-part recordLen (recordStart p) book o)
+pub record-octets : (which : Which) (book : List ℕ) (p : ℕ) → Octets book → Octets (planRecord which book p)
+record-octets which book p o = pick-by Octets (eqb p 0) (λ _. octets-built-in which) (λ _. octets-part recordLen (recordStart p) book o)

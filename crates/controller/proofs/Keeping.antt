@@ -6,7 +6,7 @@ use mathlib.Core.List.{List}
 use native.Mathlib.Decide.{decLt, ℕ-discrete}
 use native.Mathlib.Omega.{arith}
 use borrow.Author.Tests.{eq-eqb, ne-eqb, eqb-true, eqb-false, leb-true}
-use lib.Dec.{eqb, leb}
+use lib.Dec.{eqb, ltb, leb}
 use lib.ListN.{length}
 use Rattle.octets.specs.Choice.{pick, both}
 use Rattle.octets.specs.Refusal as refusal
@@ -21,6 +21,7 @@ use Rattle.message.specs.Reader.{codeIn, bodyIn, readOf}
 use Rattle.plan.specs.declared.setting.Answered.{Answered}
 use Rattle.record.specs.Record.{plansMost, bookLen, empty, ready, cycleOf}
 use Rattle.checks.specs.Standing.{standingOf}
+use Rattle.plan.specs.declared.Which.{Which}
 use Rattle.plan.specs.BuiltIn.{builtIn}
 use Rattle.plan.specs.Reading.{recordAt, same}
 use Rattle.plan.specs.Setting.{setTimesCode, setPlanCode, planIn}
@@ -59,7 +60,7 @@ module _ (u : Running) (requested : ℕ) (book info : List ℕ) where
   asked = planIn (bodyIn info)
 
   abbrev runs : Bool
-  runs = both (eqb code runCode) (both (eqb (readOf info .refusal) refusal.none) (readyIn book asked))
+  runs = both (eqb code runCode) (both (eqb (readOf info .refusal) refusal.none) (readyIn (u .which) book asked))
 
   abbrev Leaves : Handled → Type 0
   Leaves h = h .requested ≡ pick runs asked requested
@@ -74,23 +75,23 @@ module _ (u : Running) (requested : ℕ) (book info : List ℕ) where
   unfolding setAs
   set-leaves a = pick-by (λ (h : Handled). h .requested ≡ requested) (eqb (a .refusal) refusal.none) (λ _. refl) (λ _. refl)
 
-  run-leaves : eqb code runCode ≡ true → Leaves (runAs code requested book info)
+  run-leaves : eqb code runCode ≡ true → Leaves (runAs (u .which) code requested book info)
   unfolding runAs
   run-leaves t =
       pick-by Leaves (eqb (readOf info .refusal) refusal.none)
-      (λ r. pick-by Leaves (readyIn book asked) (λ q. rw (t, r, q)) (λ q. rw (t, r, q)))
+      (λ r. pick-by Leaves (readyIn (u .which) book asked) (λ q. rw (t, r, q)) (λ q. rw (t, r, q)))
       (λ r. rw (t, r))
 
   read-leaves : (h : Handled) → h .requested ≡ requested → unlessUnread code requested info h .requested ≡ requested
   read-leaves h e = pick-by (λ (h : Handled). h .requested ≡ requested) (eqb (readOf info .refusal) refusal.none) (λ _. e) (λ _. refl)
 
-  times-leaves : queryTimesAs code requested book info .requested ≡ requested
+  times-leaves : queryTimesAs (u .which) code requested book info .requested ≡ requested
   unfolding queryTimesAs
-  times-leaves = read-leaves _ (pick-by (λ (h : Handled). h .requested ≡ requested) (eqb (standingOf (planRecord book asked)) empty) (λ _. refl) (λ _. refl))
+  times-leaves = read-leaves _ (pick-by (λ (h : Handled). h .requested ≡ requested) (eqb (standingOf (planRecord (u .which) book asked)) empty) (λ _. refl) (λ _. refl))
 
-  plan-leaves : queryPlanAs code requested book info .requested ≡ requested
+  plan-leaves : queryPlanAs (u .which) code requested book info .requested ≡ requested
   unfolding queryPlanAs
-  plan-leaves = read-leaves _ (pick-by (λ (h : Handled). h .requested ≡ requested) (readyIn book asked) (λ _. refl) (λ _. refl))
+  plan-leaves = read-leaves _ (pick-by (λ (h : Handled). h .requested ≡ requested) (readyIn (u .which) book asked) (λ _. refl) (λ _. refl))
 
   running-leaves : queryRunningAs code requested u info .requested ≡ requested
   unfolding queryRunningAs
@@ -109,11 +110,11 @@ module _ (u : Running) (requested : ℕ) (book info : List ℕ) where
       (λ _. pick-by P (eqb code queryRunningCode) (λ _. other-leaves running-leaves d) (λ _. other-leaves refl d))))))
 
 -- a plan that may run is ready, and the other way round: "Plan 0 is ready"
-pub may-run : (book : List ℕ) (p : ℕ) → mayRun book p ≡ readyIn book p
-may-run book p = by (eqb p 0)
+pub may-run : (which : Which) (book : List ℕ) (p : ℕ) → mayRun book p ≡ readyIn which book p
+may-run which book p = by (eqb p 0)
   where
-    by : (t : Bool) → pick t true (eqb (standingOf (recordAt book p)) 2) ≡ eqb (standingOf (pick t builtIn (recordAt book p))) ready
-    by true = sym (eq-eqb (standingOf builtIn) ready built-in-stands)
+    by : (t : Bool) → pick t true (eqb (standingOf (recordAt book p)) 2) ≡ eqb (standingOf (pick t (builtIn which) (recordAt book p))) ready
+    by true = sym (eq-eqb (standingOf (builtIn which)) ready (built-in-stands which))
     by false = refl
 
 module _ (own ours requested : ℕ) (u : Running) (book : List ℕ) where
@@ -123,7 +124,7 @@ module _ (own ours requested : ℕ) (u : Running) (book : List ℕ) where
   message-asks seq addr info =
       let P : ResultAndBook → Type 0 = λ w. w .result .requested ≡ latestAfter own book requested (sound (message seq addr info)) in
       pick-by P (forUs own addr)
-      (λ f. pick-by P (isAnswer (codeIn info)) (λ a. rw (f, ne-eqb (codeIn info) runCode (answers a))) (λ _. rw (f, may-run book (planIn (bodyIn info))) (handled-leaves u requested book info)))
+      (λ f. pick-by P (isAnswer (codeIn info)) (λ a. rw (f, ne-eqb (codeIn info) runCode (answers a))) (λ _. rw (f, may-run (u .which) book (planIn (bodyIn info))) (handled-leaves u requested book info)))
       (λ f. rw f)
     where
       answers : isAnswer (codeIn info) ≡ true → codeIn info ≡ runCode → ⊥
@@ -169,9 +170,9 @@ module _ (s : State) (book out : List ℕ) (b : ℕ) where
   pub octet-running : octetOf s book out b .answer .state .running ≡ s .running
   octet-running = by-octet (λ _ t. t .running ≡ s .running) refl (λ _ _ _. done-left s (takenOf (s .decoder) b) book out .running)
 
--- a plan that is ready in the book is one of its plans
-pub ready-most : (book : List ℕ) (p : ℕ) → length book ≡ bookLen → readyIn book p ≡ true → p ≤ plansMost
-ready-most book p n h =
+-- a plan that may run is plan 0 or one of the book's
+may-run-most : (book : List ℕ) (p : ℕ) → length book ≡ bookLen → mayRun book p ≡ true → p ≤ plansMost
+may-run-most book p n h =
     elim (decLt plansMost p) [
       | yes l ↦ let z : p ≡ 0 → ⊥ = λ e. omega arith in
           absurd (omega (arith, standing-past book p n l, eqb-true (standingOf (recordAt book p)) ready (rw (ne-eqb p 0 z) at h)))
@@ -184,7 +185,7 @@ latest-most own book latest (refused r k seq addr) n h = h
 latest-most own book latest (sound (message seq addr info)) n h =
     let p = planIn (bodyIn info) in
     pick-by (λ (q : ℕ). q ≤ plansMost) (runIn own book addr info)
-    (λ t. ready-most book p n (sym (may-run book p) ∙ four (forUs own addr) (eqb (codeIn info) runCode) (eqb (readOf info .refusal) refusal.none) (mayRun book p) t .3))
+    (λ t. may-run-most book p n (four (forUs own addr) (eqb (codeIn info) runCode) (eqb (readOf info .refusal) refusal.none) (mayRun book p) t .3))
     (λ _. h)
 latest-most own book latest (sound (ack seq addr)) n h = h
 latest-most own book latest (sound (nak seq addr err)) n h = h
@@ -229,17 +230,24 @@ ready-cycle rec h = omega (arith, plan-fits rec (ready-plan rec h) .offset)
 
 module _ (u : Running) (p : ℕ) (book : List ℕ) where
   -- by the two ways of the pick
-  pub by-picked : (P : Running → Type 0) → (readyIn book p ≡ true → P (startedAt p (planRecord book p)))
-      → (readyIn book p ≡ false → P (startedAt (u .plan) (u .copy))) → P (pickedOf u p book)
+  pub by-picked : (P : Running → Type 0) → (readyIn (u .which) book p ≡ true → P (startedAt (u .which) p (planRecord (u .which) book p)))
+      → (readyIn (u .which) book p ≡ false → P (startedAt (u .which) (u .plan) (u .copy))) → P (pickedOf u p book)
   unfolding pickedOf
-  by-picked P r k = pick-by P (readyIn book p) r k
+  by-picked P r k = pick-by P (readyIn (u .which) book p) r k
+
+  -- which built-in plan is kept
+  moved-which : movedOn u p book .which ≡ u .which
+  unfolding movedOn
+  moved-which =
+      pick-by (λ (v : Running). v .which ≡ u .which) (ltb (u .position + 1) (cycleOf (u .copy))) (λ _. refl)
+      (λ _. by-picked (λ v. v .which ≡ u .which) (λ _. refl) (λ _. refl))
 
   module _ (most : p ≤ plansMost) (g : RunningParts u) where
     pub picked-sound : RunningParts (pickedOf u p book)
     picked-sound =
         by-picked RunningParts
-        (λ r. let e = eqb-true (standingOf (planRecord book p)) ready r in
-        record { position = ready-cycle (planRecord book p) e; plan = most; checks = e; zero = λ z. rw (eq-eqb p 0 z) })
+        (λ r. let e = eqb-true (standingOf (planRecord (u .which) book p)) ready r in
+        record { position = ready-cycle (planRecord (u .which) book p) e; plan = most; checks = e; zero = λ z. rw (eq-eqb p 0 z) })
         (λ _. record { position = ready-cycle (u .copy) (g .checks); plan = g .plan; checks = g .checks; zero = g .zero })
 
     pub moved-sound : RunningParts (movedOn u p book)
@@ -256,6 +264,13 @@ module _ (s : State) (book : List ℕ) where
   second-left =
       let P : Shown → Type 0 = λ a. a .state ≡ withRunning s (a .state .running) in
       pick-by P (not (soundOf s)) (λ _. refl) (λ _. pick-by P (not (eqb (length book) bookLen)) (λ _. refl) (λ _. refl))
+
+  pub second-which : secondOf s book .state .running .which ≡ s .running .which
+  unfolding secondOf noSecond
+  second-which =
+      let P : Shown → Type 0 = λ a. a .state .running .which ≡ s .running .which in
+      pick-by P (not (soundOf s)) (λ _. refl)
+      (λ _. pick-by P (not (eqb (length book) bookLen)) (λ _. refl) (λ _. moved-which (s .running) (s .requested) book))
 
   -- by the two ways of a second in a sound state
   pub by-second : soundOf s ≡ true → (P : Shown → Type 0) → (length book ≡ bookLen → P (secondShown s book)) → P (noSecond s refusal.bookWrong)
@@ -282,12 +297,12 @@ sound-kept s = record { octet = octet-sound s; lineIdle = idle-sound s; second =
 
 -- The fresh start
 
-pub fresh-sound : (own : ℕ) → (own ≡ all → ⊥) → soundOf (freshOf own) ≡ true
+pub fresh-sound : (which : Which) (own : ℕ) → (own ≡ all → ⊥) → soundOf (freshOf which own) ≡ true
 unfolding freshOf
-fresh-sound own n =
-    parts-sound (freshOf own) (record {
+fresh-sound which own n =
+    parts-sound (freshOf which own) (record {
       own = n;
       requested = omega arith;
       decoder = possible-kept .0;
-      running = record { position = ready-cycle builtIn built-in-stands; plan = omega arith; checks = built-in-stands; zero = λ _. refl };
+      running = record { position = ready-cycle (builtIn which) (built-in-stands which); plan = omega arith; checks = built-in-stands which; zero = λ _. refl };
     })

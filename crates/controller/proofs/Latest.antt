@@ -10,6 +10,8 @@ use Rattle.octets.specs.Octet.{Octets}
 use Rattle.frame.specs.declared.decoder.Decoder.{Decoder}
 use Rattle.frame.specs.Decoder.{freshDecoder, takenOf, idledOf}
 use Rattle.record.specs.Record.{cycleOf}
+use Rattle.plan.specs.declared.Which.{Which}
+use Rattle.plan.proofs.Cases.{octets-built-in}
 use Rattle.controller.specs.declared.Answer.{Answer}
 use Rattle.controller.specs.declared.Running.{Running}
 use Rattle.controller.specs.declared.State.{State}
@@ -17,7 +19,7 @@ use Rattle.controller.specs.State.{all, freshOf, soundOf}
 use Rattle.controller.specs.Seconds.{startedOf, movedOn, pickedOf, noSecond}
 use Rattle.controller.specs.Demand3.{HostCall, octet, lineIdle, second, next, goesOn, run, Heard, hearsOctet, hears, hearsOn, LatestKept}
 use Rattle.controller.proofs.Laws.{idle-done, moved-within, moved-ends}
-use Rattle.controller.proofs.Judging.{octets-built-in, record-octets}
+use Rattle.controller.proofs.Judging.{record-octets}
 use Rattle.controller.proofs.Keeping.{done-left, by-octet, octet-own, octet-running, idle-left, by-picked, second-left, by-second, sound-kept, fresh-sound}
 
 -- the copy that runs is octets
@@ -25,7 +27,7 @@ module _ (u : Running) (p : ℕ) (book : List ℕ) (ou : Octets (u .copy)) (ob :
   picked-octets : Octets (pickedOf u p book .copy)
   picked-octets =
       by-picked u p book (λ v. Octets (v .copy))
-      (λ _. record-octets book p ob)
+      (λ _. record-octets (u .which) book p ob)
       (λ _. ou)
 
   moved-octets : Octets (movedOn u p book .copy)
@@ -82,11 +84,11 @@ kept-on : (own : ℕ) (s : State) (h : Heard) (es : List HostCall) → Kept own 
 kept-on own s h [] k = k
 kept-on own s h (e ∷ es) k = kept-on own (next s e) (hears own h e) es (kept-next own s h e k)
 
-pub run-kept : (own : ℕ) → (own ≡ all → ⊥) → (es : List HostCall) → Kept own (run own es) (hearsOn own (record { decoder = freshDecoder; latest = 0 }) es)
+pub run-kept : (which : Which) (own : ℕ) → (own ≡ all → ⊥) → (es : List HostCall) → Kept own (run which own es) (hearsOn own (record { decoder = freshDecoder; latest = 0 }) es)
 unfolding startedOf freshOf
-run-kept own n es =
-    kept-on own (freshOf own) (record { decoder = freshDecoder; latest = 0 }) es
-    (record { own = refl; sound = fresh-sound own n; octets = octets-built-in; decoder = refl; latest = refl })
+run-kept which own n es =
+    kept-on own (freshOf which own) (record { decoder = freshDecoder; latest = 0 }) es
+    (record { own = refl; sound = fresh-sound which own n; octets = octets-built-in which; decoder = refl; latest = refl })
 
 pub latest-kept : LatestKept
-latest-kept own n es = run-kept own n es .latest
+latest-kept which own n es = run-kept which own n es .latest

@@ -75,15 +75,15 @@ module _ (s : State) where
 -- The second call
 
 module _ (u : Running) (requested : ℕ) (book : List ℕ) where
-  pub picked-ready : readyIn book requested ≡ true → pickedOf u requested book ≡ startedAt requested (planRecord book requested)
+  pub picked-ready : readyIn (u .which) book requested ≡ true → pickedOf u requested book ≡ startedAt (u .which) requested (planRecord (u .which) book requested)
   unfolding pickedOf
   picked-ready h = rw h
 
-  pub picked-stays : readyIn book requested ≡ false → pickedOf u requested book ≡ startedAt (u .plan) (u .copy)
+  pub picked-stays : readyIn (u .which) book requested ≡ false → pickedOf u requested book ≡ startedAt (u .which) (u .plan) (u .copy)
   unfolding pickedOf
   picked-stays h = rw h
 
-  pub moved-within : u .position + 1 < cycleOf (u .copy) → movedOn u requested book ≡ record { plan = u .plan; position = u .position + 1; copy = u .copy }
+  pub moved-within : u .position + 1 < cycleOf (u .copy) → movedOn u requested book ≡ record { which = u .which; plan = u .plan; position = u .position + 1; copy = u .copy }
   unfolding movedOn
   moved-within h = rw (lt-ltb (u .position + 1) (cycleOf (u .copy)) h)
 

@@ -40,6 +40,7 @@ use Rattle.checks.specs.Standing.{standingOf}
 use Rattle.controller.specs.declared.Answer.{Answer}
 use Rattle.controller.specs.declared.Running.{Running}
 use Rattle.controller.specs.declared.State.{State}
+use Rattle.plan.proofs.Cases.{octets-built-in}
 use Rattle.controller.specs.State.{all, outputLen, freshOf, soundOf}
 use Rattle.controller.specs.Handling.{carriedOutReply, refusedReply, handlingOf}
 use Rattle.controller.specs.Replies.{Call, CanFind, ResultAndBook, sent, errOf, naks, acks, forUs, isAnswer, repliedOf, messageOf, broughtOf, octetOf, lineIdleOf}
@@ -49,7 +50,7 @@ use Rattle.controller.specs.Demand2.{onLine}
 use Rattle.controller.specs.Demand3.{HostCall, octet, lineIdle, second, next, Heard, hears}
 use Rattle.controller.specs.OurSeq.{writes, writesOn, framesHeard, CountsFrom, OurSeqCounts}
 use Rattle.controller.proofs.Laws.{octet-brings, idle-done}
-use Rattle.controller.proofs.Judging.{RunningParts, sound-parts, octets-built-in}
+use Rattle.controller.proofs.Judging.{RunningParts, sound-parts}
 use Rattle.controller.proofs.Replying.{can-find, info-fits, by-reply}
 use Rattle.controller.proofs.Answering.{octets-answered, octet-refused, octet-right, written-take}
 use Rattle.controller.proofs.Keeping.{done-left, by-octet, second-left, fresh-sound}
@@ -267,15 +268,15 @@ module _ (own : ℕ) (hw : own < 65535) where
 
 pub our-seq-counts : OurSeqCounts
 unfolding startedOf freshOf freshDecoder
-our-seq-counts own hw es =
+our-seq-counts which own hw es =
     let n : own ≡ all → ⊥ = λ e. omega arith in
-    let fresh : Able own hw 0 (freshOf own) = record {
+    let fresh : Able own hw 0 (freshOf which own) = record {
       heard = record { decoder = freshDecoder; latest = 0 };
-      kept = record { own = refl; sound = fresh-sound own n; octets = octets-built-in; decoder = refl; latest = refl };
+      kept = record { own = refl; sound = fresh-sound which own n; octets = octets-built-in which; decoder = refl; latest = refl };
       octets = record { seq = omega arith; info = octets-zero 256 };
       seq = refl;
     } in
-    let r = run-sends own hw 0 (freshOf own) es fresh in
+    let r = run-sends own hw 0 (freshOf which own) es fresh in
     record {
       frames = r .frames;
       octets = r .written;

@@ -31,6 +31,7 @@ use Rattle.message.specs.Writer.{numberIn, kOfMessage, writable, infoAs, infoOf
 use Rattle.message.proofs.Layouts.{rows-most}
 use Rattle.message.proofs.Values.{width-most}
 use Rattle.message.proofs.Writing.{info-len, writable-most}
+use Rattle.plan.specs.declared.Which.{Which}
 use Rattle.plan.specs.declared.setting.Answered.{Answered}
 use Rattle.record.specs.Record.{bookLen, plansMost, empty, ready}
 use Rattle.checks.specs.Standing.{standingOf}
@@ -83,8 +84,8 @@ info-fits m w =
 -- A plan that is reported
 
 -- a plan with more than an empty record is one of the book, or plan 0
-pub plan-most : (book : List ℕ) (p : ℕ) → length book ≡ bookLen → (standingOf (planRecord book p) ≡ empty → ⊥) → p ≤ plansMost
-plan-most book p hb n = by (decLt plansMost p)
+pub plan-most : (which : Which) (book : List ℕ) (p : ℕ) → length book ≡ bookLen → (standingOf (planRecord which book p) ≡ empty → ⊥) → p ≤ plansMost
+plan-most which book p hb n = by (decLt plansMost p)
   where
     by : Dec (plansMost < p) → p ≤ plansMost
     by (yes l) = absurd (n (rw (ne-eqb p 0 (λ z. absurd (omega arith))) (standing-past book p hb l)))
@@ -105,8 +106,8 @@ by-seven P false false false false false false m n o p q r s = s
 
 pub handling-by : (P : Handling → Type 0) (u : Running) (requested : ℕ) (book info : List ℕ)
     → P (setHandled (codeIn info) requested (setTimesOf book info)) → P (setHandled (codeIn info) requested (setPlanOf book info))
-    → P (reads (runAs (codeIn info) requested book info) book) → P (reads (queryTimesAs (codeIn info) requested book info) book)
-    → P (reads (queryPlanAs (codeIn info) requested book info) book) → P (reads (queryRunningAs (codeIn info) requested u info) book)
+    → P (reads (runAs (u .which) (codeIn info) requested book info) book) → P (reads (queryTimesAs (u .which) (codeIn info) requested book info) book)
+    → P (reads (queryPlanAs (u .which) (codeIn info) requested book info) book) → P (reads (queryRunningAs (codeIn info) requested u info) book)
     → P (reads (refusedWith (codeIn info) requested refusal.codeNotHandled 0) book) → P (handlingOf u requested book info)
 unfolding handlingOf
 handling-by P u requested book info =
@@ -114,7 +115,7 @@ handling-by P u requested book info =
     by-seven P (eqb code setTimesCode) (eqb code setPlanCode) (eqb code runCode) (eqb code queryTimesCode) (eqb code queryPlanCode) (eqb code queryRunningCode)
 
 -- what holds of every 0F 80, of every 0F 81 and of every report that is writable holds of what is handled
-module _ (P : Handled → Type 0) (code requested : ℕ) (book info : List ℕ) (hb : length book ≡ bookLen)
+module _ (P : Handled → Type 0) (which : Which) (code requested : ℕ) (book info : List ℕ) (hb : length book ≡ bookLen)
     (carried : (q : ℕ) → P (accepted q (carriedOutReply code))) (refused : (n m : ℕ) → P (refusedWith code requested n m))
     (report : (m : message.Message) → writable m ≡ true → P (accepted requested m)) where
   abbrev p : ℕ
@@ -127,25 +128,25 @@ module _ (P : Handled → Type 0) (code requested : ℕ) (book info : List ℕ) 
   unfolding setAs
   by-set a = pick-by P (eqb (a .refusal) refusal.none) (λ _. carried requested) (λ _. refused (a .refusal) (a .field))
 
-  by-run : P (runAs code requested book info)
+  by-run : P (runAs which code requested book info)
   unfolding runAs
-  by-run = by-read _ (pick-by P (readyIn book p) (λ _. carried p) (λ _. refused refusal.notReady planAt))
+  by-run = by-read _ (pick-by P (readyIn which book p) (λ _. carried p) (λ _. refused refusal.notReady planAt))
 
-  by-query-times : P (queryTimesAs code requested book info)
+  by-query-times : P (queryTimesAs which code requested book info)
   unfolding queryTimesAs
   by-query-times =
       by-read _
-      (pick-by P (eqb (standingOf (planRecord book p)) empty) (λ _. refused refusal.notReady planAt)
-      (λ e. let n = eqb-false (standingOf (planRecord book p)) empty e in report _ (report-times-writable (planRecord book p) p (plan-most book p hb n) n)))
+      (pick-by P (eqb (standingOf (planRecord which book p)) empty) (λ _. refused refusal.notReady planAt)
+      (λ e. let n = eqb-false (standingOf (planRecord which book p)) empty e in report _ (report-times-writable (planRecord which book p) p (plan-most which book p hb n) n)))
 
-  by-query-plan : P (queryPlanAs code requested book info)
+  by-query-plan : P (queryPlanAs which code requested book info)
   unfolding queryPlanAs
   by-query-plan =
       by-read _
-      (pick-by P (readyIn book p)
+      (pick-by P (readyIn which book p)
       (λ e.
-      let r = eqb-true (standingOf (planRecord book p)) ready e in
-      report _ (report-plan-writable (planRecord book p) p reportPlanCode (plan-most book p hb (λ z. absurd (omega arith))) r (inl refl)))
+      let r = eqb-true (standingOf (planRecord which book p)) ready e in
+      report _ (report-plan-writable (planRecord which book p) p reportPlanCode (plan-most which book p hb (λ z. absurd (omega arith))) r (inl refl)))
       (λ _. refused refusal.notReady planAt))
 
   by-query-running : (u : Running) → standingOf (u .copy) ≡ ready → u .plan ≤ plansMost → P (queryRunningAs code requested u info)
@@ -160,12 +161,12 @@ module _ (u : Running) (requested : ℕ) (book info : List ℕ) (r : standingOf 
       → ((m : message.Message) → writable m ≡ true → P (accepted requested m)) → P (handlingOf u requested book info .handled)
   by-reply P c f w =
       handling-by (λ h. P (h .handled)) u requested book info
-      (by-set P code requested book info hb c f w (setTimesOf book info .answer))
-      (by-set P code requested book info hb c f w (setPlanOf book info .answer))
-      (by-run P code requested book info hb c f w)
-      (by-query-times P code requested book info hb c f w)
-      (by-query-plan P code requested book info hb c f w)
-      (by-query-running P code requested book info hb c f w u r hp)
+      (by-set P (u .which) code requested book info hb c f w (setTimesOf book info .answer))
+      (by-set P (u .which) code requested book info hb c f w (setPlanOf book info .answer))
+      (by-run P (u .which) code requested book info hb c f w)
+      (by-query-times P (u .which) code requested book info hb c f w)
+      (by-query-plan P (u .which) code requested book info hb c f w)
+      (by-query-running P (u .which) code requested book info hb c f w u r hp)
       (f refusal.codeNotHandled 0)
 
   -- its INFO fits a frame, whatever it names

@@ -14,6 +14,7 @@ use Rattle.octets.specs.Octet.{Octets}
 use Rattle.octets.proofs.Laws.{octets-part}
 use Rattle.record.specs.Record.{recordLen, bookLen, ready, cycleOf, Ready}
 use Rattle.checks.specs.Standing.{standingOf, Stands}
+use Rattle.plan.specs.declared.Which.{Which}
 use Rattle.plan.specs.Reading.{recordStart, recordAt}
 use Rattle.checks.proofs.Stands.{stands-as-it-is}
 use Rattle.lamps.specs.Rows.{rowsOf, rowAt, noRow}
@@ -32,11 +33,11 @@ use Rattle.controller.specs.declared.State.{State}
 use Rattle.controller.specs.State.{all, freshOf, soundOf, readyIn}
 use Rattle.controller.specs.Replies.{octetOf, lineIdleOf}
 use Rattle.controller.specs.Seconds.{startedOf, pickedOf, noSecond, secondOf}
-use Rattle.controller.specs.Demand3.{HostCall, octet, lineIdle, second, next, goesOn, run, Second, secondOfPlan, secondAccepted, says, saysOn, SecondsInARow, seconds, latestRun, cycleOfPlan, Chosen, OneChoice, SecondsLeave, CyclesInRun, unfinished, whole, RunsWholeCycles, HoldsWhole, AnyWindow, NoSecond, SetsNeverAlter, leftOf, crossing, CrossingCycles, CrossingHolds}
+use Rattle.controller.specs.Demand3.{HostCall, octet, lineIdle, second, next, goesOn, run, WhichKept, Second, secondOfPlan, secondAccepted, says, saysOn, SecondsInARow, seconds, latestRun, cycleOfPlan, Chosen, OneChoice, SecondsLeave, CyclesInRun, unfinished, whole, RunsWholeCycles, HoldsWhole, AnyWindow, NoSecond, SetsNeverAlter, leftOf, crossing, CrossingCycles, CrossingHolds}
 use Rattle.plan.proofs.Cases.{built-in-stands}
 use Rattle.controller.proofs.Laws.{picked-ready, picked-stays, moved-within, moved-ends, second-8, second-done}
 use Rattle.controller.proofs.Judging.{RunningParts, sound-parts}
-use Rattle.controller.proofs.Keeping.{octet-running, idle-left, second-left, by-picked}
+use Rattle.controller.proofs.Keeping.{octet-running, idle-left, second-left, second-which, by-picked}
 use Rattle.controller.proofs.Latest.{run-kept}
 
 -- The rule
@@ -45,38 +46,38 @@ same-plan : {u v : Running} → u ≡ v → (u .plan ≡ v .plan) × (u .copy �
 same-plan e = (ap (λ (w : Running). w .plan) e, ap (λ (w : Running). w .copy) e)
 
 -- a plan's record in the book, and whether it is ready
-module _ (book : List ℕ) (p : ℕ) (o : Octets book) where
+module _ (which : Which) (book : List ℕ) (p : ℕ) (o : Octets book) where
   stands : Stands (recordAt book p)
   stands = stands-as-it-is (recordAt book p) (octets-part recordLen (recordStart p) book o)
 
-  zero-ready : p ≡ 0 → readyIn book p ≡ true
-  zero-ready z = rw (eq-eqb p 0 z, built-in-stands)
+  zero-ready : p ≡ 0 → readyIn which book p ≡ true
+  zero-ready z = rw (eq-eqb p 0 z, built-in-stands which)
 
-  set-ready : (p ≡ 0 → ⊥) → Ready (recordAt book p) → readyIn book p ≡ true
+  set-ready : (p ≡ 0 → ⊥) → Ready (recordAt book p) → readyIn which book p ≡ true
   set-ready z r = rw (ne-eqb p 0 z, stands .readyTo r)
 
-  not-ready : (p ≡ 0 → ⊥) → (Ready (recordAt book p) → ⊥) → readyIn book p ≡ false
+  not-ready : (p ≡ 0 → ⊥) → (Ready (recordAt book p) → ⊥) → readyIn which book p ≡ false
   not-ready z n = rw (ne-eqb p 0 z) (ne-eqb (standingOf (recordAt book p)) ready (λ e. n (stands .readyFrom e)))
 
   -- the pick is by the rule
-  chosen : (u t : Running) → t ≡ pickedOf u p book → Chosen p book (u .plan) (u .copy) (t .plan) (t .copy)
-  chosen u t h =
+  chosen : (u t : Running) → u .which ≡ which → t ≡ pickedOf u p book → Chosen which p book (u .plan) (u .copy) (t .plan) (t .copy)
+  chosen u t k h =
       record {
-        zero = λ z. let e = same-plan (h ∙ picked-ready u p book (zero-ready z)) in (e .0 ∙ z, e .1 ∙ rw (eq-eqb p 0 z));
-        ready = λ z r. let e = same-plan (h ∙ picked-ready u p book (set-ready z r)) in (e .0, e .1 ∙ rw (ne-eqb p 0 z));
-        stays = λ z n. same-plan (h ∙ picked-stays u p book (not-ready z n));
+        zero = λ z. let e = same-plan (h ∙ picked-ready u p book (rw k (zero-ready z))) in (e .0 ∙ z, e .1 ∙ rw (k, eq-eqb p 0 z));
+        ready = λ z r. let e = same-plan (h ∙ picked-ready u p book (rw k (set-ready z r))) in (e .0, e .1 ∙ rw (ne-eqb p 0 z));
+        stays = λ z n. same-plan (h ∙ picked-stays u p book (rw k (not-ready z n)));
       }
 
 pub seconds-in-a-row : SecondsInARow
 seconds-in-a-row s = record { end = refl; quiet = λ e es h. rw h; second = λ e es a h. rw h }
 
 pub one-choice : OneChoice
-one-choice latest book p rec p₁ p₂ rec₁ rec₂ o a b =
+one-choice which latest book p rec p₁ p₂ rec₁ rec₂ o a b =
     elim (ℕ-discrete latest 0) [
       | yes z ↦ agree (a .zero z) (b .zero z)
       | no z ↦ elim (ℕ-discrete (standingOf (recordAt book latest)) ready) [
-        | yes e ↦ let r = stands book latest o .readyFrom e in agree (a .ready z r) (b .ready z r)
-        | no e ↦ let n : Ready (recordAt book latest) → ⊥ = λ r. e (stands book latest o .readyTo r) in agree (a .stays z n) (b .stays z n)
+        | yes e ↦ let r = stands which book latest o .readyFrom e in agree (a .ready z r) (b .ready z r)
+        | no e ↦ let n : Ready (recordAt book latest) → ⊥ = λ r. e (stands which book latest o .readyTo r) in agree (a .stays z n) (b .stays z n)
       ]
     ]
   where
@@ -132,10 +133,11 @@ seconds-leave s book h hb o =
       seq = ap (λ (t : State). t .seq) e;
       requested = ap (λ (t : State). t .requested) e;
       decoder = ap (λ (t : State). t .decoder) e;
+      which = second-which s book;
       onward = λ l. m ∙ moved-within u (s .requested) book l;
       over = λ l. (
         ap (λ (v : Running). v .position) (picked l) ∙ by-picked u (s .requested) book (λ v. v .position ≡ 0) (λ _. refl) (λ _. refl),
-        chosen book (s .requested) o u (secondOf s book .state .running) (picked l),
+        chosen (u .which) book (s .requested) o u (secondOf s book .state .running) refl (picked l),
       );
     }
 
@@ -145,51 +147,66 @@ goes-on-append : (s : State) (xs ys : List HostCall) → goesOn s (xs ++ ys) ≡
 goes-on-append s [] ys = refl
 goes-on-append s (e ∷ xs) ys = goes-on-append (next s e) xs ys
 
-module _ (own : ℕ) where
-  run-next : (past : List HostCall) (e : HostCall) → run own (past ++ (e ∷ [])) ≡ next (run own past) e
-  run-next past e = goes-on-append (startedOf own .state) past (e ∷ [])
+-- which built-in plan is kept
 
-  after-is : (past es : List HostCall) → after (crossing own) past es ≡ past ++ es
+next-which : (s : State) (e : HostCall) → next s e .running .which ≡ s .running .which
+next-which s (octet b l book out o) = ap (λ (u : Running). u .which) (octet-running s book out b)
+next-which s lineIdle = ap (λ (t : State). t .running .which) (idle-left s)
+next-which s (second book o) = second-which s book
+
+goes-on-which : (s : State) (es : List HostCall) → goesOn s es .running .which ≡ s .running .which
+goes-on-which s [] = refl
+goes-on-which s (e ∷ es) = goes-on-which (next s e) es ∙ next-which s e
+
+pub which-kept : WhichKept
+unfolding startedOf freshOf
+which-kept = (next-which, λ which own es. goes-on-which (startedOf which own .state) es)
+
+module _ (which : Which) (own : ℕ) where
+  run-next : (past : List HostCall) (e : HostCall) → run which own (past ++ (e ∷ [])) ≡ next (run which own past) e
+  run-next past e = goes-on-append (startedOf which own .state) past (e ∷ [])
+
+  after-is : (past es : List HostCall) → after (crossing which own) past es ≡ past ++ es
   after-is past [] = sym (append-nil past)
   after-is past (e ∷ es) = after-is (past ++ (e ∷ [])) es ∙ append-assoc past (e ∷ []) es
 
-  answers-are : (past es : List HostCall) → answers (crossing own) past es ≡ seconds own past es
+  answers-are : (past es : List HostCall) → answers (crossing which own) past es ≡ seconds which own past es
   answers-are past [] = refl
-  answers-are past (e ∷ es) = ap (rowThen (says (run own past) e)) (answers-are (past ++ (e ∷ [])) es ∙ ap (λ (s : State). saysOn s es) (run-next past e))
+  answers-are past (e ∷ es) = ap (rowThen (says (run which own past) e)) (answers-are (past ++ (e ∷ [])) es ∙ ap (λ (s : State). saysOn s es) (run-next past e))
 
 -- The ways that an event goes
 
-module _ (own : ℕ) (n : own ≡ all → ⊥) where
+module _ (which : Which) (own : ℕ) (n : own ≡ all → ⊥) where
   abbrev running : List HostCall → Running
-  running past = run own past .running
+  running past = run which own past .running
 
-  sound : (past : List HostCall) → soundOf (run own past) ≡ true
-  sound past = run-kept own n past .sound
+  sound : (past : List HostCall) → soundOf (run which own past) ≡ true
+  sound past = run-kept which own n past .sound
 
   parts : (past : List HostCall) → RunningParts (running past)
-  parts past = sound-parts (run own past) (sound past) .running
+  parts past = sound-parts (run which own past) (sound past) .running
 
   stands-ready : (past : List HostCall) → Ready (running past .copy)
-  stands-ready past = stands-as-it-is (running past .copy) (run-kept own n past .octets) .readyFrom (parts past .checks)
+  stands-ready past = stands-as-it-is (running past .copy) (run-kept which own n past .octets) .readyFrom (parts past .checks)
 
   -- nothing is answered and the running plan is as it was; the cycle goes on; or its last second is answered and a plan picked
   data Turn (past : List HostCall) : HostCall → Type 0 where
-    still : {e : HostCall} → says (run own past) e ≡ none → running (past ++ (e ∷ [])) ≡ running past → Turn past e
-    onward : {e : HostCall} → says (run own past) e ≡ some (shownBy (running past)) → running past .position + 1 < cycleOf (running past .copy)
-        → running (past ++ (e ∷ [])) ≡ record { plan = running past .plan; position = running past .position + 1; copy = running past .copy } → Turn past e
-    over : (book : List ℕ) (o : Octets book) → says (run own past) (second book o) ≡ some (shownBy (running past))
+    still : {e : HostCall} → says (run which own past) e ≡ none → running (past ++ (e ∷ [])) ≡ running past → Turn past e
+    onward : {e : HostCall} → says (run which own past) e ≡ some (shownBy (running past)) → running past .position + 1 < cycleOf (running past .copy)
+        → running (past ++ (e ∷ [])) ≡ record { which = running past .which; plan = running past .plan; position = running past .position + 1; copy = running past .copy } → Turn past e
+    over : (book : List ℕ) (o : Octets book) → says (run which own past) (second book o) ≡ some (shownBy (running past))
         → cycleOf (running past .copy) ≤ running past .position + 1
         → running (past ++ (second book o ∷ [])) ≡ pickedOf (running past) (latestRun own past) book → Turn past (second book o)
 
-  ran : (past : List HostCall) (e : HostCall) {u : Running} → next (run own past) e .running ≡ u → running (past ++ (e ∷ [])) ≡ u
-  ran past e h = ap (λ (s : State). s .running) (run-next own past e) ∙ h
+  ran : (past : List HostCall) (e : HostCall) {u : Running} → next (run which own past) e .running ≡ u → running (past ++ (e ∷ [])) ≡ u
+  ran past e h = ap (λ (s : State). s .running) (run-next which own past e) ∙ h
 
   turn : (past : List HostCall) (e : HostCall) → Turn past e
   unfolding noSecond
-  turn past (octet b l book out o) = still refl (ran past (octet b l book out o) (octet-running (run own past) book out b))
-  turn past lineIdle = still refl (ran past lineIdle (ap (λ (s : State). s .running) (idle-left (run own past))))
+  turn past (octet b l book out o) = still refl (ran past (octet b l book out o) (octet-running (run which own past) book out b))
+  turn past lineIdle = still refl (ran past lineIdle (ap (λ (s : State). s .running) (idle-left (run which own past))))
   turn past (second book o) =
-      let s = run own past in
+      let s = run which own past in
       let u = running past in
       elim (ℕ-discrete (length book) bookLen) [
         | yes d ↦ let a = second-done s book (sound past) d in
@@ -197,29 +214,29 @@ module _ (own : ℕ) (n : own ≡ all → ⊥) where
             elim (decLt (u .position + 1) (cycleOf (u .copy))) [
               | yes l ↦ onward (ap secondAccepted a) l (m ∙ moved-within u (s .requested) book l)
               | no l ↦ over book o (ap secondAccepted a) (omega arith)
-                  (m ∙ moved-ends u (s .requested) book (omega arith) ∙ ap (λ (p : ℕ). pickedOf u p book) (run-kept own n past .latest))
+                  (m ∙ moved-ends u (s .requested) book (omega arith) ∙ ap (λ (p : ℕ). pickedOf u p book) (run-kept which own n past .latest))
             ]
         | no d ↦ let a = second-8 s book (sound past) d in
             still (ap secondAccepted a) (ran past (second book o) (ap (λ (w : Shown). w .state .running) a))
       ]
 
   left-next : (past : List HostCall) {v : Running} → running past .position + 1 < cycleOf (running past .copy)
-      → v ≡ record { plan = running past .plan; position = running past .position + 1; copy = running past .copy }
+      → v ≡ record { which = running past .which; plan = running past .plan; position = running past .position + 1; copy = running past .copy }
       → leftOf (running past) ≡ shownBy (running past) ∷ leftOf v
   unfolding leftOf
   left-next past l m = let u = running past in left-cons u (stands-ready past) (omega arith) ∙ ap (λ (v : Running). shownBy u ∷ leftOf v) (sym m)
 
-  way-of : (past : List HostCall) (e : HostCall) → Turn past e → Way (crossing own) past e
+  way-of : (past : List HostCall) (e : HostCall) → Turn past e → Way (crossing which own) past e
   way-of past e (still q m) = way.quiet q (ap leftOf m) (λ z. ap (λ (u : Running). u .position) (sym m) ∙ z)
   way-of past e (onward q l m) =
       way.goesOn (shownBy (running past)) q (left-next past l m) (λ z. omega (arith, ap (λ (v : Running). v .position) m))
   way-of past e (over book o q l m) =
       let u = running past in
       let p = latestRun own past in
-      way.ends (shownBy u) q (left-last u (stands-ready past) (parts past .position) l) (chosen book p o u _ m)
+      way.ends (shownBy u) q (left-last u (stands-ready past) (parts past .position) l) (chosen which book p o u _ (which-kept .1 which own past) m)
       (ap (λ (v : Running). v .position) m ∙ by-picked u p book (λ v. v .position ≡ 0) (λ _. refl) (λ _. refl))
 
-  ways : Ways (crossing own) (λ past. Unit)
+  ways : Ways (crossing which own) (λ past. Unit)
   ways =
       record {
         way = λ past e _. way-of past e (turn past e);
@@ -233,8 +250,8 @@ module _ (own : ℕ) (n : own ≡ all → ⊥) where
   -- until its last second is answered a cycle is of one plan and one record
   abbrev OnePlan : List HostCall → List HostCall → Type 0
   OnePlan past es =
-      length (answers (crossing own) past es) < length (leftOf (running past))
-      → (running (after (crossing own) past es) .plan ≡ running past .plan) × (running (after (crossing own) past es) .copy ≡ running past .copy)
+      length (answers (crossing which own) past es) < length (leftOf (running past))
+      → (running (after (crossing which own) past es) .plan ≡ running past .plan) × (running (after (crossing which own) past es) .copy ≡ running past .copy)
 
   one-plan-on : (past : List HostCall) (e : HostCall) (es : List HostCall) → Turn past e → OnePlan (past ++ (e ∷ [])) es → OnePlan past (e ∷ es)
   one-plan-on past e es (still q m) i h =
@@ -255,53 +272,53 @@ module _ (own : ℕ) (n : own ≡ all → ⊥) where
   -- Whole cycles
 
   abbrev Due : List HostCall → List HostCall → Type 0
-  Due past es = CyclesInRun own (running past .plan) (running past .copy) past es
+  Due past es = CyclesInRun which own (running past .plan) (running past .copy) past es
 
   -- a whole cycle put before
-  put-before : (past before : List HostCall) (e : HostCall) (es : List HostCall) → Whole (crossing own) past before e → running past .position ≡ 0
-      → Due (after (crossing own) past before ++ (e ∷ [])) es → Due past (before ++ (e ∷ es))
+  put-before : (past before : List HostCall) (e : HostCall) (es : List HostCall) → Whole (crossing which own) past before e → running past .position ≡ 0
+      → Due (after (crossing which own) past before ++ (e ∷ [])) es → Due past (before ++ (e ∷ es))
   put-before past before (octet b l book out o) es w z c = absurd (w .picks)
   put-before past before lineIdle es w z c = absurd (w .picks)
   put-before past before (second book o) es w z c =
-      let now = after (crossing own) past before in
+      let now = after (crossing which own) past before in
       let later = now ++ (second book o ∷ []) in
       let u = running past in
       let v = running later in
-      let q = after-is own past before in
+      let q = after-is which own past before in
       let r = ap (λ (a : List HostCall). a ++ (second book o ∷ [])) q ∙ append-assoc past before (second book o ∷ []) in
-      let m = one-plan past before (omega (arith, ap length (w .rows), length-append (answers (crossing own) past before) (w .last ∷ []))) in
-      let rule : Chosen (latestRun own now) book (u .plan) (u .copy) (v .plan) (v .copy) = rw (m .0, m .1) at (w .picks) in
+      let m = one-plan past before (omega (arith, ap length (w .rows), length-append (answers (crossing which own) past before) (w .last ∷ []))) in
+      let rule : Chosen which (latestRun own now) book (u .plan) (u .copy) (v .plan) (v .copy) = rw (m .0, m .1) at (w .picks) in
       whole before book o (w .last) (v .plan) (v .copy)
-      (subst (λ (a : List HostCall). says (run own a) (second book o) ≡ some (w .last)) q (w .answered))
-      (ap (λ (xs : List Second). xs ++ (w .last ∷ [])) (sym (answers-are own past before)) ∙ w .rows ∙ left-starts u z)
-      (subst (λ (a : List HostCall). Chosen (latestRun own a) book (u .plan) (u .copy) (v .plan) (v .copy)) q rule)
+      (subst (λ (a : List HostCall). says (run which own a) (second book o) ≡ some (w .last)) q (w .answered))
+      (ap (λ (xs : List Second). xs ++ (w .last ∷ [])) (sym (answers-are which own past before)) ∙ w .rows ∙ left-starts u z)
+      (subst (λ (a : List HostCall). Chosen which (latestRun own a) book (u .plan) (u .copy) (v .plan) (v .copy)) q rule)
       (stands-ready later)
-      (subst (λ (a : List HostCall). CyclesInRun own (v .plan) (v .copy) a es) r c)
+      (subst (λ (a : List HostCall). CyclesInRun which own (v .plan) (v .copy) a es) r c)
 
-  cycles-due : {past es : List HostCall} → Cycles (crossing own) past es → running past .position ≡ 0 → Due past es
+  cycles-due : {past es : List HostCall} → Cycles (crossing which own) past es → running past .position ≡ 0 → Due past es
   cycles-due {past} {es} (cycles.unfinished u) z =
-      unfinished (u .rest) (ap (λ (xs : List Second). xs ++ u .rest) (sym (answers-are own past es)) ∙ u .rows ∙ left-starts (running past) z) (u .more)
+      unfinished (u .rest) (ap (λ (xs : List Second). xs ++ u .rest) (sym (answers-are which own past es)) ∙ u .rows ∙ left-starts (running past) z) (u .more)
   cycles-due {past} (cycles.whole {before} {second = e} {es} w c) z = put-before past before e es w z (cycles-due c (w .start))
   cycles-due {past} (cycles.altered a c) z = absurd (a .alters)
 
 pub crossing-cycles : CrossingCycles
-crossing-cycles own n es = cycles-run.whole-cycles (crossing own) (λ past. Unit) (ways own n) [] tt es
+crossing-cycles which own n es = cycles-run.whole-cycles (crossing which own) (λ past. Unit) (ways which own n) [] tt es
 
 pub runs-whole-cycles : RunsWholeCycles
 unfolding startedOf freshOf
-runs-whole-cycles own n es = cycles-due own n (crossing-cycles own n es) refl
+runs-whole-cycles which own n es = cycles-due which own n (crossing-cycles which own n es) refl
 
 -- Any 1,799
 
 pub crossing-holds : CrossingHolds
 unfolding startedOf freshOf
-crossing-holds own n es = window 900 (crossing own) (λ past. Unit) (ways own n) (λ past _. most own n past) [] tt refl es
+crossing-holds which own n es = window 900 (crossing which own) (λ past. Unit) (ways which own n) (λ past _. most which own n past) [] tt refl es
 
-holds-whole : (own : ℕ) → (own ≡ all → ⊥) → (es : List HostCall) (n : ℕ) → HoldsCycle (crossing own) [] es n 900 1799 → HoldsWhole own es n
-holds-whole own a es n h =
-    let M = crossing own in
+holds-whole : (which : Which) (own : ℕ) → (own ≡ all → ⊥) → (es : List HostCall) (n : ℕ) → HoldsCycle (crossing which own) [] es n 900 1799 → HoldsWhole which own es n
+holds-whole which own a es n h =
+    let M = crossing which own in
     let start = after M [] (h .before) in
-    let u = running own a start in
+    let u = running which own a start in
     let cycle : answers M start (h .during) ≡ cycleOfPlan (u .plan) (u .copy) = h .whole ∙ left-starts u (h .start) in
     record {
       plan = u .plan;
@@ -309,7 +326,7 @@ holds-whole own a es n h =
       before = answers M [] (h .before);
       later = answers M (after M start (h .during)) (h .later);
       run =
-          sym (answers-are own [] es) ∙ ap (answers M []) (h .run ∙ append-assoc (h .before) (h .during) (h .later))
+          sym (answers-are which own [] es) ∙ ap (answers M []) (h .run ∙ append-assoc (h .before) (h .during) (h .later))
           ∙ answers-append M [] (h .before) (h .during ++ h .later) ∙ rw (answers-append M start (h .during) (h .later), cycle);
       from = h .from;
       soon = h .soon;
@@ -321,12 +338,12 @@ holds-whole own a es n h =
             length-append (answers M [] (h .before)) (answers M start (h .during)),
             ap length cycle,
           );
-      stands = stands-ready own a start;
-      phases = λ i l. whole-phases (u .copy) i (stands-ready own a start) l;
+      stands = stands-ready which own a start;
+      phases = λ i l. whole-phases (u .copy) i (stands-ready which own a start) l;
     }
 
 pub any-window : AnyWindow
-any-window own a es n l = holds-whole own a es n (crossing-holds own a es n (rw (answers-are own [] es) l))
+any-window which own a es n l = holds-whole which own a es n (crossing-holds which own a es n (rw (answers-are which own [] es) l))
 
 -- Sets
 
@@ -347,6 +364,6 @@ between-running s (lineIdle ∷ es) q = between-running (lineIdleOf s .state) es
 between-running s (second book o ∷ es) q = absurd q
 
 pub sets-never-alter : SetsNeverAlter
-sets-never-alter own n past between book o q =
-    same-shown (run own (past ++ between)) (run own past) book (sound own n (past ++ between)) (sound own n past)
-    (ap (λ (s : State). s .running) (goes-on-append (startedOf own .state) past between) ∙ between-running (run own past) between q)
+sets-never-alter which own n past between book o q =
+    same-shown (run which own (past ++ between)) (run which own past) book (sound which own n (past ++ between)) (sound which own n past)
+    (ap (λ (s : State). s .running) (goes-on-append (startedOf which own .state) past between) ∙ between-running (run which own past) between q)

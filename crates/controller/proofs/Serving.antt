@@ -33,6 +33,7 @@ use Rattle.message.proofs.WrittenSo.{written-so}
 use Rattle.message.proofs.RoundTrips.{writing-undoes-reading}
 use Rattle.record.specs.Record.{recordLen, bookLen, plansMost, empty, ready, kOf, timesEnd, greensAt, readyEnd, Ready}
 use Rattle.checks.specs.Standing.{standingOf, Stands}
+use Rattle.plan.specs.declared.Which.{Which}
 use Rattle.plan.specs.Reading.{recordStart, recordAt}
 use Rattle.plan.specs.Setting.{Setting, setTimesCode, setPlanCode, planIn, countIn, setTimesOf, setPlanOf}
 use Rattle.plan.specs.Reporting.{reportPlanCode, reportRunningCode, timesInfo, planInfo, reportTimesOf, reportPlanOf}
@@ -349,37 +350,37 @@ module _ (u : Running) (requested : ℕ) (book info : List ℕ) where
       rw (ne-eqb c setTimesCode a, ne-eqb c setPlanCode b, ne-eqb c runCode d, ne-eqb c queryTimesCode e, ne-eqb c queryPlanCode f, ne-eqb c queryRunningCode g)
 
   module _ (r : readOf info .refusal ≡ refusal.none) where
-    at-run : c ≡ runCode → standingOf (planRecord book p) ≡ ready → H ≡ carried p book
+    at-run : c ≡ runCode → standingOf (planRecord (u .which) book p) ≡ ready → H ≡ carried p book
     unfolding handlingOf runAs
-    at-run e h = rw (e, eq-eqb (readOf info .refusal) refusal.none r, eq-eqb (standingOf (planRecord book p)) ready h)
+    at-run e h = rw (e, eq-eqb (readOf info .refusal) refusal.none r, eq-eqb (standingOf (planRecord (u .which) book p)) ready h)
 
-    at-no-run : c ≡ runCode → (standingOf (planRecord book p) ≡ ready → ⊥) → H ≡ declined refusal.notReady planAt book
+    at-no-run : c ≡ runCode → (standingOf (planRecord (u .which) book p) ≡ ready → ⊥) → H ≡ declined refusal.notReady planAt book
     unfolding handlingOf runAs
-    at-no-run e n = rw (e, eq-eqb (readOf info .refusal) refusal.none r, ne-eqb (standingOf (planRecord book p)) ready n)
+    at-no-run e n = rw (e, eq-eqb (readOf info .refusal) refusal.none r, ne-eqb (standingOf (planRecord (u .which) book p)) ready n)
 
-    at-query-times : c ≡ queryTimesCode → (standingOf (planRecord book p) ≡ empty → ⊥) → H ≡ handling.reads (handling.accepted requested (reportTimesOf (planRecord book p) p)) book
+    at-query-times : c ≡ queryTimesCode → (standingOf (planRecord (u .which) book p) ≡ empty → ⊥) → H ≡ handling.reads (handling.accepted requested (reportTimesOf (planRecord (u .which) book p) p)) book
     unfolding handlingOf queryTimesAs
-    at-query-times e n = rw (e, eq-eqb (readOf info .refusal) refusal.none r, ne-eqb (standingOf (planRecord book p)) empty n)
+    at-query-times e n = rw (e, eq-eqb (readOf info .refusal) refusal.none r, ne-eqb (standingOf (planRecord (u .which) book p)) empty n)
 
-    at-no-times : c ≡ queryTimesCode → standingOf (planRecord book p) ≡ empty → H ≡ declined refusal.notReady planAt book
+    at-no-times : c ≡ queryTimesCode → standingOf (planRecord (u .which) book p) ≡ empty → H ≡ declined refusal.notReady planAt book
     unfolding handlingOf queryTimesAs
-    at-no-times e h = rw (e, eq-eqb (readOf info .refusal) refusal.none r, eq-eqb (standingOf (planRecord book p)) empty h)
+    at-no-times e h = rw (e, eq-eqb (readOf info .refusal) refusal.none r, eq-eqb (standingOf (planRecord (u .which) book p)) empty h)
 
-    at-query-plan : c ≡ queryPlanCode → standingOf (planRecord book p) ≡ ready
-        → H ≡ handling.reads (handling.accepted requested (reportPlanOf (planRecord book p) p reportPlanCode)) book
+    at-query-plan : c ≡ queryPlanCode → standingOf (planRecord (u .which) book p) ≡ ready
+        → H ≡ handling.reads (handling.accepted requested (reportPlanOf (planRecord (u .which) book p) p reportPlanCode)) book
     unfolding handlingOf queryPlanAs
-    at-query-plan e h = rw (e, eq-eqb (readOf info .refusal) refusal.none r, eq-eqb (standingOf (planRecord book p)) ready h)
+    at-query-plan e h = rw (e, eq-eqb (readOf info .refusal) refusal.none r, eq-eqb (standingOf (planRecord (u .which) book p)) ready h)
 
-    at-no-plan : c ≡ queryPlanCode → (standingOf (planRecord book p) ≡ ready → ⊥) → H ≡ declined refusal.notReady planAt book
+    at-no-plan : c ≡ queryPlanCode → (standingOf (planRecord (u .which) book p) ≡ ready → ⊥) → H ≡ declined refusal.notReady planAt book
     unfolding handlingOf queryPlanAs
-    at-no-plan e n = rw (e, eq-eqb (readOf info .refusal) refusal.none r, ne-eqb (standingOf (planRecord book p)) ready n)
+    at-no-plan e n = rw (e, eq-eqb (readOf info .refusal) refusal.none r, ne-eqb (standingOf (planRecord (u .which) book p)) ready n)
 
     at-query-running : c ≡ queryRunningCode → H ≡ handling.reads (handling.accepted requested (reportPlanOf (u .copy) (u .plan) reportRunningCode)) book
     unfolding handlingOf queryRunningAs
     at-query-running e = rw (e, eq-eqb (readOf info .refusal) refusal.none r)
 
 -- what holds of the record that the calls read holds of the plan's
-of-plan : {book : List ℕ} {p : ℕ} {q : List ℕ} (P : List ℕ → Type 0) → RecordOfPlan book p q → P (planRecord book p) → P q
+of-plan : {which : Which} {book : List ℕ} {p : ℕ} {q : List ℕ} (P : List ℕ → Type 0) → RecordOfPlan which book p q → P (planRecord which book p) → P q
 of-plan P RecordOfPlan.zero x = x
 of-plan P (RecordOfPlan.other p n) x = rw (ne-eqb p 0 n) at x
 
@@ -408,10 +409,10 @@ module _ (s : State) (seq addr : ℕ) (book info : List ℕ) (w : Call) where
     by e = subst By e v
 
     abbrev rec : List ℕ
-    rec = planRecord book (planIn (bodyIn info))
+    rec = planRecord (s .running .which) book (planIn (bodyIn info))
 
     ro : Octets rec
-    ro = record-octets book (planIn (bodyIn info)) ob
+    ro = record-octets (s .running .which) book (planIn (bodyIn info)) ob
 
     stands : Stands rec
     stands = stands-as-it-is rec ro
@@ -427,7 +428,7 @@ module _ (s : State) (seq addr : ℕ) (book info : List ℕ) (w : Call) where
         go (no g) = absurd (n (stands-has rec ro g))
 
     most : (standingOf rec ≡ empty → ⊥) → planIn (bodyIn info) ≤ plansMost
-    most n = plan-most book (planIn (bodyIn info)) hb n
+    most n = plan-most (s .running .which) book (planIn (bodyIn info)) hb n
 
     handled-so : HandledSo s seq addr book info w
     handled-so =

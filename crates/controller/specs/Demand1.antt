@@ -12,6 +12,7 @@ use Rattle.frame.specs.declared.Kind.the-variants.{Message}
 use Rattle.frame.specs.declared.decoder.Place.the-variants.{Idle}
 use Rattle.frame.specs.Decoder.{possibleOf}
 use Rattle.record.specs.Record.{recordLen, plansMost, bookLen, cycleOf, Ready}
+use Rattle.plan.specs.declared.Which.{Which}
 use Rattle.plan.specs.BuiltIn.{builtIn}
 use Rattle.controller.specs.declared.Running.{Running}
 use Rattle.controller.specs.declared.State.{State}
@@ -24,12 +25,13 @@ use Rattle.controller.specs.Seconds.{startedOf, secondOf}
 
 -- Which states are sound
 
--- "position outside the cycle, running plan over 48, failing the checks, or numbered 0 and unlike the built-in": none of these
+-- "position outside the cycle, running plan over 48, failing the checks, or numbered 0 and unlike the built-in": none of these; 02, E1: the
+-- built-in is the one kept, and the other is unlike it
 pub record RunningSound (u : Running) : Type 0 where
   pub position : u .position < cycleOf (u .copy)
   pub plan : u .plan ≤ 48
   pub checks : Ready (u .copy)
-  pub zero : u .plan ≡ 0 → u .copy ≡ builtIn
+  pub zero : u .plan ≡ 0 → u .copy ≡ builtIn (u .which)
 
 -- nor "own address FFFF, requested plan over 48, .. impossible decoder place"
 pub record Sound (s : State) : Type 0 where
@@ -130,27 +132,29 @@ IdlesAnswered = (s : State) → IdleAnswered s
 
 -- The fresh start
 
--- "A fresh start runs and requests plan 0 at position 0"; "Our SEQ starts at 0"; its decoder is idle, and nothing is kept in it
-abbrev pub FreshAt : ℕ → State → Type 0
-FreshAt own t =
+-- "A fresh start runs and requests plan 0 at position 0"; "Our SEQ starts at 0"; its decoder is idle, and nothing is kept in it; 02, E1:
+-- "The state keeps which one", and plan 0 is that one
+abbrev pub FreshAt : Which → ℕ → State → Type 0
+FreshAt which own t =
     t ≡ record {
       own = own;
       seq = 0;
       requested = 0;
       decoder = record { head = record { place = Idle; kind = Message; seq = 0; err = 0; addr = 0; len = 0; filled = 0 }; info = replicate 256 0 };
-      running = record { plan = 0; position = 0; copy = builtIn };
+      running = record { which = which; plan = 0; position = 0; copy = builtIn which };
     }
 
--- "fresh start with address FFFF": "a fresh state but for own address FFFF, so unsound"
-pub record StartAnswered (own : ℕ) : Type 0 where
-  pub state : FreshAt own (startedOf own .state)
-  pub others : startedOf own ≡ record { refusal = startedOf own .refusal; state = startedOf own .state }
-  pub fresh : FreshAt own (freshOf own)
-  pub refused : own ≡ 0xFFFF → (startedOf own .refusal ≡ 6) × (soundOf (startedOf own .state) ≡ false)
-  pub done : (own ≡ 0xFFFF → ⊥) → (startedOf own .refusal ≡ 0) × (soundOf (startedOf own .state) ≡ true)
+-- "fresh start with address FFFF": "a fresh state but for own address FFFF, so unsound"; which one is kept there too
+pub record StartAnswered (which : Which) (own : ℕ) : Type 0 where
+  pub state : FreshAt which own (startedOf which own .state)
+  pub others : startedOf which own ≡ record { refusal = startedOf which own .refusal; state = startedOf which own .state }
+  pub fresh : FreshAt which own (freshOf which own)
+  pub refused : own ≡ 0xFFFF → (startedOf which own .refusal ≡ 6) × (soundOf (startedOf which own .state) ≡ false)
+  pub done : (own ≡ 0xFFFF → ⊥) → (startedOf which own .refusal ≡ 0) × (soundOf (startedOf which own .state) ≡ true)
 
+-- both starts: "A start call that names the old built-in plan stays .. the plain start takes the new one."
 abbrev pub StartsAnswered : Type 0
-StartsAnswered = (own : ℕ) → StartAnswered own
+StartsAnswered = (which : Which) (own : ℕ) → StartAnswered which own
 
 -- What is left alone
 

@@ -16,6 +16,7 @@ use Rattle.frame.specs.Decoder.{takenOf}
 use Rattle.frame.specs.Run.{Outcome, nothing, refused, sound, outcomeOf}
 use Rattle.message.specs.Reader.{codeIn, bodyIn, readOf}
 use Rattle.record.specs.Record.{orderOf, Ready}
+use Rattle.plan.specs.declared.Which.{Which}
 use Rattle.plan.specs.BuiltIn.{builtIn}
 use Rattle.plan.specs.Promises.{HasTimes, Fit14, Fit15}
 use Rattle.plan.specs.Reading.{recordAt}
@@ -143,10 +144,11 @@ pub record Refused (s : State) (seq addr n m : ℕ) (before info : List ℕ) (w 
   pub book : w .book ≡ before
   pub requested : w .answer .state .requested ≡ s .requested
 
--- rec is the record of plan p: "Plan 0 is built in", every other plan has its own in the book
-pub data RecordOfPlan (book : List ℕ) : ℕ → List ℕ → Type 0 where
-  zero : RecordOfPlan book 0 builtIn
-  other : (p : ℕ) → (p ≡ 0 → ⊥) → RecordOfPlan book p (recordAt book p)
+-- rec is the record of plan p: "Plan 0 is built in", and 02, E1: "plan 0 means that one throughout" which is kept; every other plan has its
+-- own in the book
+pub data RecordOfPlan (which : Which) (book : List ℕ) : ℕ → List ℕ → Type 0 where
+  zero : RecordOfPlan which book 0 (builtIn which)
+  other : (p : ℕ) → (p ≡ 0 → ⊥) → RecordOfPlan which book p (recordAt book p)
 
 -- a sound message frame for us or for all, in an octet call that is done
 pub record HandledSo (s : State) (seq addr : ℕ) (book info : List ℕ) (w : Call) : Type 0 where
@@ -162,19 +164,19 @@ pub record HandledSo (s : State) (seq addr : ℕ) (book info : List ℕ) (w : Ca
   pub unread : (codeIn info ≡ 0x5F18) ⊎ ((codeIn info ≡ 0x5F44) ⊎ ((codeIn info ≡ 0x5F45) ⊎ (codeIn info ≡ 0x5F48)))
       → (readOf info .refusal ≡ 0 → ⊥) → Refused s seq addr (readOf info .refusal) (readOf info .field) book info w
   -- 5F 18: "notes the requested plan", 13 for one not ready
-  pub run : (rec : List ℕ) → codeIn info ≡ 0x5F18 → readOf info .refusal ≡ 0 → RecordOfPlan book (planIn (bodyIn info)) rec → Ready rec
+  pub run : (rec : List ℕ) → codeIn info ≡ 0x5F18 → readOf info .refusal ≡ 0 → RecordOfPlan (s .running .which) book (planIn (bodyIn info)) rec → Ready rec
       → CarriedOut s seq addr (planIn (bodyIn info)) book info w
-  pub noRun : (rec : List ℕ) → codeIn info ≡ 0x5F18 → readOf info .refusal ≡ 0 → RecordOfPlan book (planIn (bodyIn info)) rec → (Ready rec → ⊥)
+  pub noRun : (rec : List ℕ) → codeIn info ≡ 0x5F18 → readOf info .refusal ≡ 0 → RecordOfPlan (s .running .which) book (planIn (bodyIn info)) rec → (Ready rec → ⊥)
       → Refused s seq addr 13 1 book info w
   -- 5F 44: the report 5F C4, 13 for an empty plan
-  pub queryTimes : (rec : List ℕ) → codeIn info ≡ 0x5F44 → readOf info .refusal ≡ 0 → RecordOfPlan book (planIn (bodyIn info)) rec → HasTimes rec
+  pub queryTimes : (rec : List ℕ) → codeIn info ≡ 0x5F44 → readOf info .refusal ≡ 0 → RecordOfPlan (s .running .which) book (planIn (bodyIn info)) rec → HasTimes rec
       → Reported s seq addr book (timesInfo rec (planIn (bodyIn info))) w
-  pub noTimesYet : (rec : List ℕ) → codeIn info ≡ 0x5F44 → readOf info .refusal ≡ 0 → RecordOfPlan book (planIn (bodyIn info)) rec → (HasTimes rec → ⊥)
+  pub noTimesYet : (rec : List ℕ) → codeIn info ≡ 0x5F44 → readOf info .refusal ≡ 0 → RecordOfPlan (s .running .which) book (planIn (bodyIn info)) rec → (HasTimes rec → ⊥)
       → Refused s seq addr 13 1 book info w
   -- 5F 45: the report 5F C5, 13 for one not ready
-  pub queryPlan : (rec : List ℕ) → codeIn info ≡ 0x5F45 → readOf info .refusal ≡ 0 → RecordOfPlan book (planIn (bodyIn info)) rec → Ready rec
+  pub queryPlan : (rec : List ℕ) → codeIn info ≡ 0x5F45 → readOf info .refusal ≡ 0 → RecordOfPlan (s .running .which) book (planIn (bodyIn info)) rec → Ready rec
       → Reported s seq addr book (planInfo rec (planIn (bodyIn info)) 0x5FC5) w
-  pub noPlanYet : (rec : List ℕ) → codeIn info ≡ 0x5F45 → readOf info .refusal ≡ 0 → RecordOfPlan book (planIn (bodyIn info)) rec → (Ready rec → ⊥)
+  pub noPlanYet : (rec : List ℕ) → codeIn info ≡ 0x5F45 → readOf info .refusal ≡ 0 → RecordOfPlan (s .running .which) book (planIn (bodyIn info)) rec → (Ready rec → ⊥)
       → Refused s seq addr 13 1 book info w
   -- 5F 48: the report 5F C8 of the running copy
   pub queryRunning : codeIn info ≡ 0x5F48 → readOf info .refusal ≡ 0 → Reported s seq addr book (planInfo (s .running .copy) (s .running .plan) 0x5FC8) w

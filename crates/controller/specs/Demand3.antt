@@ -3,6 +3,9 @@
 -- cycle before it is answered: the plan of the latest run message carried out (0 if none) if it is plan 0 or ready in the book,
 -- else the plan just run. So any 1,799 accepted seconds in a row hold a whole cycle, every phase with its full green, yellow and
 -- all-red."
+--
+-- 02, E1: "The state keeps which one, and plan 0 means that one throughout .. Demand 3 is read so.": all of it holds for both starts, and the
+-- plan 0 of a run is that of its start.
 use Prim.Native.Nat.{ℕ, _+_, _≤_, _<_}
 use mathlib.Core.Path.{_≡_}
 use mathlib.Core.Bool.{Bool, true}
@@ -20,6 +23,7 @@ use Rattle.frame.specs.Run.{Outcome, nothing, refused, sound, outcomeOf}
 use Rattle.message.specs.Reader.{codeIn, bodyIn, readOf}
 use Rattle.record.specs.Record.{kOf, cycleOf, Ready}
 use Rattle.checks.specs.Standing.{standingOf}
+use Rattle.plan.specs.declared.Which.{Which}
 use Rattle.plan.specs.BuiltIn.{builtIn}
 use Rattle.plan.specs.Reading.{recordAt}
 use Rattle.plan.specs.Setting.{planIn}
@@ -53,8 +57,8 @@ abbrev pub goesOn : State → List HostCall → State
 goesOn s [] = s
 goesOn s (e ∷ es) = goesOn (next s e) es
 
-abbrev pub run : ℕ → List HostCall → State
-run own es = goesOn (startedOf own .state) es
+abbrev pub run : Which → ℕ → List HostCall → State
+run which own es = goesOn (startedOf which own .state) es
 
 -- what an accepted second shows: the plan, the step, the seconds left and both words
 pub record Second : Type 0 where
@@ -86,8 +90,14 @@ abbrev pub SecondsInARow : Type 0
 SecondsInARow = (s : State) → InARow s
 
 -- the accepted seconds of the events es, after those of `past`
-abbrev pub seconds : ℕ → List HostCall → List HostCall → List Second
-seconds own past es = saysOn (run own past) es
+abbrev pub seconds : Which → ℕ → List HostCall → List HostCall → List Second
+seconds which own past es = saysOn (run which own past) es
+
+-- "The state keeps which one": no call changes it, whatever it is handed and whether it is refused or done; over any run it is that of the start
+abbrev pub WhichKept : Type 0
+WhichKept =
+    ((s : State) (e : HostCall) → next s e .running .which ≡ s .running .which)
+    × ((which : Which) (own : ℕ) (es : List HostCall) → run which own es .running .which ≡ which)
 
 -- "The latest run message carried out", told from the octets handed in
 
@@ -134,7 +144,7 @@ latestRun own es = hearsOn own (record { decoder = freshDecoder; latest = 0 }) e
 
 -- it is what the state keeps
 abbrev pub LatestKept : Type 0
-LatestKept = (own : ℕ) → (own ≡ 0xFFFF → ⊥) → (es : List HostCall) → run own es .requested ≡ latestRun own es
+LatestKept = (which : Which) (own : ℕ) → (own ≡ 0xFFFF → ⊥) → (es : List HostCall) → run which own es .requested ≡ latestRun own es
 
 -- Whole cycles
 
@@ -143,17 +153,17 @@ abbrev pub cycleOfPlan : ℕ → List ℕ → List Second
 cycleOfPlan p rec = map (secondOfPlan p) (rowsOf rec)
 
 -- plan p′ with record rec′ runs next: "the plan of the latest run message carried out (0 if none) if it is plan 0 or ready in
--- the book, else the plan just run"
-pub record Chosen (latest : ℕ) (book : List ℕ) (p : ℕ) (rec : List ℕ) (p′ : ℕ) (rec′ : List ℕ) : Type 0 where
-  pub zero : latest ≡ 0 → (p′ ≡ 0) × (rec′ ≡ builtIn)
+-- the book, else the plan just run"; a choice of plan 0 is the one that is kept
+pub record Chosen (which : Which) (latest : ℕ) (book : List ℕ) (p : ℕ) (rec : List ℕ) (p′ : ℕ) (rec′ : List ℕ) : Type 0 where
+  pub zero : latest ≡ 0 → (p′ ≡ 0) × (rec′ ≡ builtIn which)
   pub ready : (latest ≡ 0 → ⊥) → Ready (recordAt book latest) → (p′ ≡ latest) × (rec′ ≡ recordAt book latest)
   pub stays : (latest ≡ 0 → ⊥) → (Ready (recordAt book latest) → ⊥) → (p′ ≡ p) × (rec′ ≡ rec)
 
 -- the rule leaves one choice
 abbrev pub OneChoice : Type 0
 OneChoice =
-    (latest : ℕ) (book : List ℕ) (p : ℕ) (rec : List ℕ) (p₁ p₂ : ℕ) (rec₁ rec₂ : List ℕ) → Octets book
-    → Chosen latest book p rec p₁ rec₁ → Chosen latest book p rec p₂ rec₂ → (p₁ ≡ p₂) × (rec₁ ≡ rec₂)
+    (which : Which) (latest : ℕ) (book : List ℕ) (p : ℕ) (rec : List ℕ) (p₁ p₂ : ℕ) (rec₁ rec₂ : List ℕ) → Octets book
+    → Chosen which latest book p rec p₁ rec₁ → Chosen which latest book p rec p₂ rec₂ → (p₁ ≡ p₂) × (rec₁ ≡ rec₂)
 
 -- "A second call answers .., then moves on. The call that answers a cycle's last second also picks the next plan": what a second
 -- leaves, by the fields of the state; "the request stays"
@@ -162,42 +172,43 @@ pub record SecondLeft (s : State) (book : List ℕ) (t : State) : Type 0 where
   pub seq : t .seq ≡ s .seq
   pub requested : t .requested ≡ s .requested
   pub decoder : t .decoder ≡ s .decoder
+  pub which : t .running .which ≡ s .running .which
   pub onward : s .running .position + 1 < cycleOf (s .running .copy)
-      → t .running ≡ record { plan = s .running .plan; position = s .running .position + 1; copy = s .running .copy }
+      → t .running ≡ record { which = s .running .which; plan = s .running .plan; position = s .running .position + 1; copy = s .running .copy }
   pub over : cycleOf (s .running .copy) ≤ s .running .position + 1
-      → (t .running .position ≡ 0) × Chosen (s .requested) book (s .running .plan) (s .running .copy) (t .running .plan) (t .running .copy)
+      → (t .running .position ≡ 0) × Chosen (s .running .which) (s .requested) book (s .running .plan) (s .running .copy) (t .running .plan) (t .running .copy)
 
 abbrev pub SecondsLeave : Type 0
 SecondsLeave = (s : State) (book : List ℕ) → soundOf s ≡ true → length book ≡ 3840 → Octets book → SecondLeft s book (secondOf s book .state)
 
 -- After the events `past` a cycle of plan p with record rec is due; the accepted seconds of the events es are that cycle and
 -- others after it, one by one.
-pub data CyclesInRun (own : ℕ) : ℕ → List ℕ → List HostCall → List HostCall → Type 0 where
+pub data CyclesInRun (which : Which) (own : ℕ) : ℕ → List ℕ → List HostCall → List HostCall → Type 0 where
   -- "the last perhaps unfinished": rows of it are still to come
-  unfinished : {p : ℕ} {rec : List ℕ} {past es : List HostCall} (rest : List Second) → seconds own past es ++ rest ≡ cycleOfPlan p rec → 0 < length rest
-      → CyclesInRun own p rec past es
+  unfinished : {p : ℕ} {rec : List ℕ} {past es : List HostCall} (rest : List Second) → seconds which own past es ++ rest ≡ cycleOfPlan p rec → 0 < length rest
+      → CyclesInRun which own p rec past es
   -- `before` and then the second call with `book` answer the whole cycle, that call its last second; it chooses the next
   whole : {p : ℕ} {rec : List ℕ} {past es : List HostCall} (before : List HostCall) (book : List ℕ) (o : Octets book) (last : Second) (p′ : ℕ) (rec′ : List ℕ)
-      → says (run own (past ++ before)) (second book o) ≡ some last
-      → seconds own past before ++ (last ∷ []) ≡ cycleOfPlan p rec
-      → Chosen (latestRun own (past ++ before)) book p rec p′ rec′ → Ready rec′
-      → CyclesInRun own p′ rec′ (past ++ (before ++ (second book o ∷ []))) es
-      → CyclesInRun own p rec past (before ++ (second book o ∷ es))
+      → says (run which own (past ++ before)) (second book o) ≡ some last
+      → seconds which own past before ++ (last ∷ []) ≡ cycleOfPlan p rec
+      → Chosen which (latestRun own (past ++ before)) book p rec p′ rec′ → Ready rec′
+      → CyclesInRun which own p′ rec′ (past ++ (before ++ (second book o ∷ []))) es
+      → CyclesInRun which own p rec past (before ++ (second book o ∷ es))
 
--- "The first is plan 0"
+-- "The first is plan 0", that of its start
 abbrev pub RunsWholeCycles : Type 0
-RunsWholeCycles = (own : ℕ) → (own ≡ 0xFFFF → ⊥) → (es : List HostCall) → CyclesInRun own 0 builtIn [] es
+RunsWholeCycles = (which : Which) (own : ℕ) → (own ≡ 0xFFFF → ⊥) → (es : List HostCall) → CyclesInRun which own 0 (builtIn which) [] es
 
 -- Any 1,799
 
 -- of the accepted seconds of the run, counted from 0, those from number n on hold a whole cycle, which begins within the first
 -- 900 and ends within the first 1,799; each of its phases stands whole in it
-pub record HoldsWhole (own : ℕ) (es : List HostCall) (n : ℕ) : Type 0 where
+pub record HoldsWhole (which : Which) (own : ℕ) (es : List HostCall) (n : ℕ) : Type 0 where
   pub plan : ℕ
   pub rec : List ℕ
   pub before : List Second
   pub later : List Second
-  pub run : seconds own [] es ≡ before ++ (cycleOfPlan plan rec ++ later)
+  pub run : seconds which own [] es ≡ before ++ (cycleOfPlan plan rec ++ later)
   pub from : n ≤ length before
   pub soon : length before < n + 900
   pub within : length before + length (cycleOfPlan plan rec) ≤ n + 1799
@@ -205,7 +216,8 @@ pub record HoldsWhole (own : ℕ) (es : List HostCall) (n : ℕ) : Type 0 where
   pub phases : (i : ℕ) → i < kOf rec → PhaseWhole rec i
 
 abbrev pub AnyWindow : Type 0
-AnyWindow = (own : ℕ) → (own ≡ 0xFFFF → ⊥) → (es : List HostCall) (n : ℕ) → n + 1799 ≤ length (seconds own [] es) → HoldsWhole own es n
+AnyWindow =
+    (which : Which) (own : ℕ) → (own ≡ 0xFFFF → ⊥) → (es : List HostCall) (n : ℕ) → n + 1799 ≤ length (seconds which own [] es) → HoldsWhole which own es n
 
 -- Sets
 
@@ -220,8 +232,8 @@ NoSecond (second book _ ∷ es) = ⊥
 -- without them
 abbrev pub SetsNeverAlter : Type 0
 SetsNeverAlter =
-    (own : ℕ) → (own ≡ 0xFFFF → ⊥) → (past between : List HostCall) (book : List ℕ) (o : Octets book) → NoSecond between
-    → says (run own (past ++ between)) (second book o) ≡ says (run own past) (second book o)
+    (which : Which) (own : ℕ) → (own ≡ 0xFFFF → ⊥) → (past between : List HostCall) (book : List ℕ) (o : Octets book) → NoSecond between
+    → says (run which own (past ++ between)) (second book o) ≡ says (run which own past) (second book o)
 
 -- The controller as a machine of the crate `cycles`, from whose theorems whole cycles and the window follow
 
@@ -230,32 +242,32 @@ unfoldable pub leftOf : Running → List Second
 leftOf u = map (secondOfPlan (u .plan)) (drop (u .position) (rowsOf (u .copy)))
 
 -- the rule at the call that answers a cycle's last second, after the events `past`; `later` are these and that call
-abbrev pub Picks : ℕ → List HostCall → HostCall → List HostCall → Type 0
-Picks own past (octet b _ book out _) later = ⊥
-Picks own past lineIdle later = ⊥
-Picks own past (second book _) later =
-    let u = run own past .running in
-    let v = run own later .running in
-    Chosen (latestRun own past) book (u .plan) (u .copy) (v .plan) (v .copy)
+abbrev pub Picks : Which → ℕ → List HostCall → HostCall → List HostCall → Type 0
+Picks which own past (octet b _ book out _) later = ⊥
+Picks which own past lineIdle later = ⊥
+Picks which own past (second book _) later =
+    let u = run which own past .running in
+    let v = run which own later .running in
+    Chosen which (latestRun own past) book (u .plan) (u .copy) (v .plan) (v .copy)
 
 -- its states are the events so far; no event alters a cycle under way
-abbrev pub crossing : ℕ → Machine
-crossing own = record {
+abbrev pub crossing : Which → ℕ → Machine
+crossing which own = record {
   State = List HostCall;
   Event = HostCall;
   Row = Second;
   next = λ past e. past ++ (e ∷ []);
-  says = λ past e. says (run own past) e;
-  left = λ past. leftOf (run own past .running);
-  Start = λ past. run own past .running .position ≡ 0;
-  Picks = Picks own;
+  says = λ past e. says (run which own past) e;
+  left = λ past. leftOf (run which own past .running);
+  Start = λ past. run which own past .running .position ≡ 0;
+  Picks = Picks which own;
   Alters = λ past e later. ⊥;
 }
 
 abbrev pub CrossingCycles : Type 0
-CrossingCycles = (own : ℕ) → (own ≡ 0xFFFF → ⊥) → (es : List HostCall) → Cycles (crossing own) [] es
+CrossingCycles = (which : Which) (own : ℕ) → (own ≡ 0xFFFF → ⊥) → (es : List HostCall) → Cycles (crossing which own) [] es
 
 abbrev pub CrossingHolds : Type 0
 CrossingHolds =
-    (own : ℕ) → (own ≡ 0xFFFF → ⊥) → (es : List HostCall) (n : ℕ) → n + 1799 ≤ length (answers (crossing own) [] es)
-    → HoldsCycle (crossing own) [] es n 900 1799
+    (which : Which) (own : ℕ) → (own ≡ 0xFFFF → ⊥) → (es : List HostCall) (n : ℕ) → n + 1799 ≤ length (answers (crossing which own) [] es)
+    → HoldsCycle (crossing which own) [] es n 900 1799

@@ -11,6 +11,7 @@ use Rattle.message.specs.declared.Message.{Message}
 use Rattle.message.specs.Names.{planAt}
 use Rattle.message.specs.Reader.{codeIn, bodyIn, readOf}
 use Rattle.message.specs.Values.{placed}
+use Rattle.plan.specs.declared.Which.{Which}
 use Rattle.plan.specs.declared.setting.Answered.{Answered}
 use Rattle.record.specs.Record.{empty}
 use Rattle.checks.specs.Standing.{standingOf}
@@ -70,27 +71,27 @@ unlessUnread code requested info h =
     (refusedWith code requested (readOf info .refusal) (readOf info .field))
 
 -- "5F 18 notes the requested plan. Refused 13: .. 5F 18 of one not ready."
-unfoldable pub runAs : ℕ → ℕ → List ℕ → List ℕ → Handled
-runAs code requested book info =
+unfoldable pub runAs : Which → ℕ → ℕ → List ℕ → List ℕ → Handled
+runAs which code requested book info =
     let p = planIn (bodyIn info) in
     unlessUnread code requested info
-    (pick (readyIn book p) (accepted p (carriedOutReply code))
+    (pick (readyIn which book p) (accepted p (carriedOutReply code))
     (refusedWith code requested refusal.notReady planAt))
 
 -- "Refused 13: 5F 44 of an empty plan"
-unfoldable pub queryTimesAs : ℕ → ℕ → List ℕ → List ℕ → Handled
-queryTimesAs code requested book info =
+unfoldable pub queryTimesAs : Which → ℕ → ℕ → List ℕ → List ℕ → Handled
+queryTimesAs which code requested book info =
     let p = planIn (bodyIn info) in
     unlessUnread code requested info
-    (pick (eqb (standingOf (planRecord book p)) empty) (refusedWith code requested refusal.notReady planAt)
-    (accepted requested (reportTimesOf (planRecord book p) p)))
+    (pick (eqb (standingOf (planRecord which book p)) empty) (refusedWith code requested refusal.notReady planAt)
+    (accepted requested (reportTimesOf (planRecord which book p) p)))
 
 -- "5F 45 .. of one not ready"
-unfoldable pub queryPlanAs : ℕ → ℕ → List ℕ → List ℕ → Handled
-queryPlanAs code requested book info =
+unfoldable pub queryPlanAs : Which → ℕ → ℕ → List ℕ → List ℕ → Handled
+queryPlanAs which code requested book info =
     let p = planIn (bodyIn info) in
     unlessUnread code requested info
-    (pick (readyIn book p) (accepted requested (reportPlanOf (planRecord book p) p reportPlanCode))
+    (pick (readyIn which book p) (accepted requested (reportPlanOf (planRecord which book p) p reportPlanCode))
     (refusedWith code requested refusal.notReady planAt))
 
 -- "5F 48 query running plan": the copy that runs
@@ -106,14 +107,14 @@ reads h book = record { handled = h; book = book }
 abbrev pub setHandled : ℕ → ℕ → Setting → Handling
 setHandled code requested w = record { handled = setAs code requested (w .answer); book = w .book }
 
--- by the code; "code not handled" is refusal 10
+-- by the code; "code not handled" is refusal 10; plan 0 is the one that the running plan's owner keeps
 unfoldable pub handlingOf : Running → ℕ → List ℕ → List ℕ → Handling
 handlingOf u requested book info =
     let code = codeIn info in
     pick (eqb code setTimesCode) (setHandled code requested (setTimesOf book info))
     (pick (eqb code setPlanCode) (setHandled code requested (setPlanOf book info))
-    (pick (eqb code runCode) (reads (runAs code requested book info) book)
-    (pick (eqb code queryTimesCode) (reads (queryTimesAs code requested book info) book)
-    (pick (eqb code queryPlanCode) (reads (queryPlanAs code requested book info) book)
+    (pick (eqb code runCode) (reads (runAs (u .which) code requested book info) book)
+    (pick (eqb code queryTimesCode) (reads (queryTimesAs (u .which) code requested book info) book)
+    (pick (eqb code queryPlanCode) (reads (queryPlanAs (u .which) code requested book info) book)
     (pick (eqb code queryRunningCode) (reads (queryRunningAs code requested u info) book)
     (reads (refusedWith code requested refusal.codeNotHandled 0) book))))))

@@ -7,6 +7,7 @@ use lib.ListN.{take}
 use Rattle.frame.specs.declared.decoder.Decoder.{Decoder}
 use Rattle.frame.specs.Frame.{Frame, message, ack, nak}
 use Rattle.frame.specs.Run.{Outcome, nothing, refused, sound, outcomes, AtRest}
+use Rattle.plan.specs.declared.Which.{Which}
 use Rattle.controller.specs.declared.State.{State}
 use Rattle.controller.specs.Replies.{octetOf}
 use Rattle.controller.specs.Seconds.{startedOf}
@@ -24,8 +25,8 @@ writesOn s [] = []
 writesOn s (e ∷ es) = writes s e ++ writesOn (next s e) es
 
 -- all that the run writes from a fresh start, one call after another
-abbrev pub writtenIn : ℕ → List HostCall → List ℕ
-writtenIn own es = writesOn (startedOf own .state) es
+abbrev pub writtenIn : Which → ℕ → List HostCall → List ℕ
+writtenIn which own es = writesOn (startedOf which own .state) es
 
 -- the sound frames that a listener hears
 abbrev pub framesHeard : List Outcome → List Frame
@@ -43,12 +44,12 @@ CountsFrom n (nak seq addr err ∷ fs) = CountsFrom n fs
 
 -- What a run writes is frames, one after another: whoever listens from rest hears just these. The n-th message frame of them, from
 -- 0, carries n modulo 256, whatever seconds, refused calls, line-idle calls and books lie between.
-pub record SeqCounted (own : ℕ) (es : List HostCall) : Type 0 where
+pub record SeqCounted (which : Which) (own : ℕ) (es : List HostCall) : Type 0 where
   pub frames : List Frame
-  pub octets : writtenIn own es ≡ onLine frames
-  pub heard : (d : Decoder) → AtRest d → framesHeard (outcomes d (writtenIn own es)) ≡ frames
+  pub octets : writtenIn which own es ≡ onLine frames
+  pub heard : (d : Decoder) → AtRest d → framesHeard (outcomes d (writtenIn which own es)) ≡ frames
   pub counts : CountsFrom 0 frames
 
 -- "Own address is 0 to 65,534."
 abbrev pub OurSeqCounts : Type 0
-OurSeqCounts = (own : ℕ) → own < 0xFFFF → (es : List HostCall) → SeqCounted own es
+OurSeqCounts = (which : Which) (own : ℕ) → own < 0xFFFF → (es : List HostCall) → SeqCounted which own es

@@ -7,6 +7,7 @@ use lib.ListN.{length}
 use Rattle.octets.specs.Choice.{pick}
 use Rattle.octets.specs.Refusal as refusal
 use Rattle.record.specs.Record.{bookLen, cycleOf}
+use Rattle.plan.specs.declared.Which.{Which}
 use Rattle.lamps.specs.Rows.{rowAt, noRow}
 use Rattle.controller.specs.declared.Running.{Running}
 use Rattle.controller.specs.declared.State.{State}
@@ -14,23 +15,23 @@ use Rattle.controller.specs.declared.Started.{Started}
 use Rattle.controller.specs.declared.Shown.{Shown}
 use Rattle.controller.specs.State.{all, freshOf, soundOf, startedAt, planRecord, readyIn, withRunning}
 
--- The fresh start: "fresh start with address FFFF": "a fresh state but for own address FFFF, so unsound"
+-- The fresh start, with the new plan 0 or the old: "fresh start with address FFFF": "a fresh state but for own address FFFF, so unsound"
 
-unfoldable pub startedOf : ℕ → Started
-startedOf own = record { refusal = pick (eqb own all) refusal.startWrong refusal.none; state = freshOf own }
+unfoldable pub startedOf : Which → ℕ → Started
+startedOf which own = record { refusal = pick (eqb own all) refusal.startWrong refusal.none; state = freshOf which own }
 
 -- The second call
 
 -- "the requested one if it is plan 0 or ready in the book; if not, the running plan repeats"
 unfoldable pub pickedOf : Running → ℕ → List ℕ → Running
 pickedOf u requested book =
-    pick (readyIn book requested) (startedAt requested (planRecord book requested))
-    (startedAt (u .plan) (u .copy))
+    pick (readyIn (u .which) book requested) (startedAt (u .which) requested (planRecord (u .which) book requested))
+    (startedAt (u .which) (u .plan) (u .copy))
 
 -- "then moves on. The call that answers a cycle's last second also picks the next plan"
 unfoldable pub movedOn : Running → ℕ → List ℕ → Running
 movedOn u requested book =
-    pick (ltb (u .position + 1) (cycleOf (u .copy))) (record { plan = u .plan; position = u .position + 1; copy = u .copy })
+    pick (ltb (u .position + 1) (cycleOf (u .copy))) (record { which = u .which; plan = u .plan; position = u .position + 1; copy = u .copy })
     (pickedOf u requested book)
 
 unfoldable pub noSecond : State → ℕ → Shown

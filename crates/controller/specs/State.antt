@@ -8,6 +8,7 @@ use Rattle.frame.specs.declared.decoder.Decoder.{Decoder}
 use Rattle.frame.specs.Decoder.{freshDecoder, possibleOf}
 use Rattle.record.specs.Record.{plansMost, ready, cycleOf}
 use Rattle.checks.specs.Standing.{standingOf}
+use Rattle.plan.specs.declared.Which.{Which}
 use Rattle.plan.specs.BuiltIn.{builtIn}
 use Rattle.plan.specs.Reading.{recordAt, same}
 use Rattle.controller.specs.declared.Running.{Running}
@@ -21,13 +22,14 @@ all = 0xFFFF
 abbrev pub outputLen : ℕ
 outputLen = 544
 
--- a plan at its cycle's start
-abbrev pub startedAt : ℕ → List ℕ → Running
-startedAt plan rec = record { plan = plan; position = 0; copy = rec }
+-- a plan at its cycle's start, of a controller whose plan 0 is the one that is named
+abbrev pub startedAt : Which → ℕ → List ℕ → Running
+startedAt which plan rec = record { which = which; plan = plan; position = 0; copy = rec }
 
--- "A fresh start runs and requests plan 0 at position 0"; "Our SEQ starts at 0"
-unfoldable pub freshOf : ℕ → State
-freshOf own = record { own = own; seq = 0; requested = 0; decoder = freshDecoder; running = startedAt 0 builtIn }
+-- "A fresh start runs and requests plan 0 at position 0"; "Our SEQ starts at 0"; 02, E1: "A start call that names the old built-in plan
+-- stays .. the plain start takes the new one. The state keeps which one"
+unfoldable pub freshOf : Which → ℕ → State
+freshOf which own = record { own = own; seq = 0; requested = 0; decoder = freshDecoder; running = startedAt which 0 (builtIn which) }
 
 -- the state with another decoder, another running plan
 abbrev pub withDecoder : State → Decoder → State
@@ -36,22 +38,22 @@ withDecoder s d = record { own = s .own; seq = s .seq; requested = s .requested;
 abbrev pub withRunning : State → Running → State
 withRunning s u = record { own = s .own; seq = s .seq; requested = s .requested; decoder = s .decoder; running = u }
 
--- the record of plan p: "Plan 0 is built in", all others stand in the book
-abbrev pub planRecord : List ℕ → ℕ → List ℕ
-planRecord book p = pick (eqb p 0) builtIn (recordAt book p)
+-- the record of plan p: "Plan 0 is built in", all others stand in the book; "plan 0 means that one throughout"
+abbrev pub planRecord : Which → List ℕ → ℕ → List ℕ
+planRecord which book p = pick (eqb p 0) (builtIn which) (recordAt book p)
 
 -- "Plan 0 is ready", and so is one whose record in the book is
-abbrev pub readyIn : List ℕ → ℕ → Bool
-readyIn book p = eqb (standingOf (planRecord book p)) ready
+abbrev pub readyIn : Which → List ℕ → ℕ → Bool
+readyIn which book p = eqb (standingOf (planRecord which book p)) ready
 
 -- "state handed in is unsound (own address FFFF, requested plan over 48, position outside the cycle, running plan over 48,
--- failing the checks, or numbered 0 and unlike the built-in, impossible decoder place)"
+-- failing the checks, or numbered 0 and unlike the built-in, impossible decoder place)"; the built-in is the one that is kept
 unfoldable pub runningSound : Running → Bool
 runningSound u =
     both (ltb (u .position) (cycleOf (u .copy)))
     (both (leb (u .plan) plansMost)
     (both (eqb (standingOf (u .copy)) ready)
-    (pick (eqb (u .plan) 0) (same (u .copy) builtIn) true)))
+    (pick (eqb (u .plan) 0) (same (u .copy) (builtIn (u .which))) true)))
 
 unfoldable pub soundOf : State → Bool
 soundOf s =

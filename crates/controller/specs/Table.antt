@@ -1,10 +1,14 @@
 -- 01, "Lamps and seconds" and "Cases, own address 0001": the ten step rows and P1 to P5, one table.
+--
+-- 02, E1: "Step 1 then starts at 28 .. P3's report (greens 00 23, cycle 00 50, CKS AB)": the new start's rows, and beside them the old one's.
 use Prim.Native.Nat.{ℕ}
 use mathlib.Core.Path.{_≡_}
 use mathlib.Core.List.{List, [], _∷_, _++_}
 use lib.ListN.{take, replicate}
 use Rattle.diagram.specs.Table.{steadyOf, flashingOf}
 use Rattle.record.specs.Record.{emptyBook}
+use Rattle.plan.specs.declared.Which.{Which}
+use Rattle.plan.specs.declared.Which.the-variants.{New, Old}
 use Rattle.plan.specs.BuiltIn.{builtIn}
 use Rattle.lamps.specs.Rows.{secondsOf}
 use Rattle.controller.specs.declared.State.{State}
@@ -34,36 +38,51 @@ abbrev pub p4 : List ℕ
 p4 = 0xAA ∷ 0xBB ∷ 0x08 ∷ 0x00 ∷ 0x01 ∷ 0x00 ∷ 0x0D ∷ 0x5F ∷ 0x18 ∷ 0x03 ∷ 0xAA ∷ 0xCC ∷ 0x37 ∷ []
 
 -- a step's row: "Steady, flashing", and its seconds with plan 0
-abbrev pub stepRow : ℕ → List ℕ
-stepRow step = steadyOf 0 step ∷ flashingOf 0 step ∷ secondsOf builtIn step ∷ []
+abbrev pub stepRow : Which → ℕ → List ℕ
+stepRow which step = steadyOf 0 step ∷ flashingOf 0 step ∷ secondsOf (builtIn which) step ∷ []
 
--- the ten step rows, then what comes out when P1 goes in, and when P4 goes in next
-unfoldable pub rows : List (List ℕ)
-rows =
-    stepRow 1 ∷ stepRow 2 ∷ stepRow 3 ∷ stepRow 4 ∷ stepRow 5
-    ∷ stepRow 6 ∷ stepRow 7 ∷ stepRow 8 ∷ stepRow 9 ∷ stepRow 10
-    ∷ cameOut (freshOf 0x0001) p1
-    ∷ cameOut (stateAfter (freshOf 0x0001) p1) p4
+-- the ten step rows, then what comes out when P1 goes in after this start, and when P4 goes in next
+abbrev pub rowsFrom : Which → List (List ℕ)
+rowsFrom which =
+    let step = stepRow which in
+    step 1 ∷ step 2 ∷ step 3 ∷ step 4 ∷ step 5 ∷ step 6 ∷ step 7 ∷ step 8 ∷ step 9 ∷ step 10
+    ∷ cameOut (freshOf which 0x0001) p1
+    ∷ cameOut (stateAfter (freshOf which 0x0001) p1) p4
     ∷ []
 
--- "| Step | Steady, flashing | Seconds |"; "P2 its ACK", "P3 its report"; the ACK of P4, "P5 its message"
-unfoldable pub due : List (List ℕ)
-due =
-    (0x41418888 ∷ 0 ∷ 18 ∷ [])
+unfoldable pub rows : List (List ℕ)
+rows = rowsFrom New ++ rowsFrom Old
+
+-- "| Step | Steady, flashing | Seconds |", where steps 1 and 6 have so many; "P2 its ACK", then P3; the ACK of P4, "P5 its message"
+abbrev pub dueWith : ℕ → List ℕ → List (List ℕ)
+dueWith first report =
+    (0x41418888 ∷ 0 ∷ first ∷ [])
     ∷ (0x41410808 ∷ 0x8080 ∷ 5 ∷ [])
     ∷ (0x41414848 ∷ 0 ∷ 2 ∷ [])
     ∷ (0x41414242 ∷ 0 ∷ 3 ∷ [])
     ∷ (0x41414141 ∷ 0 ∷ 2 ∷ [])
-    ∷ (0x88884141 ∷ 0 ∷ 18 ∷ [])
+    ∷ (0x88884141 ∷ 0 ∷ first ∷ [])
     ∷ (0x08084141 ∷ 0x80800000 ∷ 5 ∷ [])
     ∷ (0x48484141 ∷ 0 ∷ 2 ∷ [])
     ∷ (0x42424141 ∷ 0 ∷ 3 ∷ [])
     ∷ (0x41414141 ∷ 0 ∷ 2 ∷ [])
-    ∷ ((0xAA ∷ 0xDD ∷ 0x07 ∷ 0x00 ∷ 0x01 ∷ 0x00 ∷ 0x08 ∷ 0x79 ∷ [])
-    ++ (0xAA ∷ 0xBB ∷ 0x00 ∷ 0x00 ∷ 0x01 ∷ 0x00 ∷ 0x18 ∷ 0x5F ∷ 0xC8 ∷ 0x00 ∷ 0x00 ∷ 0x00 ∷ 0x02 ∷ 0x00 ∷ 0x19 ∷ 0x00 ∷ 0x19 ∷ 0x00 ∷ 0x3C ∷ 0x00 ∷ 0x00 ∷ 0xAA ∷ 0xCC ∷ 0xC7 ∷ []))
+    ∷ ((0xAA ∷ 0xDD ∷ 0x07 ∷ 0x00 ∷ 0x01 ∷ 0x00 ∷ 0x08 ∷ 0x79 ∷ []) ++ report)
     ∷ ((0xAA ∷ 0xDD ∷ 0x08 ∷ 0x00 ∷ 0x01 ∷ 0x00 ∷ 0x08 ∷ 0x76 ∷ [])
     ++ (0xAA ∷ 0xBB ∷ 0x01 ∷ 0x00 ∷ 0x01 ∷ 0x00 ∷ 0x10 ∷ 0x0F ∷ 0x81 ∷ 0x5F ∷ 0x18 ∷ 0x0D ∷ 0x01 ∷ 0xAA ∷ 0xCC ∷ 0xA2 ∷ []))
     ∷ []
+
+-- "P3 its report": "(greens 00 23, cycle 00 50, CKS AB)", and the old one
+abbrev pub p3 : List ℕ
+p3 =
+    0xAA ∷ 0xBB ∷ 0x00 ∷ 0x00 ∷ 0x01 ∷ 0x00 ∷ 0x18 ∷ 0x5F ∷ 0xC8 ∷ 0x00 ∷ 0x00 ∷ 0x00 ∷ 0x02 ∷ 0x00 ∷ 0x23 ∷ 0x00 ∷ 0x23 ∷ 0x00 ∷ 0x50 ∷ 0x00 ∷ 0x00 ∷ 0xAA ∷ 0xCC ∷ 0xAB ∷ []
+
+abbrev pub oldP3 : List ℕ
+oldP3 =
+    0xAA ∷ 0xBB ∷ 0x00 ∷ 0x00 ∷ 0x01 ∷ 0x00 ∷ 0x18 ∷ 0x5F ∷ 0xC8 ∷ 0x00 ∷ 0x00 ∷ 0x00 ∷ 0x02 ∷ 0x00 ∷ 0x19 ∷ 0x00 ∷ 0x19 ∷ 0x00 ∷ 0x3C ∷ 0x00 ∷ 0x00 ∷ 0xAA ∷ 0xCC ∷ 0xC7 ∷ []
+
+-- "Step 1 then starts at 28"; with the old one at 18
+unfoldable pub due : List (List ℕ)
+due = dueWith 28 p3 ++ dueWith 18 oldP3
 
 abbrev pub OneTable : Type 0
 OneTable = rows ≡ due

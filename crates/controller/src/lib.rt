@@ -4,6 +4,7 @@
 use frame::decoder::Decoder;
 use lamps::Row;
 use message::Message;
+use plan::Which;
 use record::RECORD_LEN;
 
 // "FFFF is for all".
@@ -12,8 +13,9 @@ pub const ALL: u16 = 0xFFFF;
 // The output that an octet call is lent, at least.
 pub const OUTPUT_LEN: usize = 544;
 
-// What the stepper owns: "The running plan is a copy".
+// What the stepper owns: "The running plan is a copy"; 02, E1: "The state keeps which one, and plan 0 means that one throughout".
 pub struct Running {
+    pub which: Which,
     pub plan: u8,
     pub position: u16,
     pub copy: [u8; RECORD_LEN],

@@ -1,16 +1,20 @@
 // 01, "Cases": the listing program. It "starts fresh at address 0001 with an empty book and reads lines" from standard input
-// to its end, of whatever length, and prints what the controller shows and replies.
+// to its end, of whatever length, and prints what the controller shows and replies. 02, E1: with no word it takes the plain
+// start, and with the word `old` the one that names the old built-in plan.
 ghost use Prim.Native.Nat.{_≤_};
 ghost use lib.ListN.{length};
 ghost use Rattle.octets.specs.Put.{Stored};
 ghost use Rattle.printout.specs.Run.{lineMade};
 ghost use Rattle.listing.specs.Room.{Room, half};
 use controller::OUTPUT_LEN;
+use libc::STDERR_FILENO;
 use libc::STDIN_FILENO;
 use libc::STDOUT_FILENO;
 use line::Line;
 use line::LineFound;
+use plan::Which;
 use printout::run;
+use printout::run::Asked;
 use printout::run::Run;
 use record::BOOK_LEN;
 
@@ -21,6 +25,9 @@ const BLOCK_LEN: usize = 4096;
 const TEXT_LEN: usize = 8192;
 
 const HALF: usize = 4096;
+
+// The longest word that the program knows: of a longer one nothing is handed out, and no word is empty.
+const WORD_LEN: usize = 3;
 
 // The line under way, and what the lines before it made.
 struct Reading {
@@ -35,6 +42,27 @@ struct Turn {
 }
 
 fn main() {
+    let mut word = [0u8; WORD_LEN];
+    let n = os::arg(1, &mut word);
+    let asked = run::start_asked(words_given(), &word[..n]);
+    match asked {
+        Asked::Start(which) => list(which),
+        Asked::Unknown => {
+            io::write_all(STDERR_FILENO, b"usage: listing [old]\n");
+        }
+    }
+}
+
+// How many words stand after the program's name.
+fn words_given() -> usize {
+    let n = os::arg_count();
+    if n == 0 {
+        return 0;
+    }
+    n - 1
+}
+
+fn list(which: Which) {
     let mut book = [0u8; BOOK_LEN];
     let mut out = [0u8; OUTPUT_LEN];
     let mut text = [0u8; TEXT_LEN];
@@ -43,7 +71,7 @@ fn main() {
         line: line::line_start(),
         run: Run {
             used,
-            ..run::run_start()
+            ..run::run_start(which)
         },
     };
     let g = read_all(start, &mut book, &mut out, &mut text);

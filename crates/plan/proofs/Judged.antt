@@ -16,22 +16,26 @@ use Rattle.octets.specs.Refusal as refusal
 use Rattle.octets.proofs.Laws.{clash, octets-part}
 use Rattle.record.specs.Record.{recordLen, plansMost, bookLen, empty}
 use Rattle.checks.specs.Standing.{standingOf}
+use Rattle.plan.specs.declared.Which.{Which}
+use Rattle.plan.specs.declared.Which.the-variants.{New, Old}
 use Rattle.plan.specs.BuiltIn.{builtIn}
-use Rattle.plan.specs.Reading.{recordStart, recordAt, same, readRefusal, PartRead}
+use Rattle.plan.specs.Reading.{recordStart, recordAt, eitherBuiltIn, readRefusal, PartRead}
 use Rattle.plan.specs.Promises.{ReadingJudged, wrongLength, overRange, unlike, emptyPlan, builtInRead, bookRead, BuiltInKnown, PlansReadSo, PartsGivenSo}
 use Rattle.plan.proofs.Readying.{stands-has, has-stands}
-use Rattle.plan.proofs.Laws.{same-is, is-same, length-built-in, refused-book, refused-copy, refused-range, read-zero, refused-zero, refused-empty, read-set}
+use Rattle.plan.proofs.Laws.{same-is, is-same, length-built-in, either-is, is-either, refused-book, refused-copy, refused-range, read-zero, refused-zero, refused-empty, read-set}
 
 module _ (book copy : List ℕ) (p : ℕ) (o : Octets book) where
   octets : Octets (recordAt book p)
   octets = octets-part recordLen (recordStart p) book o
 
   module _ (hb : length book ≡ bookLen) (ho : length copy ≡ recordLen) where
-    zero-by : p ≡ 0 → (t : Bool) → t ≡ same copy builtIn → ReadingJudged book copy p (readRefusal book copy p)
-    zero-by z true e = subst (ReadingJudged book copy p) (read-zero book copy p hb ho (omega (arith, z)) z e refl) (builtInRead hb z (same-is copy builtIn (sym e)))
+    zero-by : p ≡ 0 → (t : Bool) → t ≡ eitherBuiltIn copy → ReadingJudged book copy p (readRefusal book copy p)
+    zero-by z true e =
+        let w = either-is copy (sym e) in
+        subst (ReadingJudged book copy p) (read-zero book copy p hb ho (omega (arith, z)) z e refl) (builtInRead (w .0) hb z (w .1))
     zero-by z false e =
-        subst (ReadingJudged book copy p) (refused-zero book copy p hb ho (omega (arith, z)) z e refl)
-        (unlike hb ho z (λ q. clash (sym e) (rw q (is-same builtIn))))
+        let n : (which : Which) → copy ≡ builtIn which → ⊥ = λ which q. clash (sym e) (rw q (is-either which)) in
+        subst (ReadingJudged book copy p) (refused-zero book copy p hb ho (omega (arith, z)) z e refl) (unlike hb ho z (n New) (n Old))
 
     module _ (l : 1 ≤ p) (m : p ≤ plansMost) where
       stands-by : Dec (standingOf (recordAt book p) ≡ empty) → ReadingJudged book copy p (readRefusal book copy p)
@@ -44,7 +48,7 @@ module _ (book copy : List ℕ) (p : ℕ) (o : Octets book) where
 
     known-by : Dec (p ≤ plansMost) → Dec (p ≡ 0) → ReadingJudged book copy p (readRefusal book copy p)
     known-by (no n) d = subst (ReadingJudged book copy p) (refused-range book copy p hb ho (omega (arith, n))) (overRange hb ho (omega (arith, n)))
-    known-by (yes m) (yes z) = zero-by z (same copy builtIn) refl
+    known-by (yes m) (yes z) = zero-by z (eitherBuiltIn copy) refl
     known-by (yes m) (no n) = stands-by (omega (arith, n)) m (ℕ-discrete (standingOf (recordAt book p)) empty)
 
   only-then : Dec (length book ≡ bookLen) → Dec (length copy ≡ recordLen) → ReadingJudged book copy p (readRefusal book copy p)
@@ -59,17 +63,20 @@ module _ (book copy : List ℕ) (p : ℕ) (o : Octets book) where
       by (no m) = refused-book book copy p m
       by (yes b) = refused-copy book copy p b (n b)
   when (overRange b q l) = refused-range book copy p b q l
-  when (unlike b q z n) = refused-zero book copy p b q (omega (arith, z)) z refl (not-same (same copy builtIn) refl)
+  when (unlike b q z n m) = refused-zero book copy p b q (omega (arith, z)) z refl (neither (eitherBuiltIn copy) refl)
     where
-      not-same : (t : Bool) → same copy builtIn ≡ t → same copy builtIn ≡ false
-      not-same true e = absurd (n (same-is copy builtIn e))
-      not-same false e = e
+      not-one : (which : Which) → copy ≡ builtIn which → ⊥
+      not-one New = n
+      not-one Old = m
+      neither : (t : Bool) → eitherBuiltIn copy ≡ t → eitherBuiltIn copy ≡ false
+      neither true e = let w = either-is copy e in absurd (not-one (w .0) (w .1))
+      neither false e = e
   when (emptyPlan b q l m h) = by (ℕ-discrete (standingOf (recordAt book p)) empty)
     where
       by : Dec (standingOf (recordAt book p) ≡ empty) → refusal.notReady ≡ readRefusal book copy p
       by (yes e) = refused-empty book copy p b q m (λ z. omega (arith, z)) refl e
       by (no n) = absurd (h (stands-has (recordAt book p) octets n))
-  when (builtInRead b z e) = read-zero book copy p b (rw e length-built-in) (omega (arith, z)) z refl (rw e (is-same builtIn))
+  when (builtInRead which b z e) = read-zero book copy p b (rw e (length-built-in which)) (omega (arith, z)) z refl (rw e (is-either which))
   when (bookRead b q l m h) = read-set book copy p b q m (λ z. omega (arith, z)) refl (has-stands (recordAt book p) octets h)
 
 pub plans-read-so : PlansReadSo
@@ -79,7 +86,7 @@ plans-read-so book copy p n o = (
 )
 
 pub built-in-known : BuiltInKnown
-built-in-known rec = (same-is rec builtIn, λ e. rw e (is-same builtIn))
+built-in-known which rec = (same-is rec (builtIn which), λ e. rw e (is-same (builtIn which)))
 
 -- The part
 
@@ -94,19 +101,19 @@ module _ (book copy r : RefT (List ℕ)) (p : ℕ) (o : Octets (now book)) (h : 
   part-refused n = (rw (ne-eqb why 0 n) at h) .octets
 
   module _ (e : why ≡ 0) where
-    is-built-in : {n : ℕ} → ReadingJudged (now book) (now copy) p n → n ≡ 0 → p ≡ 0 → now copy ≡ builtIn
+    is-built-in : {n : ℕ} → ReadingJudged (now book) (now copy) p n → n ≡ 0 → p ≡ 0 → (which : Which) × (now copy ≡ builtIn which)
     is-built-in (wrongLength n) e z = absurd (omega arith)
     is-built-in (overRange b q l) e z = absurd (omega arith)
-    is-built-in (unlike b q z n) e z′ = absurd (omega arith)
+    is-built-in (unlike b q z n m) e z′ = absurd (omega arith)
     is-built-in (emptyPlan b q l m t) e z = absurd (omega arith)
-    is-built-in (builtInRead b z c) e z′ = c
+    is-built-in (builtInRead which b z c) e z′ = (which, c)
     is-built-in (bookRead b q l m t) e z = absurd (omega arith)
 
-    all-of-copy : p ≡ 0 → (r .ptr ≡ copy .ptr) × (now r ≡ now copy) × (now copy ≡ builtIn)
+    all-of-copy : p ≡ 0 → (r .ptr ≡ copy .ptr) × (now r ≡ now copy) × ((which : Which) × (now copy ≡ builtIn which))
     all-of-copy z =
         let c = is-built-in judged e z in
         let g : PartOf copy 0 recordLen r = rw (eq-eqb why 0 e, eq-eqb p 0 z) at h in
-        let l : length (now copy) ≤ 80 = omega (arith, ap length c, length-built-in) in
+        let l : length (now copy) ≤ 80 = omega (arith, ap length (c .1), length-built-in (c .0)) in
         (g .place ∙ rw zero-add, g .octets ∙ take-all 80 (now copy) l, c)
 
     of-book : 1 ≤ p → (r .ptr ≡ (book .ptr .0, 80 * (p - 1) + book .ptr .1)) × (now r ≡ take 80 (drop (80 * (p - 1)) (now book)))

@@ -1,7 +1,7 @@
 -- What follows from the definitions of specs/: one law for each way through.
 use Prim.Native.Nat.{ℕ, _+_, _-_, _≤_, _<_}
 use mathlib.Core.Path.{_≡_, refl, sym, ap, _∙_}
-use mathlib.Core.Bool.{Bool, true, false, not}
+use mathlib.Core.Bool.{Bool, true, false, not, _||_}
 use mathlib.Core.List.{List, [], _∷_}
 use native.Mathlib.Omega.{arith}
 use borrow.Author.Tests.{eq-eqb, ne-eqb, le-leb, lt-leb, eqb-true, leb-true}
@@ -13,8 +13,10 @@ use Rattle.octets.specs.Refusal as refusal
 use Rattle.octets.proofs.Laws.{both-left, both-right, clash, drop-next}
 use Rattle.record.specs.Record.{recordLen, plansMost, bookLen, empty}
 use Rattle.checks.specs.Standing.{standingOf}
+use Rattle.plan.specs.declared.Which.{Which}
+use Rattle.plan.specs.declared.Which.the-variants.{New, Old}
 use Rattle.plan.specs.BuiltIn.{padded, builtIn}
-use Rattle.plan.specs.Reading.{recordStart, recordAt, same, readRefusal}
+use Rattle.plan.specs.Reading.{recordStart, recordAt, same, eitherBuiltIn, readRefusal}
 
 -- Reading
 
@@ -53,9 +55,27 @@ same-not xs ys n = by (same xs ys) refl
     by true e = absurd (n (ap length (same-is xs ys e)))
     by false e = refl
 
-pub length-built-in : length builtIn ≡ recordLen
+pub length-built-in : (which : Which) → length (builtIn which) ≡ recordLen
 unfolding builtIn padded
-length-built-in = refl
+length-built-in which = refl
+
+-- "a copy of either": it is one of the two, and each of the two is
+pub either-is : (copy : List ℕ) → eitherBuiltIn copy ≡ true → (which : Which) × (copy ≡ builtIn which)
+unfolding eitherBuiltIn
+either-is copy h = by (same copy (builtIn New)) refl h
+  where
+    by : (t : Bool) → same copy (builtIn New) ≡ t → t || same copy (builtIn Old) ≡ true → (which : Which) × (copy ≡ builtIn which)
+    by true e h = (New, same-is copy (builtIn New) e)
+    by false e h = (Old, same-is copy (builtIn Old) h)
+
+pub is-either : (which : Which) → eitherBuiltIn (builtIn which) ≡ true
+unfolding eitherBuiltIn
+is-either New = rw (is-same (builtIn New))
+is-either Old = by (same (builtIn Old) (builtIn New))
+  where
+    by : (t : Bool) → t || same (builtIn Old) (builtIn Old) ≡ true
+    by true = refl
+    by false = is-same (builtIn Old)
 
 pub record-from : (book : List ℕ) (at p : ℕ) → at ≡ recordStart p → take (at + recordLen - at) (drop at book) ≡ recordAt book p
 record-from book at p e = let n : at + recordLen - at ≡ recordLen = omega arith in rw (n, e)
@@ -85,7 +105,7 @@ module _ (book copy : List ℕ) (p : ℕ) where
         passed : (n : ℕ) → tests n ≡ n
         passed n = rw (eq-eqb (length book) bookLen hb, eq-eqb (length copy) recordLen ho, le-leb p plansMost hp)
 
-        module _ (z : p ≡ 0) {t : Bool} (e : t ≡ same copy builtIn) where
+        module _ (z : p ≡ 0) {t : Bool} (e : t ≡ eitherBuiltIn copy) where
           pub read-zero : t ≡ true → refusal.none ≡ readRefusal book copy p
           unfolding readRefusal
           read-zero f = sym (rw (eq-eqb p 0 z, ← e, f) (passed refusal.none))

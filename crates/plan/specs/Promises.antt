@@ -12,6 +12,8 @@ use Rattle.message.specs.declared.Message.{Message}
 use Rattle.message.specs.Reader.{codeIn, bodyIn, readOf}
 use Rattle.record.specs.Record.{octetAt, wordAt, kOf, minimumOf, maximumOf, yellowOf, allRedOf, walkFlashOf, redManOf, directOf, orderOf, greenOf, cycleOf, offsetOf, Within, AllTimesFit, Empty, TimesSet, Ready}
 use Rattle.checks.specs.Standing.{standingOf}
+use Rattle.plan.specs.declared.Which.{Which}
+use Rattle.plan.specs.declared.Which.the-variants.{New, Old}
 use Rattle.plan.specs.BuiltIn.{builtIn}
 use Rattle.plan.specs.Reading.{recordAt, same, readRefusal, PlanRead}
 use Rattle.plan.specs.Reporting.{timesInfo, planInfo, reportTimesOf, reportPlanOf}
@@ -273,18 +275,18 @@ ReportsRead = (rec : List ℕ) (p : ℕ) → p ≤ 48 → ReportRead rec p
 abbrev pub NoReportOver48 : Type 0
 NoReportOver48 = (rec : List ℕ) (p code : ℕ) → 48 < p → NoReport (reportTimesOf rec p) × NoReport (reportPlanOf rec p code)
 
--- Octets pass as the built-in record exactly when they are its 80 octets, whatever their length.
+-- Octets pass as one of the built-in records exactly when they are its 80 octets, whatever their length.
 abbrev pub BuiltInKnown : Type 0
-BuiltInKnown = (rec : List ℕ) → (same rec builtIn ≡ true → rec ≡ builtIn) × (rec ≡ builtIn → same rec builtIn ≡ true)
+BuiltInKnown = (which : Which) (rec : List ℕ) → (same rec (builtIn which) ≡ true → rec ≡ builtIn which) × (rec ≡ builtIn which → same rec (builtIn which) ≡ true)
 
 -- Reading a plan: what comes of it, and why. "8 if either length is wrong, then 12 for a plan over 48, then 13 for an empty plan,
--- or for plan 0 where the copy differs from the built-in record."
+-- or for plan 0 where the copy differs from the built-in record." 02, E1: "reading a plan takes a copy of either"
 pub data ReadingJudged (book copy : List ℕ) (p : ℕ) : ℕ → Type 0 where
   wrongLength : (length book ≡ 3840 → length copy ≡ 80 → ⊥) → ReadingJudged book copy p 8
   overRange : length book ≡ 3840 → length copy ≡ 80 → 48 < p → ReadingJudged book copy p 12
-  unlike : length book ≡ 3840 → length copy ≡ 80 → p ≡ 0 → (copy ≡ builtIn → ⊥) → ReadingJudged book copy p 13
+  unlike : length book ≡ 3840 → length copy ≡ 80 → p ≡ 0 → (copy ≡ builtIn New → ⊥) → (copy ≡ builtIn Old → ⊥) → ReadingJudged book copy p 13
   emptyPlan : length book ≡ 3840 → length copy ≡ 80 → 1 ≤ p → p ≤ 48 → (HasTimes (recordAt book p) → ⊥) → ReadingJudged book copy p 13
-  builtInRead : length book ≡ 3840 → p ≡ 0 → copy ≡ builtIn → ReadingJudged book copy p 0
+  builtInRead : (which : Which) → length book ≡ 3840 → p ≡ 0 → copy ≡ builtIn which → ReadingJudged book copy p 0
   bookRead : length book ≡ 3840 → length copy ≡ 80 → 1 ≤ p → p ≤ 48 → HasTimes (recordAt book p) → ReadingJudged book copy p 0
 
 -- "When, and only then": refusals 8, 12 and 13 of reading a plan.
@@ -299,8 +301,8 @@ pub record PartGiven (book copy : RefT (List ℕ)) (p : ℕ) (r : RefT (List ℕ
   -- 8, 12 or 13, and 0 for none: when, and only then
   pub judged : ReadingJudged (now book) (now copy) p why
   pub refused : (why ≡ 0 → ⊥) → now r ≡ []
-  -- plan 0: all of the copy, which then is the built-in record
-  pub builtInAll : why ≡ 0 → p ≡ 0 → (r .ptr ≡ copy .ptr) × (now r ≡ now copy) × (now copy ≡ builtIn)
+  -- plan 0: all of the copy that was lent, which then is one of the built-in records
+  pub builtInAll : why ≡ 0 → p ≡ 0 → (r .ptr ≡ copy .ptr) × (now r ≡ now copy) × ((which : Which) × (now copy ≡ builtIn which))
   -- "Plan p, 1 to 48, has 80 octets from 80(p-1)"
   pub ofBook : why ≡ 0 → 1 ≤ p → (r .ptr ≡ (book .ptr .0, 80 * (p - 1) + book .ptr .1)) × (now r ≡ take 80 (drop (80 * (p - 1)) (now book)))
 

@@ -2,10 +2,10 @@
 --
 -- "Reading a plan is lent the book and an 80-octet copy of the built-in record, and gives back a part of the plan book or of the
 -- built-in record. It refuses with an empty part: 8 if either length is wrong, then 12 for a plan over 48, then 13 for an empty
--- plan, or for plan 0 where the copy differs from the built-in record."
+-- plan, or for plan 0 where the copy differs from the built-in record." 02, E1: "reading a plan takes a copy of either"
 use Prim.Native.Nat.{ℕ, _*_, _-_}
 use mathlib.Core.Path.{_≡_}
-use mathlib.Core.Bool.{Bool, true, false, not}
+use mathlib.Core.Bool.{Bool, true, false, not, _||_}
 use mathlib.Core.List.{List, [], _∷_}
 use lib.Dec.{eqb, leb}
 use lib.ListN.{length, take, drop}
@@ -15,6 +15,7 @@ use Rattle.octets.specs.Part.{PartOf}
 use Rattle.octets.specs.Refusal as refusal
 use Rattle.record.specs.Record.{recordLen, plansMost, bookLen, empty}
 use Rattle.checks.specs.Standing.{standingOf}
+use Rattle.plan.specs.declared.Which.the-variants.{New, Old}
 use Rattle.plan.specs.BuiltIn.{builtIn}
 
 -- "Plan p, 1 to 48, has 80 octets from 80(p-1)"
@@ -31,13 +32,17 @@ same [] (y ∷ ys) = false
 same (x ∷ xs) [] = false
 same (x ∷ xs) (y ∷ ys) = both (eqb x y) (same xs ys)
 
+-- "a copy of either": the new built-in record, or the old one
+unfoldable pub eitherBuiltIn : List ℕ → Bool
+eitherBuiltIn copy = same copy (builtIn New) || same copy (builtIn Old)
+
 -- "It refuses with an empty part: 8 if either length is wrong, then 12 for a plan over 48, then 13 for an empty plan, or for plan 0
 -- where the copy differs from the built-in record."
 unfoldable pub readRefusal : List ℕ → List ℕ → ℕ → ℕ
 readRefusal book copy p =
     pick (not (both (eqb (length book) bookLen) (eqb (length copy) recordLen))) refusal.bookWrong
     (pick (not (leb p plansMost)) refusal.outOfRange
-    (pick (eqb p 0) (pick (not (same copy builtIn)) refusal.notReady refusal.none)
+    (pick (eqb p 0) (pick (not (eitherBuiltIn copy)) refusal.notReady refusal.none)
     (pick (eqb (standingOf (recordAt book p)) empty) refusal.notReady refusal.none)))
 
 -- r is the part read: all of the copy for plan 0, the plan's record in the book for any other, an empty part where it is refused

@@ -1,34 +1,63 @@
-// 01, "Plan book": plan 0, and reading a plan.
+// 01, "Plan book", and 02, E1: plan 0, and reading a plan.
 ghost use mathlib.Core.Path.{_≡_};
 ghost use Prim.Native.Nat.{_≤_};
 ghost use lib.ListN.{length};
 ghost use Rattle.record.specs.Record.{recordLen, bookLen, plansMost};
-ghost use Rattle.plan.specs.BuiltIn.{builtIn};
-ghost use Rattle.plan.specs.Reading.{recordStart, recordAt, same, readRefusal, PartRead, PlanRead};
+ghost use Rattle.plan.specs.BuiltIn.{builtInGreen, builtInCycle, builtIn};
+ghost use Rattle.plan.specs.Reading.{recordStart, recordAt, same, eitherBuiltIn, readRefusal, PartRead, PlanRead};
 ghost use Rattle.checks.specs.Standing.{standingOf};
 use octets::refusal;
+use plan::Which;
 use record::BOOK_LEN;
 use record::PLANS_MOST;
 use record::RECORD_LEN;
 
-// Plan 0: how many phases, the times of each, and direct, order, both greens, cycle, offset.
+// Plan 0: how many phases, and the times of each.
 const BUILT_IN_K: u8 = 2;
 
 const BUILT_IN_TIMES: [u8; 7] = [10, 0, 90, 3, 2, 5, 2];
 
-const BUILT_IN_PLAN: [u8; 10] = [0, 0, 0, 25, 0, 25, 0, 60, 0, 0];
+// "green 35 in each phase and cycle 80, the rest as before".
+const NEW_GREEN: u8 = 35;
 
-// The built-in record.
-pub fn built_in() -> [u8; RECORD_LEN]
-    ensures { λ r. ⌜ r ≡ builtIn ⌝ }
+const NEW_CYCLE: u8 = 80;
+
+const OLD_GREEN: u8 = 25;
+
+const OLD_CYCLE: u8 = 60;
+
+// The built-in record, the new one or the old.
+pub fn built_in(which: Which) -> [u8; RECORD_LEN]
+    ensures { λ r. ⌜ r ≡ builtIn which ⌝ }
 {
+    let green = built_in_green(which);
+    let cycle = built_in_cycle(which);
     let mut rec = [0u8; RECORD_LEN];
     rec[0] = record::READY;
     rec[1] = BUILT_IN_K;
     let p = octets::put(&BUILT_IN_TIMES, &mut rec, record::HEAD_LEN);
     let q = octets::put(&BUILT_IN_TIMES, &mut rec, p);
-    octets::put(&BUILT_IN_PLAN, &mut rec, q);
+    // direct, order, both greens, cycle, offset
+    octets::put(&[0, 0, 0, green, 0, green, 0, cycle, 0, 0], &mut rec, q);
     rec
+}
+
+fn built_in_green(which: Which) -> u8
+    ensures { λ r. ⌜ r ≡ builtInGreen which ⌝ }
+{
+    match which {
+        Which::New => NEW_GREEN,
+        Which::Old => OLD_GREEN,
+    }
+}
+
+fn built_in_cycle(which: Which) -> u8
+    ensures { λ r. ⌜ r ≡ builtInCycle which ⌝ }
+{
+    match which {
+        Which::New => NEW_CYCLE,
+        Which::Old => OLD_CYCLE,
+    }
 }
 
 // Where the record of a plan starts in the book.
@@ -39,8 +68,8 @@ pub(crate) fn start(plan: u8) -> usize
     RECORD_LEN * (plan as usize - 1)
 }
 
-// The record of a plan: all of the copy of the built-in record for plan 0, the plan's part of the book for any other. Where
-// that is refused, `why` says it and the part is empty.
+// The record of a plan: all of the copy of a built-in record for plan 0, the plan's part of the book for any other. Where that
+// is refused, `why` says it and the part is empty.
 pub fn read_plan<'a>(book: &'a [u8], copy: &'a [u8], plan: u8, why: &mut u8) -> &'a [u8]
     ensures { λ r. ⌜ PlanRead (book .entry) (copy .entry) plan r (now (why .exit)) ⌝ }
 {
@@ -77,7 +106,7 @@ fn read_refusal(book: &[u8], copy: &[u8], plan: u8) -> u8
         return refusal::OUT_OF_RANGE;
     }
     if plan == 0 {
-        if is_built_in(copy) {
+        if either_built_in(copy) {
             return refusal::NONE;
         }
         return refusal::NOT_READY;
@@ -98,22 +127,29 @@ pub(crate) fn standing_of(book: &[u8], plan: u8) -> u8
     checks::standing(&book[at..end])
 }
 
-// Are the octets the built-in record?
-pub fn is_built_in(rec: &[u8]) -> bool
-    ensures { λ r. ⌜ r ≡ same (now (rec .entry)) builtIn ⌝ }
+// "reading a plan takes a copy of either".
+fn either_built_in(copy: &[u8]) -> bool
+    ensures { λ r. ⌜ r ≡ eitherBuiltIn (now (copy .entry)) ⌝ }
+{
+    is_built_in(copy, Which::New) || is_built_in(copy, Which::Old)
+}
+
+// Are the octets this built-in record?
+pub fn is_built_in(rec: &[u8], which: Which) -> bool
+    ensures { λ r. ⌜ r ≡ same (now (rec .entry)) (builtIn which) ⌝ }
 {
     if rec.len() != RECORD_LEN {
         return false;
     }
-    matches(rec)
+    matches(rec, which)
 }
 
 // Every octet is compared, also past the first that differs: so the compiler compares many at once.
-fn matches(copy: &[u8]) -> bool
+fn matches(copy: &[u8], which: Which) -> bool
     requires { ⌜ length (now copy) ≡ recordLen ⌝ }
-    ensures { λ r. ⌜ r ≡ same (now (copy .entry)) builtIn ⌝ }
+    ensures { λ r. ⌜ r ≡ same (now (copy .entry)) (builtIn which) ⌝ }
 {
-    let rec = built_in();
+    let rec = built_in(which);
     let mut alike = true;
     for i in 0..RECORD_LEN {
         if copy[i] != rec[i] {

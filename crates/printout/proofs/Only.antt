@@ -8,6 +8,7 @@ use Rattle.printout.proofs.put_header.Reads as put-header
 use Rattle.printout.proofs.put_second.Reads as put-second
 use Rattle.printout.proofs.put_reply.Reads as put-reply
 use Rattle.printout.proofs.put_bad.Reads as put-bad
+use Rattle.printout.proofs.run.start_asked.Reads as start-asked
 use Rattle.printout.proofs.run.run_start.Reads as run-start
 use Rattle.printout.proofs.run.on_line.Reads as on-line
 
@@ -22,6 +23,9 @@ only-put-reply κs a r s x y p q = (p .place ∙ sym (q .place), p .holds ∙ sy
 
 only-put-bad : (κs : _) (a : _) (r s : _) (x y : _) → put-bad.Post κs a r x → put-bad.Post κs a s y → (r ≡ s) × (now (x .1 .0) ≡ now (y .1 .0))
 only-put-bad κs a r s x y p q = (p .0 .place ∙ sym (q .0 .place), p .0 .holds ∙ sym (q .0 .holds))
+
+only-start-asked : (κs : _) (a : _) (r s : _) (x y : _) → start-asked.Post κs a r x → start-asked.Post κs a s y → r ≡ s
+only-start-asked κs a r s x y p q = p ∙ sym q
 
 only-run-start : (κs : _) (a : _) (r s : _) (x y : _) → run-start.Post κs a r x → run-start.Post κs a s y → r ≡ s
 only-run-start κs a r s x y p q = p ∙ sym q

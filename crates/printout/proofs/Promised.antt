@@ -1,13 +1,15 @@
 -- The promises of specs/Promises.antt: the words by those of the diagrams, the lines as their definitions put them together, 01's listing by
 -- computation.
 use Prim.Native.Nat.{ℕ, _^_, _<_}
-use mathlib.Core.Path.{refl}
-use mathlib.Core.Bool.{not}
+use mathlib.Core.Path.{_≡_, refl}
+use mathlib.Core.Bool.{Bool, true, false, not}
 use mathlib.Core.List.{List, [], _∷_, append-assoc}
-use native.Mathlib.Decide.{decLt}
+use native.Mathlib.Decide.{decLt, ℕ-discrete}
 use native.Mathlib.Omega.{arith}
+use borrow.Author.Tests.{eq-eqb, ne-eqb}
 use lib.Dec.{eqb}
 use lib.ListN.{length, take}
+use Rattle.octets.specs.Choice.{pick, both}
 use Rattle.octets.specs.ExclusiveOr.{xor, exclusiveOr}
 use Rattle.octets.specs.First.{firstOf}
 use Rattle.octets.proofs.Laws.{pick-by}
@@ -23,6 +25,7 @@ use Rattle.message.specs.Reader.{noMessage, notRead, partOf, rangedOf, readPart
 use Rattle.message.specs.Writer.{infoAs}
 use Rattle.record.specs.Record.{bookLen, orderOf}
 use Rattle.checks.specs.Standing.{timesDisagree, planDisagree, ranged, timesStand, planStands, readyStands, allZero, standingOf}
+use Rattle.plan.specs.declared.Which.the-variants.{Old}
 use Rattle.plan.specs.BuiltIn.{padded, builtIn}
 use Rattle.plan.specs.Reading.{same}
 use Rattle.plan.specs.Reporting.{planInfo, reportPlanOf}
@@ -36,13 +39,15 @@ use Rattle.controller.specs.State.{freshOf, runningSound, soundOf}
 use Rattle.controller.specs.Handling.{queryRunningAs, handlingOf}
 use Rattle.controller.specs.Replies.{repliedOf, messageOf, doneOf, octetOf}
 use Rattle.controller.specs.Seconds.{movedOn, noSecond, secondOf}
-use Rattle.text.specs.Text.{digits, placesWithin, places, decimal, blankHex2, spaced, octetsHex}
+use Rattle.plan.proofs.Laws.{same-is}
+use Rattle.text.specs.Text.{ascii, digits, placesWithin, places, decimal, blankHex2, spaced, octetsHex}
 use Rattle.text.proofs.Means.{hex-means}
 use Rattle.line.specs.Line as line
 use Rattle.line.specs.Promises.{founds, lineAfter, foundIn}
 use Rattle.printout.specs.Listing.{header, field, wordText, numbers, secondLine, replyLine, badLine}
-use Rattle.printout.specs.Run.{runStart, secondSaid, badSaid, octetMade, lineMade, listingFrom, listingOf}
-use Rattle.printout.specs.Promises.{WordWhole, WordsWhole, SecondPrinted, ReplyPrinted, none, some, LinesPrint, ListingBegins, TwoSeconds, ReplyAndBad}
+use Rattle.printout.specs.declared.run.Asked.the-variants.{Start, Unknown}
+use Rattle.printout.specs.Run.{startAsked, runStart, secondSaid, badSaid, octetMade, lineMade, listingFrom, listingOf}
+use Rattle.printout.specs.Promises.{WordWhole, WordsWhole, SecondPrinted, ReplyPrinted, none, some, LinesPrint, StartsAsked, ListingBegins, TwoSeconds, ReplyAndBad}
 
 -- Words
 
@@ -99,16 +104,33 @@ lines-print s n b o =
       more = record { state = refl; seconds = refl; line = refl; book = refl; out = refl };
     }
 
+-- The start
+
+pub starts-asked : StartsAsked
+unfolding startAsked same
+starts-asked =
+    record {
+      plain = λ word. refl;
+      old = refl;
+      other = λ words word n o. rw (ne-eqb words 0 n) (by words word o (ℕ-discrete words 1) (same word (ascii "old")) refl);
+    }
+  where
+    by : (words : ℕ) (word : List ℕ) → (words ≡ 1 → word ≡ ascii "old" → ⊥) → Dec (words ≡ 1) → (t : Bool) → same word (ascii "old") ≡ t
+        → pick (both (eqb words 1) (same word (ascii "old"))) (Start Old) Unknown ≡ Unknown
+    by words word o (no m) t h = rw (ne-eqb words 1 m)
+    by words word o (yes e) true h = absurd (o e (same-is word (ascii "old") h))
+    by words word o (yes e) false h = rw (eq-eqb words 1 e, h)
+
 pub listing-begins : ListingBegins
 unfolding runStart header listingFrom listingOf
-listing-begins = record { state = refl; seconds = refl; used = refl; listing = λ input. refl; ended = λ s n b o. refl; next = λ s n b o f fs. refl }
+listing-begins which = record { state = refl; seconds = refl; used = refl; listing = λ input. refl; ended = λ s n b o. refl; next = λ s n b o f fs. refl }
 
 -- 01's listing
 
 pub two-seconds : TwoSeconds
 unfolding firstOf diagram.find table.directory diagram.diagramOf table.lampRows diagram.rowNumber diagram.lampRowOf freshDecoder possibleOf layouts layoutAt known numberOf rowsAt message.layoutRows zeros placed firstOut noMessage notRead partOf rangedOf readPartOf readOf timesDisagree planDisagree ranged timesStand planStands readyStands allZero standingOf padded builtIn same phaseTable secondsOf lamps.countedDown lamps.rowsFrom lamps.rowsOf rowAt freshOf runningSound soundOf movedOn secondOf digits line.lineOctet line.endOf founds lineAfter foundIn header placesWithin places decimal field wordText numbers secondLine secondSaid lineMade listingFrom listingOf
-two-seconds = refl
+two-seconds = (refl, refl)
 
 pub reply-and-bad : ReplyAndBad
 unfolding xor exclusiveOr firstOf diagram.find table.directory diagram.diagramOf table.lampRows diagram.rowNumber diagram.lampRowOf frontOf bodyOf sentOf cksOf twice doubled written freshDecoder possibleOf frontIn cksIn stepOf takenOf layouts layoutAt known numberOf rowsAt message.layoutRows zeros placed firstOut noMessage notRead partOf rangedOf readPartOf readOf infoAs timesDisagree planDisagree ranged timesStand planStands readyStands allZero standingOf padded builtIn same planInfo reportPlanOf phaseTable secondsOf freshOf runningSound soundOf queryRunningAs handlingOf repliedOf messageOf doneOf octetOf digits line.hexOf line.lineOctet line.endOf founds lineAfter foundIn header placesWithin places decimal blankHex2 spaced octetsHex replyLine badLine octetMade badSaid lineMade listingFrom listingOf
-reply-and-bad = refl
+reply-and-bad = (refl, refl)

@@ -1,5 +1,5 @@
 -- 01, "Cases", and 02, E2: what each line of the input does and prints; the lamp words are printed whole; two T lines print what 01
--- shows, its words with sixteen digits, and P1's octets their reply.
+-- shows, its words with sixteen digits, and P1's octets their reply; 02, E1: which start the program's words ask for, and both starts' cases.
 use Prim.Native.Nat.{ℕ, _+_, _%_, _^_}
 use mathlib.Core.Path.{_≡_}
 use mathlib.Core.List.{List, [], _∷_, _++_}
@@ -10,13 +10,16 @@ use Rattle.line.specs.declared.LineFound.{LineFound}
 use Rattle.line.specs.declared.LineFound.the-variants as found
 use Rattle.line.specs.Line.{firstLine}
 use Rattle.line.specs.Promises.{foundIn}
+use Rattle.plan.specs.declared.Which.{Which}
+use Rattle.plan.specs.declared.Which.the-variants.{New, Old}
 use Rattle.lamps.specs.declared.Row.{Row}
 use Rattle.controller.specs.declared.State.{State}
 use Rattle.controller.specs.State.{freshOf}
 use Rattle.controller.specs.Replies.{octetOf}
 use Rattle.controller.specs.Seconds.{secondOf}
 use Rattle.printout.specs.Listing.{wordText}
-use Rattle.printout.specs.Run.{Making, runStart, lineMade, listingFrom, listingOf}
+use Rattle.printout.specs.declared.run.Asked.the-variants.{Start, Unknown}
+use Rattle.printout.specs.Run.{Making, startAsked, runStart, lineMade, listingFrom, listingOf}
 
 -- The lamp words
 
@@ -86,37 +89,59 @@ pub record LinesMake (s : State) (n : ℕ) (b o : List ℕ) : Type 0 where
 abbrev pub LinesPrint : Type 0
 LinesPrint = (s : State) (n : ℕ) (b o : List ℕ) → LinesMake s n b o
 
+-- The start
+
+-- no word asks for the plain start; the one word `old`, 6F 6C 64, for the other; whatever else it is given, the program does not know it
+pub record WordsAsk : Type 0 where
+  pub plain : (word : List ℕ) → startAsked 0 word ≡ Start New
+  pub old : startAsked 1 (0x6F ∷ 0x6C ∷ 0x64 ∷ []) ≡ Start Old
+  pub other : (words : ℕ) (word : List ℕ) → (words ≡ 0 → ⊥) → (words ≡ 1 → word ≡ 0x6F ∷ 0x6C ∷ 0x64 ∷ [] → ⊥) → startAsked words word ≡ Unknown
+
+abbrev pub StartsAsked : Type 0
+StartsAsked = WordsAsk
+
 -- "starts fresh at address 0001 with an empty book", no second so far; "It prints a header", then what each line prints, one after
 -- another, each with what the one before it made
-pub record ListingStarts : Type 0 where
-  pub state : runStart .state ≡ freshOf 0x0001
-  pub seconds : runStart .seconds ≡ 0
-  pub used : runStart .used ≡ 0
-  pub listing : (input : List ℕ) → listingOf input
+pub record ListingStarts (which : Which) : Type 0 where
+  pub state : runStart which .state ≡ freshOf which 0x0001
+  pub seconds : runStart which .seconds ≡ 0
+  pub used : runStart which .used ≡ 0
+  pub listing : (input : List ℕ) → listingOf which input
       ≡ ascii "second\tplan\tstep\tleft\tsteady\tflashing\n"
-      ++ listingFrom (freshOf 0x0001) 0 (replicate 3840 0x00) (replicate 544 0x00) (foundIn firstLine input)
+      ++ listingFrom (freshOf which 0x0001) 0 (replicate 3840 0x00) (replicate 544 0x00) (foundIn firstLine input)
   pub ended : (s : State) (n : ℕ) (b o : List ℕ) → listingFrom s n b o [] ≡ []
   pub next : (s : State) (n : ℕ) (b o : List ℕ) (f : LineFound) (fs : List LineFound) → listingFrom s n b o (f ∷ fs)
       ≡ lineMade f s n b o .said .text
       ++ listingFrom (lineMade f s n b o .said .state) (lineMade f s n b o .said .seconds) (lineMade f s n b o .book) (lineMade f s n b o .out) fs
 
 abbrev pub ListingBegins : Type 0
-ListingBegins = ListingStarts
+ListingBegins = (which : Which) → ListingStarts which
 
 -- 01's listing
 
--- "Two T lines give, fields parted by tabs"; 02, E2: "The listing prints sixteen digits a word."
+-- "Two T lines give, fields parted by tabs"; 02, E2: "The listing prints sixteen digits a word."; E1: "Step 1 then starts at 28", with the old
+-- plan at 18
 abbrev pub TwoSeconds : Type 0
 TwoSeconds =
-    listingOf (ascii "T\nT\n")
+    (listingOf New (ascii "T\nT\n")
+    ≡ ascii "second\tplan\tstep\tleft\tsteady\tflashing\n"
+    ++ ascii "0\t0\t1\t28\t0000000041418888\t0000000000000000\n"
+    ++ ascii "1\t0\t1\t27\t0000000041418888\t0000000000000000\n")
+    × (listingOf Old (ascii "T\nT\n")
     ≡ ascii "second\tplan\tstep\tleft\tsteady\tflashing\n"
     ++ ascii "0\t0\t1\t18\t0000000041418888\t0000000000000000\n"
-    ++ ascii "1\t0\t1\t17\t0000000041418888\t0000000000000000\n"
+    ++ ascii "1\t0\t1\t17\t0000000041418888\t0000000000000000\n")
 
 -- P1 as octets, in capitals or not, and a bad line: "`reply`, tab, octets in hex with spaces, and for a bad line `bad`, tab, its
--- number from 1"; the reply is P2 and P3
+-- number from 1"; the reply is P2 and P3, E1's and the old one
+abbrev pub p1AndBad : List ℕ
+p1AndBad = ascii "B\tAA\nB\tBB\nB\t07\nB\t00\nB\t01\nB\t00\nB\t0c\nB\t5F\nB\t48\nB\taa\nB\tCC\nB\t6a\nB\t6\n"
+
 abbrev pub ReplyAndBad : Type 0
 ReplyAndBad =
-    listingOf (ascii "B\tAA\nB\tBB\nB\t07\nB\t00\nB\t01\nB\t00\nB\t0c\nB\t5F\nB\t48\nB\taa\nB\tCC\nB\t6a\nB\t6\n")
+    (listingOf New p1AndBad
     ≡ ascii "second\tplan\tstep\tleft\tsteady\tflashing\n"
-    ++ ascii "reply\tAA DD 07 00 01 00 08 79 AA BB 00 00 01 00 18 5F C8 00 00 00 02 00 19 00 19 00 3C 00 00 AA CC C7\nbad\t13\n"
+    ++ ascii "reply\tAA DD 07 00 01 00 08 79 AA BB 00 00 01 00 18 5F C8 00 00 00 02 00 23 00 23 00 50 00 00 AA CC AB\nbad\t13\n")
+    × (listingOf Old p1AndBad
+    ≡ ascii "second\tplan\tstep\tleft\tsteady\tflashing\n"
+    ++ ascii "reply\tAA DD 07 00 01 00 08 79 AA BB 00 00 01 00 18 5F C8 00 00 00 02 00 19 00 19 00 3C 00 00 AA CC C7\nbad\t13\n")

@@ -2,26 +2,42 @@
 use Prim.Native.Nat.{ℕ, _+_, _%_, _^_, _≤_}
 use mathlib.Core.Path.{_≡_}
 use mathlib.Core.List.{List, [], _∷_, _++_}
+use lib.Dec.{eqb}
 use lib.ListN.{length, take, replicate}
+use Rattle.octets.specs.Choice.{pick, both}
 use Rattle.octets.specs.Put.{Put}
 use Rattle.record.specs.Record.{emptyBook}
+use Rattle.plan.specs.declared.Which.{Which}
+use Rattle.plan.specs.declared.Which.the-variants.{New, Old}
+use Rattle.plan.specs.Reading.{same}
 use Rattle.controller.specs.declared.State.{State}
 use Rattle.controller.specs.State.{outputLen, freshOf}
 use Rattle.controller.specs.Replies.{octetOf}
 use Rattle.controller.specs.Seconds.{secondOf}
 use Rattle.line.specs.declared.LineFound.{LineFound}
 use Rattle.line.specs.declared.LineFound.the-variants as found
+use Rattle.text.specs.Text.{ascii}
 use Rattle.line.specs.Line.{firstLine}
 use Rattle.line.specs.Promises.{foundIn}
 use Rattle.printout.specs.declared.run.Run.{Run}
+use Rattle.printout.specs.declared.run.Asked.{Asked}
+use Rattle.printout.specs.declared.run.Asked.the-variants.{Start, Unknown}
 use Rattle.printout.specs.Listing.{header, secondLine, replyLine, badLine}
 
 -- "starts fresh at address 0001"
 abbrev pub own : ℕ
 own = 0x0001
 
-unfoldable pub runStart : Run
-runStart = record { state = freshOf own; seconds = 0; used = 0 }
+unfoldable pub runStart : Which → Run
+runStart which = record { state = freshOf which own; seconds = 0; used = 0 }
+
+-- 02, E1: "A start call that names the old built-in plan stays for those lessons; the plain start takes the new one.": so many words stand
+-- after the program's name, and this is the first of them
+unfoldable pub startAsked : ℕ → List ℕ → Asked
+startAsked words word =
+    pick (eqb words 0) (Start New)
+    (pick (both (eqb words 1) (same word (ascii "old"))) (Start Old)
+    Unknown)
 
 -- no line adds more: three places for each of the 544 octets of the longest reply, and six
 abbrev pub textMost : ℕ
@@ -87,5 +103,5 @@ listingFrom s n book out (f ∷ fs) =
     m .said .text ++ listingFrom (m .said .state) (m .said .seconds) (m .book) (m .out) fs
 
 -- "starts fresh at address 0001 with an empty book"
-unfoldable pub listingOf : List ℕ → List ℕ
-listingOf input = header ++ listingFrom (freshOf own) 0 emptyBook (replicate outputLen 0) (foundIn firstLine input)
+unfoldable pub listingOf : Which → List ℕ → List ℕ
+listingOf which input = header ++ listingFrom (freshOf which own) 0 emptyBook (replicate outputLen 0) (foundIn firstLine input)

@@ -1,8 +1,13 @@
-// 01, "Cases": the listing itself: what each line of the input does to the controller, and the text that it adds.
+// 01, "Cases": the listing itself: its start, what each line of the input does to the controller, and the text that it adds.
 ghost use mathlib.Core.Path.{_≡_};
-ghost use Rattle.printout.specs.Run.{Said, Listed, runStart, secondSaid, badSaid, octetMade, lineMade};
+ghost use Rattle.text.specs.Text.{ascii};
+ghost use Rattle.plan.specs.Reading.{same};
+ghost use Rattle.controller.specs.Seconds.{startedOf};
+ghost use Rattle.printout.specs.Run.{own, Said, Listed, startAsked, runStart, secondSaid, badSaid, octetMade, lineMade};
+use controller::Started;
 use controller::State;
 use line::LineFound;
+use plan::Which;
 
 // "The listing program starts fresh at address 0001".
 const OWN: u16 = 0x0001;
@@ -15,16 +20,63 @@ pub struct Run {
     pub used: usize,
 }
 
-// A fresh start, with nothing in the text.
-pub fn run_start() -> Run
-    ensures { λ r. ⌜ r ≡ runStart ⌝ }
+// The start that the program's words ask for, or words that it does not know.
+pub enum Asked {
+    Start(Which),
+    Unknown,
+}
+
+// 02, E1: "the plain start takes the new one"; the word `old` asks for the other. So many words stand after the program's name, and
+// this is the first of them.
+pub fn start_asked(words: usize, word: &[u8]) -> Asked
+    ensures { λ r. ⌜ r ≡ startAsked words (now (word .entry)) ⌝ }
 {
-    let s = calls::fresh(OWN);
+    if words == 0 {
+        return Asked::Start(Which::New);
+    }
+    if words != 1 {
+        return Asked::Unknown;
+    }
+    if is_old(word) {
+        return Asked::Start(Which::Old);
+    }
+    Asked::Unknown
+}
+
+fn is_old(word: &[u8]) -> bool
+    ensures { λ r. ⌜ r ≡ same (now (word .entry)) (ascii "old") ⌝ }
+{
+    if word.len() != 3 {
+        return false;
+    }
+    if word[0] != b'o' {
+        return false;
+    }
+    if word[1] != b'l' {
+        return false;
+    }
+    word[2] == b'd'
+}
+
+// A fresh start, with nothing in the text.
+pub fn run_start(which: Which) -> Run
+    ensures { λ r. ⌜ r ≡ runStart which ⌝ }
+{
+    let s = started(which);
     let state = s.state;
     Run {
         state,
         seconds: 0,
         used: 0,
+    }
+}
+
+fn started(which: Which) -> Started
+    ensures { λ r. ⌜ r ≡ startedOf which own ⌝ }
+{
+    match which {
+        Which::New => calls::fresh(OWN),
+        Which::Old => calls::fresh_old(OWN),
     }
 }
 

@@ -8,7 +8,7 @@ use Rattle.listing.proofs.read_all.Tie as tie
 
 abbrev Inv-loop : tie.InvT-loop
 Inv-loop book₀ out₀ text₀ g₀ turns₀ book out text g turns =
-    (length book ≡ length book₀) × (length out ≡ length out₀) × Room (g .run) text
+    (length book ≡ length book₀) × (length out ≡ length out₀) × (length text ≡ length text₀) × Room (g .run) text
 
 abbrev μ-loop : tie.MeasureT-loop
 μ-loop book₀ out₀ text₀ g₀ turns₀ book out text g turns = turns

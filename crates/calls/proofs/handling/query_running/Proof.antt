@@ -10,14 +10,14 @@ returns : tie.Need-returns
 returns c =
     let r = c .before .before .before in
     let a = r .before .before .args in
-    c .refused .ensures ∙ running-unread (a .code) (a .requested) [] (a .info .now) (r .read .ensures) (c .before .if1 .taken) (a .u)
+    c .refused .ensures ∙ running-unread (a .u .which) (a .code) (a .requested) [] (a .info .now) (r .read .ensures) (c .before .if1 .taken) (a .u)
 
 returns-2 : tie.Need-returns-2
 returns-2 c =
     let i = c .before .before .before .before in
     let r = i .before .before in
     let a = r .before .before .args in
-    c .accepted .ensures ∙ running-done (a .code) (a .requested) [] (a .info .now) (r .read .ensures) (i .if1 .left) (a .u) (c .before .report-plan .ensures)
+    c .accepted .ensures ∙ running-done (a .u .which) (a .code) (a .requested) [] (a .info .now) (r .read .ensures) (i .if1 .left) (a .u) (c .before .report-plan .ensures)
 
 pub query-running-spec : {M : Type 1} → statement M
 query-running-spec = tie.close (tie.spec (λ c κs. search needs) (λ c κs. search needs) returns (λ c. search needs) (λ c κs. search needs) (λ c κs. search needs) returns-2)

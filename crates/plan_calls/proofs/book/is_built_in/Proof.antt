@@ -8,7 +8,9 @@ use Rattle.plan_calls.proofs.book.is_built_in.Statement.{statement}
 use Rattle.plan_calls.proofs.book.is_built_in.Tie as tie
 
 returns : tie.Need-returns
-returns c = same-not (c .before .before .args .rec .now) builtIn (λ (e : _ ≡ length builtIn). c .if1 .taken (e ∙ length-built-in))
+returns c =
+    let a = c .before .before .args in
+    same-not (a .rec .now) (builtIn (a .which)) (λ (e : _ ≡ length (builtIn (a .which))). c .if1 .taken (e ∙ length-built-in (a .which)))
 
 pub is-built-in-spec : {M : Type 1} → statement M
 is-built-in-spec = tie.close (tie.spec returns (λ c κs. search needs) (λ c. search needs))

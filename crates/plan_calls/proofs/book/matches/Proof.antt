@@ -19,7 +19,7 @@ abbrev μ-loop : tie.MeasureT-loop
 μ-loop copy rec alike₀ i₀ alike i = recordLen - i
 
 loop-holds : tie.Need-loop-holds Inv-loop μ-loop
-loop-holds c = (search needs, ap length (c .built-in .ensures) ∙ length-built-in, refl)
+loop-holds c = (search needs, ap length (c .built-in .ensures) ∙ length-built-in (c .before .before .args .which), refl)
 
 loop-again : tie.Need-loop-again Inv-loop μ-loop
 loop-again c =

@@ -25,7 +25,7 @@ returns-4 c =
     let d = e .before .before in
     let a = d .before .before .before .args in
     read-zero (a .book .now) (a .copy .now) (a .plan) (d .if1 .left) (e .before .if2 .left) (e .if3 .left) (c .before .before .if4 .taken)
-    (c .before .is-built-in .ensures)
+    (c .before .either-built-in .ensures)
     (c .if5 .taken)
 
 returns-5 : tie.Need-returns-5
@@ -34,7 +34,7 @@ returns-5 c =
     let d = e .before .before in
     let a = d .before .before .before .args in
     refused-zero (a .book .now) (a .copy .now) (a .plan) (d .if1 .left) (e .before .if2 .left) (e .if3 .left) (c .before .before .if4 .taken)
-    (c .before .is-built-in .ensures)
+    (c .before .either-built-in .ensures)
     (c .if5 .left)
 
 returns-6 : tie.Need-returns-6

@@ -7,7 +7,7 @@ use Rattle.printout.proofs.run.run_start.Tie as tie
 
 returns : tie.Need-returns
 unfolding runStart startedOf
-returns c = rw (c .before .fresh .ensures)
+returns c = rw (c .before .started .ensures)
 
 pub run-start-spec : {M : Type 1} → statement M
 run-start-spec =

@@ -1,12 +1,12 @@
--- `listing::main` is safe: the header leaves room for a line, and what is left of the text is written at the end.
+-- `listing::list` is safe: the header leaves room for a line, and what is left of the text is written at the end.
 use mathlib.Core.Path.{sym}
 use native.Mathlib.Omega.{arith}
 use lib.Seq.{length-take-le}
 use Rattle.octets.proofs.Laws.{put-stored}
 use Rattle.printout.specs.Listing.{header}
 use borrow.Author.Needs.{needs}
-use Rattle.listing.proofs.main.Statement.{statement}
-use Rattle.listing.proofs.main.Tie as tie
+use Rattle.listing.proofs.list.Statement.{statement}
+use Rattle.listing.proofs.list.Tie as tie
 
 read-all-requires : tie.Need-read-all-requires
 unfolding header
@@ -17,8 +17,8 @@ read-all-requires c κs =
 slice-aggregate-write-all : tie.Need-slice-aggregate-write-all
 slice-aggregate-write-all c = sym (length-take-le _ _ (search needs))
 
-pub main-spec : {M : Type 1} → statement M
-main-spec =
+pub list-spec : {M : Type 1} → statement M
+list-spec =
     tie.close
     (tie.spec
     (λ c. search needs)
