@@ -270,7 +270,7 @@ module _ (s : State) (book : List ℕ) where
   second-which =
       let P : Shown → Type 0 = λ a. a .state .running .which ≡ s .running .which in
       pick-by P (not (soundOf s)) (λ _. refl)
-      (λ _. pick-by P (not (eqb (length book) bookLen)) (λ _. refl) (λ _. moved-which (s .running) (s .requested) book))
+      (λ _. pick-by P (not (eqb (length book) bookLen)) (λ _. refl) (λ _. moved-which (s .running) _ book))
 
   -- by the two ways of a second in a sound state
   pub by-second : soundOf s ≡ true → (P : Shown → Type 0) → (length book ≡ bookLen → P (secondShown s book)) → P (noSecond s refusal.bookWrong)

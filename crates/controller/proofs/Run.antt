@@ -15,6 +15,7 @@ use Rattle.octets.proofs.Laws.{octets-part}
 use Rattle.record.specs.Record.{recordLen, bookLen, ready, cycleOf, Ready}
 use Rattle.checks.specs.Standing.{standingOf, Stands}
 use Rattle.plan.specs.declared.Which.{Which}
+use Rattle.plan.specs.BuiltIn.{builtIn}
 use Rattle.plan.specs.Reading.{recordStart, recordAt}
 use Rattle.checks.proofs.Stands.{stands-as-it-is}
 use Rattle.lamps.specs.Rows.{rowsOf, rowAt, noRow}
@@ -33,7 +34,7 @@ use Rattle.controller.specs.declared.State.{State}
 use Rattle.controller.specs.State.{all, freshOf, soundOf, readyIn}
 use Rattle.controller.specs.Replies.{octetOf, lineIdleOf}
 use Rattle.controller.specs.Seconds.{startedOf, pickedOf, noSecond, secondOf}
-use Rattle.controller.specs.Demand3.{HostCall, octet, lineIdle, second, next, goesOn, run, WhichKept, Second, secondOfPlan, secondAccepted, says, saysOn, SecondsInARow, seconds, latestRun, cycleOfPlan, Chosen, OneChoice, SecondsLeave, CyclesInRun, unfinished, whole, RunsWholeCycles, HoldsWhole, AnyWindow, NoSecond, SetsNeverAlter, leftOf, crossing, CrossingCycles, CrossingHolds}
+use Rattle.controller.specs.Demand3.{HostCall, octet, lineIdle, second, next, goesOn, run, WhichKept, PlanZeroThroughout, Second, secondOfPlan, secondAccepted, says, saysOn, SecondsInARow, seconds, latestRun, cycleOfPlan, Chosen, OneChoice, SecondsLeave, CyclesInRun, unfinished, whole, RunsWholeCycles, HoldsWhole, AnyWindow, NoSecond, SetsNeverAlter, leftOf, crossing, CrossingCycles, CrossingHolds}
 use Rattle.plan.proofs.Cases.{built-in-stands}
 use Rattle.controller.proofs.Laws.{picked-ready, picked-stays, moved-within, moved-ends, second-8, second-done}
 use Rattle.controller.proofs.Judging.{RunningParts, sound-parts}
@@ -186,6 +187,9 @@ module _ (which : Which) (own : ℕ) (n : own ≡ all → ⊥) where
   parts : (past : List HostCall) → RunningParts (running past)
   parts past = sound-parts (run which own past) (sound past) .running
 
+  zero-is : (past : List HostCall) → running past .plan ≡ 0 → running past .copy ≡ builtIn which
+  zero-is past z = parts past .zero z ∙ ap builtIn (which-kept .1 which own past)
+
   stands-ready : (past : List HostCall) → Ready (running past .copy)
   stands-ready past = stands-as-it-is (running past .copy) (run-kept which own n past .octets) .readyFrom (parts past .checks)
 
@@ -307,6 +311,9 @@ crossing-cycles which own n es = cycles-run.whole-cycles (crossing which own) (�
 pub runs-whole-cycles : RunsWholeCycles
 unfolding startedOf freshOf
 runs-whole-cycles which own n es = cycles-due which own n (crossing-cycles which own n es) refl
+
+pub plan-zero-throughout : PlanZeroThroughout
+plan-zero-throughout which own n es = zero-is which own n es
 
 -- Any 1,799
 

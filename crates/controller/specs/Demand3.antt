@@ -99,6 +99,12 @@ WhichKept =
     ((s : State) (e : HostCall) → next s e .running .which ≡ s .running .which)
     × ((which : Which) (own : ℕ) (es : List HostCall) → run which own es .running .which ≡ which)
 
+-- "and plan 0 means that one throughout": whenever plan 0 runs, after whatever calls, its record is that of the start
+abbrev pub PlanZeroThroughout : Type 0
+PlanZeroThroughout =
+    (which : Which) (own : ℕ) → (own ≡ 0xFFFF → ⊥) → (es : List HostCall)
+    → run which own es .running .plan ≡ 0 → run which own es .running .copy ≡ builtIn which
+
 -- "The latest run message carried out", told from the octets handed in
 
 -- what was heard so far: where the decoder is, and the plan of the latest run message carried out, 0 if none

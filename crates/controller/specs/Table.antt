@@ -42,8 +42,8 @@ abbrev pub stepRow : Which → ℕ → List ℕ
 stepRow which step = steadyOf 0 step ∷ flashingOf 0 step ∷ secondsOf (builtIn which) step ∷ []
 
 -- the ten step rows, then what comes out when P1 goes in after this start, and when P4 goes in next
-abbrev pub rowsFrom : Which → List (List ℕ)
-rowsFrom which =
+abbrev pub rowsOfStart : Which → List (List ℕ)
+rowsOfStart which =
     let step = stepRow which in
     step 1 ∷ step 2 ∷ step 3 ∷ step 4 ∷ step 5 ∷ step 6 ∷ step 7 ∷ step 8 ∷ step 9 ∷ step 10
     ∷ cameOut (freshOf which 0x0001) p1
@@ -51,7 +51,7 @@ rowsFrom which =
     ∷ []
 
 unfoldable pub rows : List (List ℕ)
-rows = rowsFrom New ++ rowsFrom Old
+rows = rowsOfStart New ++ rowsOfStart Old
 
 -- "| Step | Steady, flashing | Seconds |", where steps 1 and 6 have so many; "P2 its ACK", then P3; the ACK of P4, "P5 its message"
 abbrev pub dueWith : ℕ → List ℕ → List (List ℕ)

@@ -68,6 +68,7 @@ module _ (book copy : List ℕ) (p : ℕ) (o : Octets book) where
       not-one : (which : Which) → copy ≡ builtIn which → ⊥
       not-one New = n
       not-one Old = m
+
       neither : (t : Bool) → eitherBuiltIn copy ≡ t → eitherBuiltIn copy ≡ false
       neither true e = let w = either-is copy e in absurd (not-one (w .0) (w .1))
       neither false e = e
