@@ -38,14 +38,14 @@ use Rattle.plan.proofs.Cases.{built-in-stands}
 use Rattle.controller.specs.declared.Running.{Running}
 use Rattle.controller.specs.declared.State.{State}
 use Rattle.controller.specs.declared.Handled.{Handled}
-use Rattle.controller.specs.State.{all, runningSound, soundOf, planRecord, startedAt}
+use Rattle.controller.specs.State.{all, runningSound, soundOf, recordWith, planRecord, startedAt}
 use Rattle.controller.specs.Handling.{runCode, queryTimesCode, queryPlanCode, queryRunningCode, carriedOutReply, accepted, refusedWith, setAs, unlessUnread, runAs, queryTimesAs, queryPlanAs, queryRunningAs, handlingOf}
 use Rattle.controller.specs.Replies.{refusedCall, doneOf}
 use Rattle.controller.specs.Seconds.{pickedOf}
 use Rattle.controller.proofs.Laws.{picked-ready, picked-stays}
 use Rattle.controller.proofs.Judging.{sound-parts}
 use Rattle.calls.specs.Handling.{HandlingLeaves}
-use Rattle.calls.specs.Stepper.{recordWith, RecordOf}
+use Rattle.calls.specs.Stepper.{RecordOf}
 
 -- The octet call
 

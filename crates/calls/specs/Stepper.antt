@@ -3,16 +3,10 @@ use Prim.Native.Nat.{ℕ}
 use mathlib.Core.Path.{_≡_}
 use mathlib.Core.List.{List}
 use Rattle.record.specs.Record.{empty, stateOf}
-use lib.Dec.{eqb}
-use Rattle.octets.specs.Choice.{pick}
 use Rattle.checks.specs.Standing.{standingOf}
-use Rattle.plan.specs.Reading.{recordAt}
+use Rattle.controller.specs.State.{recordWith}
 
--- the record of plan p where plan 0 has this one
-abbrev pub recordWith : List ℕ → List ℕ → ℕ → List ℕ
-recordWith zero book p = pick (eqb p 0) zero (recordAt book p)
-
--- r is the record of plan p as reading a plan gives it: an empty plan reads as an empty part
+-- r is the record of plan p as reading a plan gives it, where `zero` was lent for plan 0: an empty plan reads as an empty part
 pub record RecordOf (zero book : List ℕ) (p : ℕ) (r : List ℕ) : Type 0 where
   pub stands : standingOf r ≡ standingOf (recordWith zero book p)
   pub octets : (standingOf r ≡ empty → ⊥) → r ≡ recordWith zero book p

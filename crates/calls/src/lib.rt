@@ -6,9 +6,8 @@ mod soundness;
 mod stepper;
 
 ghost use mathlib.Core.Path.{_≡_};
-ghost use Rattle.plan.specs.declared.Which.the-variants.{New, Old};
 ghost use Rattle.controller.specs.Replies.{CallLeaves, quiet, octetOf, lineIdleOf};
-ghost use Rattle.controller.specs.Seconds.{startedOf, noSecond, secondOf};
+ghost use Rattle.controller.specs.Seconds.{startedOf, plainStartOf, oldStartOf, noSecond, secondOf};
 use codec::decoder;
 use controller::ALL;
 use controller::Answer;
@@ -25,14 +24,14 @@ use record::BOOK_LEN;
 
 // "A fresh start runs and requests plan 0 at position 0."; 02, E1: "the plain start takes the new one".
 pub fn fresh(own: u16) -> Started
-    ensures { λ r. ⌜ r ≡ startedOf New own ⌝ }
+    ensures { λ r. ⌜ r ≡ plainStartOf own ⌝ }
 {
     fresh_with(Which::New, own)
 }
 
 // "A start call that names the old built-in plan stays".
 pub fn fresh_old(own: u16) -> Started
-    ensures { λ r. ⌜ r ≡ startedOf Old own ⌝ }
+    ensures { λ r. ⌜ r ≡ oldStartOf own ⌝ }
 {
     fresh_with(Which::Old, own)
 }

@@ -83,18 +83,23 @@ fn called(s: State, word: u8, o: &[u8], book: &mut [u8], out: &mut [u8]) -> Stat
 
 // A fresh start with this own address.
 fn fresh(own: u16) -> State {
-    say::text(b"\tfresh ");
-    started(own, calls::fresh(own))
+    say_fresh(own);
+    started(calls::fresh(own))
 }
 
 // The same with the old built-in plan.
 fn earlier(own: u16) -> State {
-    say::text(b"\tfresh with the old plan 0 ");
-    started(own, calls::fresh_old(own))
+    say_fresh(own);
+    say::text(b" with the old plan 0");
+    started(calls::fresh_old(own))
 }
 
-fn started(own: u16, f: Started) -> State {
+fn say_fresh(own: u16) {
+    say::text(b"\tfresh ");
     say::octets(&[octets::high(own), octets::low(own)]);
+}
+
+fn started(f: Started) -> State {
     if f.refusal != refusal::NONE {
         say::call_refused(f.refusal);
     }

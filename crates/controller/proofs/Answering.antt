@@ -29,6 +29,8 @@ use Rattle.message.specs.Reader.{codeIn, bodyIn, readOf}
 use Rattle.message.specs.Writer.{infoOf}
 use Rattle.message.specs.Promises.{Judged, short, body, unknown, wrongLength, outOfRange, accepted}
 use Rattle.message.proofs.ReadSo.{read-so}
+use Rattle.plan.specs.declared.Which.{Which}
+use Rattle.plan.specs.declared.Which.the-variants.{New, Old}
 use Rattle.plan.specs.declared.setting.Answered.{Answered}
 use Rattle.record.specs.Record.{bookLen, empty, kOf}
 use Rattle.checks.specs.Standing.{timesDisagree, planDisagree, standingOf, Stands}
@@ -45,7 +47,7 @@ use Rattle.controller.specs.Handling as handling
 use Rattle.controller.specs.Handling.{setAs, unlessUnread, runAs, queryTimesAs, queryPlanAs, queryRunningAs, handlingOf}
 use Rattle.controller.specs.Replies.{Call, sent, refusedCall, errOf, naks, acks, forUs, isAnswer, repliesOf, CanFind, ResultAndBook, unchanged, leaves, repliedOf, messageOf, eventFor, broughtOf, madeOf, octetOf}
 use Rattle.controller.specs.Seconds.{startedOf, secondOf, noSecond}
-use Rattle.controller.specs.Demand1.{Sound, SoundAsItIs, OctetRefused, CallRefused, InDone, OctetsAnswered, SecondRefused, ShownRefused, SecondsAnswered, IdlesAnswered, StartsAnswered, RefusedLeavesBook, OutputsLeft, NumbersAsSaid, CallsLeaveSo}
+use Rattle.controller.specs.Demand1.{Sound, SoundAsItIs, OctetRefused, CallRefused, InDone, OctetsAnswered, SecondRefused, ShownRefused, SecondsAnswered, IdlesAnswered, StartAnswered, StartsAnswered, RefusedLeavesBook, OutputsLeft, NumbersAsSaid, CallsLeaveSo}
 use Rattle.controller.proofs.Laws.{octet-7, octet-8, octet-9, octet-brings, idle-7, idle-done, second-7, second-8, second-done}
 use Rattle.controller.proofs.Judging.{RunningParts, SoundParts, sound-parts, parts-sound}
 use Rattle.controller.proofs.Keeping.{fresh-sound}
@@ -81,16 +83,20 @@ sound-as-it-is s o = record { from = λ h. from (sound-parts s h); to = λ h. pa
 
 -- The fresh start
 
-pub starts-answered : StartsAnswered
+start-answered : (which : Which) (own : ℕ) → StartAnswered which own (startedOf which own)
 unfolding startedOf soundOf freshOf freshDecoder
-starts-answered which own =
+start-answered which own =
     record {
       state = refl;
       others = refl;
-      fresh = refl;
       refused = λ e. (rw (eq-eqb own all e), rw (eq-eqb own all e));
       done = λ n. (rw (ne-eqb own all n), fresh-sound which own n);
+      fresh = refl;
+      started = refl;
     }
+
+pub starts-answered : StartsAnswered
+starts-answered own = (start-answered New own, start-answered Old own)
 
 -- The line-idle call
 

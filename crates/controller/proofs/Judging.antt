@@ -8,7 +8,6 @@ use lib.Dec.{eqb, ltb, leb}
 use Rattle.octets.specs.Choice.{pick, both}
 use Rattle.octets.specs.Octet.{Octets}
 use Rattle.octets.proofs.Laws.{pick-by, both-left, both-right, clash, octets-part}
-use native.Mathlib.Omega.{arith}
 use Rattle.frame.specs.Decoder.{possibleOf}
 use Rattle.record.specs.Record.{recordLen, plansMost, ready, cycleOf}
 use Rattle.checks.specs.Standing.{standingOf}

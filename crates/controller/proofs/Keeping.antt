@@ -247,7 +247,8 @@ module _ (u : Running) (p : ℕ) (book : List ℕ) where
     picked-sound =
         by-picked RunningParts
         (λ r. let e = eqb-true (standingOf (planRecord (u .which) book p)) ready r in
-        record { position = ready-cycle (planRecord (u .which) book p) e; plan = most; checks = e; zero = λ z. rw (eq-eqb p 0 z) })
+        let c = ready-cycle (planRecord (u .which) book p) e in
+        record { position = c; plan = most; checks = e; zero = λ z. rw (eq-eqb p 0 z) })
         (λ _. record { position = ready-cycle (u .copy) (g .checks); plan = g .plan; checks = g .checks; zero = g .zero })
 
     pub moved-sound : RunningParts (movedOn u p book)

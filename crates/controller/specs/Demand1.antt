@@ -13,15 +13,17 @@ use Rattle.frame.specs.declared.decoder.Place.the-variants.{Idle}
 use Rattle.frame.specs.Decoder.{possibleOf}
 use Rattle.record.specs.Record.{recordLen, plansMost, bookLen, cycleOf, Ready}
 use Rattle.plan.specs.declared.Which.{Which}
+use Rattle.plan.specs.declared.Which.the-variants.{New, Old}
 use Rattle.plan.specs.BuiltIn.{builtIn}
 use Rattle.controller.specs.declared.Running.{Running}
 use Rattle.controller.specs.declared.State.{State}
+use Rattle.controller.specs.declared.Started.{Started}
 use Rattle.controller.specs.declared.Event.the-variants as event
 use Rattle.controller.specs.declared.Answer.{Answer}
 use Rattle.controller.specs.declared.Shown.{Shown}
 use Rattle.controller.specs.State.{all, outputLen, freshOf, soundOf}
 use Rattle.controller.specs.Replies.{Call, CallLeaves, octetOf, lineIdleOf}
-use Rattle.controller.specs.Seconds.{startedOf, secondOf}
+use Rattle.controller.specs.Seconds.{startedOf, plainStartOf, oldStartOf, secondOf}
 
 -- Which states are sound
 
@@ -144,17 +146,20 @@ FreshAt which own t =
       running = record { which = which; plan = 0; position = 0; copy = builtIn which };
     }
 
--- "fresh start with address FFFF": "a fresh state but for own address FFFF, so unsound"; which one is kept there too
-pub record StartAnswered (which : Which) (own : ℕ) : Type 0 where
-  pub state : FreshAt which own (startedOf which own .state)
-  pub others : startedOf which own ≡ record { refusal = startedOf which own .refusal; state = startedOf which own .state }
+-- what a start call answers; "fresh start with address FFFF": "a fresh state but for own address FFFF, so unsound", and which one is kept
+-- there too
+pub record StartAnswered (which : Which) (own : ℕ) (a : Started) : Type 0 where
+  pub state : FreshAt which own (a .state)
+  pub others : a ≡ record { refusal = a .refusal; state = a .state }
+  pub refused : own ≡ 0xFFFF → (a .refusal ≡ 6) × (soundOf (a .state) ≡ false)
+  pub done : (own ≡ 0xFFFF → ⊥) → (a .refusal ≡ 0) × (soundOf (a .state) ≡ true)
+  -- and what runs and listings begin with
   pub fresh : FreshAt which own (freshOf which own)
-  pub refused : own ≡ 0xFFFF → (startedOf which own .refusal ≡ 6) × (soundOf (startedOf which own .state) ≡ false)
-  pub done : (own ≡ 0xFFFF → ⊥) → (startedOf which own .refusal ≡ 0) × (soundOf (startedOf which own .state) ≡ true)
+  pub started : startedOf which own ≡ a
 
--- both starts: "A start call that names the old built-in plan stays .. the plain start takes the new one."
+-- 02, E1: "A start call that names the old built-in plan stays for those lessons; the plain start takes the new one."
 abbrev pub StartsAnswered : Type 0
-StartsAnswered = (which : Which) (own : ℕ) → StartAnswered which own
+StartsAnswered = (own : ℕ) → StartAnswered New own (plainStartOf own) × StartAnswered Old own (oldStartOf own)
 
 -- What is left alone
 

@@ -144,8 +144,8 @@ pub record Refused (s : State) (seq addr n m : ℕ) (before info : List ℕ) (w 
   pub book : w .book ≡ before
   pub requested : w .answer .state .requested ≡ s .requested
 
--- rec is the record of plan p: "Plan 0 is built in", and 02, E1: "plan 0 means that one throughout" which is kept; every other plan has its
--- own in the book
+-- rec is the record of plan p: "Plan 0 is built in", the one that is kept (02, E1: "plan 0 means that one throughout"); every other plan has
+-- its own in the book
 pub data RecordOfPlan (which : Which) (book : List ℕ) : ℕ → List ℕ → Type 0 where
   zero : RecordOfPlan which book 0 (builtIn which)
   other : (p : ℕ) → (p ≡ 0 → ⊥) → RecordOfPlan which book p (recordAt book p)

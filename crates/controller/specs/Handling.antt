@@ -107,7 +107,7 @@ reads h book = record { handled = h; book = book }
 abbrev pub setHandled : ℕ → ℕ → Setting → Handling
 setHandled code requested w = record { handled = setAs code requested (w .answer); book = w .book }
 
--- by the code; "code not handled" is refusal 10; plan 0 is the one that the running plan's owner keeps
+-- by the code; "code not handled" is refusal 10; plan 0 is the one that is kept beside the running plan
 unfoldable pub handlingOf : Running → ℕ → List ℕ → List ℕ → Handling
 handlingOf u requested book info =
     let code = codeIn info in

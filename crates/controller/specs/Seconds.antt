@@ -8,6 +8,7 @@ use Rattle.octets.specs.Choice.{pick}
 use Rattle.octets.specs.Refusal as refusal
 use Rattle.record.specs.Record.{bookLen, cycleOf}
 use Rattle.plan.specs.declared.Which.{Which}
+use Rattle.plan.specs.declared.Which.the-variants.{New, Old}
 use Rattle.lamps.specs.Rows.{rowAt, noRow}
 use Rattle.controller.specs.declared.Running.{Running}
 use Rattle.controller.specs.declared.State.{State}
@@ -19,6 +20,13 @@ use Rattle.controller.specs.State.{all, freshOf, soundOf, startedAt, pla
 
 unfoldable pub startedOf : Which → ℕ → Started
 startedOf which own = record { refusal = pick (eqb own all) refusal.startWrong refusal.none; state = freshOf which own }
+
+-- 02, E1: "the plain start takes the new one"; "A start call that names the old built-in plan stays"
+abbrev pub plainStartOf : ℕ → Started
+plainStartOf own = startedOf New own
+
+abbrev pub oldStartOf : ℕ → Started
+oldStartOf own = startedOf Old own
 
 -- The second call
 

@@ -39,8 +39,11 @@ abbrev pub withRunning : State → Running → State
 withRunning s u = record { own = s .own; seq = s .seq; requested = s .requested; decoder = s .decoder; running = u }
 
 -- the record of plan p: "Plan 0 is built in", all others stand in the book; "plan 0 means that one throughout"
+abbrev pub recordWith : List ℕ → List ℕ → ℕ → List ℕ
+recordWith zero book p = pick (eqb p 0) zero (recordAt book p)
+
 abbrev pub planRecord : Which → List ℕ → ℕ → List ℕ
-planRecord which book p = pick (eqb p 0) (builtIn which) (recordAt book p)
+planRecord which book p = recordWith (builtIn which) book p
 
 -- "Plan 0 is ready", and so is one whose record in the book is
 abbrev pub readyIn : Which → List ℕ → ℕ → Bool

@@ -16,6 +16,7 @@ use plan::Which;
 use printout::run;
 use printout::run::Asked;
 use printout::run::Run;
+use printout::run::WORD_LEN;
 use record::BOOK_LEN;
 
 // The octets of one read at most.
@@ -25,9 +26,6 @@ const BLOCK_LEN: usize = 4096;
 const TEXT_LEN: usize = 8192;
 
 const HALF: usize = 4096;
-
-// The longest word that the program knows: of a longer one nothing is handed out, and no word is empty.
-const WORD_LEN: usize = 3;
 
 // The line under way, and what the lines before it made.
 struct Reading {
@@ -41,6 +39,7 @@ struct Turn {
     more: bool,
 }
 
+// Of a word that is too long for the room given nothing is handed out, and an empty one is not known.
 fn main() {
     let mut word = [0u8; WORD_LEN];
     let n = os::arg(1, &mut word);

@@ -89,4 +89,4 @@ built-in-is-so = (plan-zero New, plan-zero Old)
 
 pub built-ins-differ : BuiltInsDiffer
 unfolding padded builtIn
-built-ins-differ = record { before = refl; greensAndCycle = (refl, refl); behind = refl }
+built-ins-differ = record { before = refl; behind = refl }

@@ -65,12 +65,9 @@ pub record PlanZero (green₀ cycle₀ : ℕ) (rec : List ℕ) : Type 0 where
 abbrev pub BuiltInIsSo : Type 0
 BuiltInIsSo = PlanZero 35 80 (builtIn New) × PlanZero 25 60 (builtIn Old)
 
--- "the rest as before": the two differ in their greens, 00 23 for 00 19 in both phases, and in their cycle, 00 50 for 00 3C, which stand in
--- the octets 18 to 23, and in no other octet
+-- "the rest as before": of the 80 octets only numbers 18 to 23, counted from 0, differ, which are both greens and the cycle
 pub record RestAsBefore (new old : List ℕ) : Type 0 where
   pub before : take 18 new ≡ take 18 old
-  pub greensAndCycle : (take 6 (drop 18 new) ≡ 0x00 ∷ 0x23 ∷ 0x00 ∷ 0x23 ∷ 0x00 ∷ 0x50 ∷ [])
-      × (take 6 (drop 18 old) ≡ 0x00 ∷ 0x19 ∷ 0x00 ∷ 0x19 ∷ 0x00 ∷ 0x3C ∷ [])
   pub behind : drop 24 new ≡ drop 24 old
 
 abbrev pub BuiltInsDiffer : Type 0

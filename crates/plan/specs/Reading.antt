@@ -37,7 +37,7 @@ unfoldable pub eitherBuiltIn : List ℕ → Bool
 eitherBuiltIn copy = same copy (builtIn New) || same copy (builtIn Old)
 
 -- "It refuses with an empty part: 8 if either length is wrong, then 12 for a plan over 48, then 13 for an empty plan, or for plan 0
--- where the copy differs from the built-in record."
+-- where the copy differs from the built-in record.", from both of them
 unfoldable pub readRefusal : List ℕ → List ℕ → ℕ → ℕ
 readRefusal book copy p =
     pick (not (both (eqb (length book) bookLen) (eqb (length copy) recordLen))) refusal.bookWrong

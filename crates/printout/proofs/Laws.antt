@@ -1,16 +1,13 @@
 -- What follows from the definitions of specs/, for the code.
 use Prim.Native.Nat.{ℕ, _+_, _*_, _≤_, _<_}
 use mathlib.Core.Path.{_≡_, refl, ap}
-use mathlib.Core.Bool.{true}
 use mathlib.Core.List.{List, [], _∷_, _++_}
 use native.Mathlib.Omega.{arith}
-use lib.Dec.{eqb, leb}
-use lib.ListN.{length, take, drop, getD, length-append, length-take}
+use lib.Dec.{leb}
+use lib.ListN.{length, take, drop, length-append, length-take}
 use lib.Seq.{sets-eq, take-at}
-use Rattle.octets.specs.Choice.{both}
 use Rattle.octets.specs.Put.{Stored, Put}
 use Rattle.octets.proofs.Laws.{pick-by}
-use Rattle.plan.specs.Reading.{same}
 use Rattle.text.specs.Text.{ascii, octetsHex}
 use Rattle.text.proofs.Laws.{hex16-length, octets-length}
 use Rattle.line.specs.declared.LineFound.the-variants as found
@@ -60,16 +57,6 @@ pub reply-most : (xs : List ℕ) → length xs ≤ outputLen → length (replyLi
 unfolding replyLine
 reply-most [] h = omega arith
 reply-most (x ∷ xs) h = omega (arith, reply-length (x ∷ xs) (omega arith))
-
--- The word `old`
-
-pub three-letters : (w : List ℕ) → length w ≡ 3 → same w (ascii "old") ≡ both (eqb (getD w 0 0) 0x6F) (both (eqb (getD w 1 0) 0x6C) (both (eqb (getD w 2 0) 0x64) true))
-unfolding same
-three-letters [] h = absurd (omega arith)
-three-letters (x ∷ []) h = absurd (omega arith)
-three-letters (x ∷ y ∷ []) h = absurd (omega arith)
-three-letters (x ∷ y ∷ z ∷ []) h = refl
-three-letters (x ∷ y ∷ z ∷ t ∷ w) h = absurd (omega arith)
 
 -- The run
 

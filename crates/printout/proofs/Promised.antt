@@ -6,13 +6,13 @@ use mathlib.Core.Bool.{Bool, true, false, not}
 use mathlib.Core.List.{List, [], _∷_, append-assoc}
 use native.Mathlib.Decide.{decLt, ℕ-discrete}
 use native.Mathlib.Omega.{arith}
-use borrow.Author.Tests.{eq-eqb, ne-eqb}
+use borrow.Author.Tests.{eq-eqb, ne-eqb, eqb-true}
 use lib.Dec.{eqb}
 use lib.ListN.{length, take}
 use Rattle.octets.specs.Choice.{pick, both}
 use Rattle.octets.specs.ExclusiveOr.{xor, exclusiveOr}
 use Rattle.octets.specs.First.{firstOf}
-use Rattle.octets.proofs.Laws.{pick-by}
+use Rattle.octets.proofs.Laws.{pick-by, both-left, both-right, clash}
 use Rattle.diagram.specs.Rows as table
 use Rattle.diagram.specs.Table as diagram
 use Rattle.diagram.proofs.Words.{words-fit}
@@ -39,14 +39,13 @@ use Rattle.controller.specs.State.{freshOf, runningSound, soundOf}
 use Rattle.controller.specs.Handling.{queryRunningAs, handlingOf}
 use Rattle.controller.specs.Replies.{repliedOf, messageOf, doneOf, octetOf}
 use Rattle.controller.specs.Seconds.{movedOn, noSecond, secondOf}
-use Rattle.plan.proofs.Laws.{same-is}
-use Rattle.text.specs.Text.{ascii, digits, placesWithin, places, decimal, blankHex2, spaced, octetsHex}
+use Rattle.text.specs.Text.{digits, placesWithin, places, decimal, blankHex2, spaced, octetsHex}
 use Rattle.text.proofs.Means.{hex-means}
 use Rattle.line.specs.Line as line
 use Rattle.line.specs.Promises.{founds, lineAfter, foundIn}
 use Rattle.printout.specs.Listing.{header, field, wordText, numbers, secondLine, replyLine, badLine}
 use Rattle.printout.specs.declared.run.Asked.the-variants.{Start, Unknown}
-use Rattle.printout.specs.Run.{startAsked, runStart, secondSaid, badSaid, octetMade, lineMade, listingFrom, listingOf}
+use Rattle.printout.specs.Run.{isOld, startAsked, runStart, secondSaid, badSaid, octetMade, lineMade, listingFrom, listingOf}
 use Rattle.printout.specs.Promises.{WordWhole, WordsWhole, SecondPrinted, ReplyPrinted, none, some, LinesPrint, StartsAsked, ListingBegins, TwoSeconds, ReplyAndBad}
 
 -- Words
@@ -106,19 +105,33 @@ lines-print s n b o =
 
 -- The start
 
+old-is : (word : List ℕ) → isOld word ≡ true → word ≡ 0x6F ∷ 0x6C ∷ 0x64 ∷ []
+unfolding isOld
+old-is [] h = absurd (clash refl h)
+old-is (x ∷ []) h = absurd (clash refl h)
+old-is (x ∷ y ∷ []) h = absurd (clash refl h)
+old-is (x ∷ y ∷ z ∷ []) h =
+    let g = both-right (eqb x 0x6F) (both (eqb y 0x6C) (eqb z 0x64)) h in
+    rw (
+      eqb-true x 0x6F (both-left (eqb x 0x6F) (both (eqb y 0x6C) (eqb z 0x64)) h),
+      eqb-true y 0x6C (both-left (eqb y 0x6C) (eqb z 0x64) g),
+      eqb-true z 0x64 (both-right (eqb y 0x6C) (eqb z 0x64) g),
+    )
+old-is (x ∷ y ∷ z ∷ t ∷ word) h = absurd (omega (arith, eqb-true (length (x ∷ y ∷ z ∷ t ∷ word)) 3 (both-left _ _ h)))
+
 pub starts-asked : StartsAsked
-unfolding startAsked same
+unfolding startAsked isOld
 starts-asked =
     record {
       plain = λ word. refl;
       old = refl;
-      other = λ words word n o. rw (ne-eqb words 0 n) (by words word o (ℕ-discrete words 1) (same word (ascii "old")) refl);
+      other = λ words word n o. rw (ne-eqb words 0 n) (by words word o (ℕ-discrete words 1) (isOld word) refl);
     }
   where
-    by : (words : ℕ) (word : List ℕ) → (words ≡ 1 → word ≡ ascii "old" → ⊥) → Dec (words ≡ 1) → (t : Bool) → same word (ascii "old") ≡ t
-        → pick (both (eqb words 1) (same word (ascii "old"))) (Start Old) Unknown ≡ Unknown
+    by : (words : ℕ) (word : List ℕ) → (words ≡ 1 → word ≡ 0x6F ∷ 0x6C ∷ 0x64 ∷ [] → ⊥) → Dec (words ≡ 1) → (t : Bool) → isOld word ≡ t
+        → pick (both (eqb words 1) (isOld word)) (Start Old) Unknown ≡ Unknown
     by words word o (no m) t h = rw (ne-eqb words 1 m)
-    by words word o (yes e) true h = absurd (o e (same-is word (ascii "old") h))
+    by words word o (yes e) true h = absurd (o e (old-is word h))
     by words word o (yes e) false h = rw (eq-eqb words 1 e, h)
 
 pub listing-begins : ListingBegins

@@ -91,7 +91,8 @@ LinesPrint = (s : State) (n : ℕ) (b o : List ℕ) → LinesMake s n b o
 
 -- The start
 
--- no word asks for the plain start; the one word `old`, 6F 6C 64, for the other; whatever else it is given, the program does not know it
+-- without a word the plain start is asked for, with the one word `old`, 6F 6C 64, the other; whatever else it is given, the program does
+-- not know it
 pub record WordsAsk : Type 0 where
   pub plain : (word : List ℕ) → startAsked 0 word ≡ Start New
   pub old : startAsked 1 (0x6F ∷ 0x6C ∷ 0x64 ∷ []) ≡ Start Old

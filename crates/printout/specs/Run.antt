@@ -1,22 +1,21 @@
 -- 01, "Cases": the listing: which call each line of the input makes, and the text that it adds.
 use Prim.Native.Nat.{ℕ, _+_, _%_, _^_, _≤_}
 use mathlib.Core.Path.{_≡_}
+use mathlib.Core.Bool.{Bool}
 use mathlib.Core.List.{List, [], _∷_, _++_}
 use lib.Dec.{eqb}
-use lib.ListN.{length, take, replicate}
+use lib.ListN.{length, getD, take, replicate}
 use Rattle.octets.specs.Choice.{pick, both}
 use Rattle.octets.specs.Put.{Put}
 use Rattle.record.specs.Record.{emptyBook}
 use Rattle.plan.specs.declared.Which.{Which}
 use Rattle.plan.specs.declared.Which.the-variants.{New, Old}
-use Rattle.plan.specs.Reading.{same}
 use Rattle.controller.specs.declared.State.{State}
 use Rattle.controller.specs.State.{outputLen, freshOf}
 use Rattle.controller.specs.Replies.{octetOf}
 use Rattle.controller.specs.Seconds.{secondOf}
 use Rattle.line.specs.declared.LineFound.{LineFound}
 use Rattle.line.specs.declared.LineFound.the-variants as found
-use Rattle.text.specs.Text.{ascii}
 use Rattle.line.specs.Line.{firstLine}
 use Rattle.line.specs.Promises.{foundIn}
 use Rattle.printout.specs.declared.run.Run.{Run}
@@ -31,13 +30,14 @@ own = 0x0001
 unfoldable pub runStart : Which → Run
 runStart which = record { state = freshOf which own; seconds = 0; used = 0 }
 
--- 02, E1: "A start call that names the old built-in plan stays for those lessons; the plain start takes the new one.": so many words stand
--- after the program's name, and this is the first of them
+-- the word `old`: 6F 6C 64
+unfoldable pub isOld : List ℕ → Bool
+isOld word = both (eqb (length word) 3) (both (eqb (getD word 0 0) 0x6F) (both (eqb (getD word 1 0) 0x6C) (eqb (getD word 2 0) 0x64)))
+
+-- 02, E1: "A start call that names the old built-in plan stays for those lessons; the plain start takes the new one.": `words` is how many
+-- words stand after the program's name, and `word` is the first of them
 unfoldable pub startAsked : ℕ → List ℕ → Asked
-startAsked words word =
-    pick (eqb words 0) (Start New)
-    (pick (both (eqb words 1) (same word (ascii "old"))) (Start Old)
-    Unknown)
+startAsked words word = pick (eqb words 0) (Start New) (pick (both (eqb words 1) (isOld word)) (Start Old) Unknown)
 
 -- no line adds more: three places for each of the 544 octets of the longest reply, and six
 abbrev pub textMost : ℕ

@@ -1,9 +1,7 @@
 // 01, "Cases": the listing itself: its start, what each line of the input does to the controller, and the text that it adds.
 ghost use mathlib.Core.Path.{_≡_};
-ghost use Rattle.text.specs.Text.{ascii};
-ghost use Rattle.plan.specs.Reading.{same};
 ghost use Rattle.controller.specs.Seconds.{startedOf};
-ghost use Rattle.printout.specs.Run.{own, Said, Listed, startAsked, runStart, secondSaid, badSaid, octetMade, lineMade};
+ghost use Rattle.printout.specs.Run.{own, Said, Listed, isOld, startAsked, runStart, secondSaid, badSaid, octetMade, lineMade};
 use controller::Started;
 use controller::State;
 use line::LineFound;
@@ -11,6 +9,9 @@ use plan::Which;
 
 // "The listing program starts fresh at address 0001".
 const OWN: u16 = 0x0001;
+
+// The octets of the one word that the program knows, `old`.
+pub const WORD_LEN: usize = 3;
 
 // The controller's state, the "seconds so far", and how much of the text is filled. The line under way is no part of it, so
 // that an octet within a line moves none of this.
@@ -26,8 +27,8 @@ pub enum Asked {
     Unknown,
 }
 
-// 02, E1: "the plain start takes the new one"; the word `old` asks for the other. So many words stand after the program's name, and
-// this is the first of them.
+// 02, E1: "the plain start takes the new one"; the word `old` asks for the other. `words` is how many words stand after the
+// program's name, and `word` is the first of them.
 pub fn start_asked(words: usize, word: &[u8]) -> Asked
     ensures { λ r. ⌜ r ≡ startAsked words (now (word .entry)) ⌝ }
 {
@@ -44,9 +45,9 @@ pub fn start_asked(words: usize, word: &[u8]) -> Asked
 }
 
 fn is_old(word: &[u8]) -> bool
-    ensures { λ r. ⌜ r ≡ same (now (word .entry)) (ascii "old") ⌝ }
+    ensures { λ r. ⌜ r ≡ isOld (now (word .entry)) ⌝ }
 {
-    if word.len() != 3 {
+    if word.len() != WORD_LEN {
         return false;
     }
     if word[0] != b'o' {

@@ -1,4 +1,4 @@
--- `plan_calls::book::either_built_in` meets its contract: the octets are compared with the new record, and where they differ with the old.
+-- `plan_calls::book::either_built_in` meets its contract: the octets are compared with the new record and, where they differ, with the old one.
 use borrow.Author.Needs.{needs}
 use Rattle.plan.specs.Reading.{eitherBuiltIn}
 use Rattle.plan_calls.proofs.book.either_built_in.Statement.{statement}
