@@ -2,6 +2,7 @@
 ghost use Prim.Native.Nat.{_≤_};
 use crate::say;
 use crate::script;
+use crate::words::CallWord;
 use codec::writer;
 use controller::Event;
 use controller::OUTPUT_LEN;
@@ -34,19 +35,16 @@ pub(crate) fn start() -> Post {
     }
 }
 
-pub(crate) fn done(p: Post, word: u8, o: &[u8], book: &mut [u8], out: &mut [u8]) -> Post {
-    if word == b'l' {
-        return lent(p, o);
-    }
+pub(crate) fn done(p: Post, w: CallWord, o: &[u8], book: &mut [u8], out: &mut [u8]) -> Post {
     let b = least(p.book, book.len());
     let n = least(p.output, out.len());
     let s = p.state;
-    let state = called(s, word, o, &mut book[..b], &mut out[..n]);
+    let state = called(s, w, o, &mut book[..b], &mut out[..n]);
     Post { state, ..p }
 }
 
 // Book and output are from now on so long, two octets each.
-fn lent(p: Post, o: &[u8]) -> Post {
+pub(crate) fn lent(p: Post, o: &[u8]) -> Post {
     let book = octets::word(script::at(o, 0), script::at(o, 1));
     let output = octets::word(script::at(o, 2), script::at(o, 3));
     say::text(b"\tlent a book of ");
@@ -66,18 +64,17 @@ fn least(a: usize, b: usize) -> usize
     if a < b { a } else { b }
 }
 
-fn called(s: State, word: u8, o: &[u8], book: &mut [u8], out: &mut [u8]) -> State {
+fn called(s: State, w: CallWord, o: &[u8], book: &mut [u8], out: &mut [u8]) -> State {
     let own = s.own;
-    match word {
-        b'f' => fresh(octets::word(script::at(o, 0), script::at(o, 1))),
-        b'e' => earlier(octets::word(script::at(o, 0), script::at(o, 1))),
-        b't' => taken(s, o, book, out),
-        b's' => send(s, own, o, book, out),
-        b'b' => send(s, controller::ALL, o, book, out),
-        b'k' => keep(s, o, book, out),
-        b'w' => wait(s, o.len(), book),
-        b'q' => line_idle(s),
-        _ => s,
+    match w {
+        CallWord::Fresh => fresh(octets::word(script::at(o, 0), script::at(o, 1))),
+        CallWord::Earlier => earlier(octets::word(script::at(o, 0), script::at(o, 1))),
+        CallWord::Take => taken(s, o, book, out),
+        CallWord::Send => send(s, own, o, book, out),
+        CallWord::Broadcast => send(s, controller::ALL, o, book, out),
+        CallWord::Keep => keep(s, o, book, out),
+        CallWord::Wait => wait(s, o.len(), book),
+        CallWord::Quiet => line_idle(s),
     }
 }
 

@@ -1,8 +1,10 @@
-// Runs the worked cases that stand on standard input, a line for each, and prints what was done and what came back.
+// Runs the worked cases that stand on standard input, a line for each, and prints what was done and what came back. Output that
+// can't be written, input that can't be read and input that is too long are told on standard error.
 //
-// A line has a name and then actions, parted by tabs. An action is a word in small letters, of which the first counts,
-// and octets in hexadecimal: `x256 AA` is 256 times AA. Each case starts with a fresh decoder and with an output of 544
-// octets, all of them 55; with a controller fresh at address 0001, and with an empty book.
+// A line has a name and then actions, parted by tabs. An action is a word in small letters and, after a blank, octets in
+// hexadecimal: `x256 AA` is 256 times AA. A word that does not stand below is named as unknown, and nothing is done for it.
+// Each case starts with a fresh decoder and with an output of 544 octets, all of them 55; with a controller fresh at address
+// 0001, and with an empty book.
 //
 //     read OCTETS          the decoder takes the octets; with none given, those that were written last
 //     idle                 the decoder's line-idle call
@@ -23,18 +25,21 @@
 //     wait OCTETS          as many second calls as octets are given
 //     quiet                its line-idle call
 //     lend BOOK OUTPUT     from now on it is lent so much of book and output, two octets each
+mod bench;
 mod control;
+mod input;
 mod reading;
 mod say;
 mod script;
+mod words;
 mod writing;
 
-use codec::decoder;
+use bench::Bench;
 use control::Post;
-use frame::Kind;
-use frame::decoder::Decoder;
-use libc::STDIN_FILENO;
+use input::Ended;
+use libc::STDERR_FILENO;
 use record::BOOK_LEN;
+use words::Word;
 
 const OUTPUT: usize = 544;
 
@@ -44,116 +49,106 @@ const BOOK_MOST: usize = BOOK_LEN + 1;
 // What stands in the output at first.
 const BEFORE: u8 = 0x55;
 
-// What a case works on beside the output: the decoder, where the next frame is written, and how long the last one was.
-struct Bench {
-    decoder: Decoder,
-    at: usize,
-    written: usize,
+// What a case works on beside book and output.
+struct Desk {
+    bench: Bench,
+    post: Post,
 }
 
 fn main() {
     let mut s = io::large_buffer();
-    let n = io::read_full(STDIN_FILENO, &mut s);
-    cases(&s[..n]);
-}
-
-fn cases(s: &[u8]) {
-    let mut from = 0;
-    while from < s.len() {
-        let end = script::end_of(s, from, b'\n');
-        case(&s[from..end]);
-        from = end + 1;
+    let input = input::read_all(&mut s);
+    let ended = input.ended;
+    if cases(script::first(&s, input.count), is_whole(ended)) {
+        tell_ended(ended);
+    } else {
+        tell(b"cases: the output can't be written\n");
     }
 }
 
-fn case(s: &[u8]) {
+fn is_whole(e: Ended) -> bool {
+    match e {
+        Ended::Whole => true,
+        Ended::Long => false,
+        Ended::Failed => false,
+    }
+}
+
+fn tell_ended(e: Ended) {
+    match e {
+        Ended::Whole => {}
+        Ended::Long => tell(b"cases: the input is longer than 65536 octets\n"),
+        Ended::Failed => tell(b"cases: the input can't be read\n"),
+    }
+}
+
+fn tell(s: &[u8]) {
+    io::write_all(STDERR_FILENO, s);
+}
+
+// Runs the cases and gives whether all could be printed. Of an input that is not whole the last line may have been cut off,
+// and is not run.
+fn cases(s: &[u8], whole: bool) -> bool {
+    let mut from = 0;
+    while from < s.len() {
+        let end = script::end_of(s, from, b'\n');
+        if end == s.len() && !whole {
+            return true;
+        }
+        if !case(&s[from..end]) {
+            return false;
+        }
+        from = end + 1;
+    }
+    true
+}
+
+// Runs a case and gives whether its line could be printed.
+fn case(s: &[u8]) -> bool {
     let mut out = [BEFORE; OUTPUT];
     let mut book = [0u8; BOOK_MOST];
-    let mut c = Bench {
-        decoder: decoder::fresh(),
-        at: 0,
-        written: 0,
+    let mut d = Desk {
+        bench: bench::start(),
+        post: control::start(),
     };
-    let mut p = control::start();
     let mut end = script::end_of(s, 0, b'\t');
     say::text(script::first(s, end));
     while end < s.len() {
         let from = end + 1;
         end = script::end_of(s, from, b'\t');
-        c = action(c, &s[from..end], &mut out);
-        p = call(p, &s[from..end], &mut book, &mut out);
+        d = action(d, &s[from..end], &mut book, &mut out);
     }
-    say::text(b"\n");
+    say::line_end()
 }
 
-fn action(c: Bench, s: &[u8], out: &mut [u8]) -> Bench {
+fn action(d: Desk, s: &[u8], book: &mut [u8], out: &mut [u8]) -> Desk {
     let mut o = [0u8; OUTPUT];
-    let n = script::octets(s, &mut o);
-    done(c, script::at(s, 0), script::first(&o, n), out)
+    let end = script::end_of(s, 0, b' ');
+    let n = script::octets(script::rest(s, end), &mut o);
+    done(d, script::first(s, end), script::first(&o, n), book, out)
 }
 
-fn call(p: Post, s: &[u8], book: &mut [u8], out: &mut [u8]) -> Post {
-    let mut o = [0u8; OUTPUT];
-    let n = script::octets(s, &mut o);
-    control::done(p, script::at(s, 0), script::first(&o, n), book, out)
-}
-
-fn done(c: Bench, word: u8, o: &[u8], out: &mut [u8]) -> Bench {
-    let d = c.decoder;
-    match word {
-        b'r' => read(c, o, out),
-        b'i' => Bench {
-            decoder: reading::idle(d),
-            ..c
+fn done(d: Desk, word: &[u8], o: &[u8], book: &mut [u8], out: &mut [u8]) -> Desk {
+    let bench = d.bench;
+    let post = d.post;
+    let w = words::find(word);
+    match w {
+        Word::Frame(f) => Desk {
+            bench: bench::done(bench, f, o, out),
+            ..d
         },
-        b'u' => Bench {
-            decoder: reading::unsound(),
-            ..c
+        Word::Call(c) => Desk {
+            post: control::done(post, c, o, book, out),
+            ..d
         },
-        b'p' => place(c, octets::word(script::at(o, 0), script::at(o, 1))),
-        b'm' => write(c, Kind::Message, o, out),
-        b'a' => write(c, Kind::Ack, o, out),
-        b'n' => write(c, Kind::Nak, o, out),
-        b'c' => Bench {
-            written: writing::compose(o, out, c.at),
-            ..c
+        Word::Lend => Desk {
+            post: control::lent(post, o),
+            ..d
         },
-        b'o' => shown(c, out),
-        _ => c,
+        Word::Unknown => {
+            say::text(b"\tunknown word: ");
+            say::text(word);
+            d
+        }
     }
-}
-
-fn read(c: Bench, o: &[u8], out: &[u8]) -> Bench {
-    let d = c.decoder;
-    let e = if o.len() == 0 {
-        say::text(b"\tread back");
-        reading::read(d, script::first(script::rest(out, c.at), c.written))
-    } else {
-        say::text(b"\tread ");
-        say::octets(o);
-        reading::read(d, o)
-    };
-    Bench { decoder: e, ..c }
-}
-
-fn place(c: Bench, at: u16) -> Bench {
-    say::text(b"\tplace ");
-    say::decimal(at as usize);
-    Bench {
-        at: at as usize,
-        ..c
-    }
-}
-
-fn write(c: Bench, k: Kind, o: &[u8], out: &mut [u8]) -> Bench {
-    Bench {
-        written: writing::write(k, o, out, c.at),
-        ..c
-    }
-}
-
-fn shown(c: Bench, out: &[u8]) -> Bench {
-    say::text(b"\toutput ");
-    say::octets(out);
-    c
 }

@@ -12,6 +12,11 @@ pub(crate) fn text(s: &[u8]) {
     io::write_all(STDOUT_FILENO, s);
 }
 
+// Ends a line and gives whether that could be written.
+pub(crate) fn line_end() -> bool {
+    io::write_all(STDOUT_FILENO, b"\n")
+}
+
 pub(crate) fn decimal(n: usize) {
     let mut t = [0u8; 20];
     let end = text::put_decimal(n as u64, &mut t, 0);

@@ -1,7 +1,10 @@
 // 01, "Cases": the listing program. It "starts fresh at address 0001 with an empty book and reads lines" from standard input
-// to its end, of whatever length, and prints what the controller shows and replies. 02, E1: with no word it takes the plain
-// start, and with the word `old` the one that names the old built-in plan.
+// to its end, of whatever length, and prints what the controller shows and replies: all it has whenever it has read all there
+// is, so that somebody who types lines sees each answered at once. 02, E1: with no word it takes the plain start, and with the
+// word `old` the one that names the old built-in plan. Output that can't be written and input that can't be read end the listing
+// and are told on standard error.
 ghost use Prim.Native.Nat.{_≤_};
+ghost use mathlib.Core.Path.{_≡_};
 ghost use lib.ListN.{length};
 ghost use Rattle.octets.specs.Put.{Stored};
 ghost use Rattle.printout.specs.Run.{lineMade};
@@ -27,13 +30,19 @@ const TEXT_LEN: usize = 8192;
 
 const HALF: usize = 4096;
 
+// A run, and whether its output is lost: once it can't be written, no more of it is.
+struct Printing {
+    run: Run,
+    lost: bool,
+}
+
 // The line under way, and what the lines before it made.
 struct Reading {
     line: Line,
-    run: Run,
+    printing: Printing,
 }
 
-// A reading, and whether there was something to read.
+// A reading, and whether it goes on.
 struct Turn {
     reading: Reading,
     more: bool,
@@ -68,52 +77,69 @@ fn list(which: Which) {
     let used = printout::put_header(&mut text, 0);
     let start = Reading {
         line: line::line_start(),
-        run: Run {
-            used,
-            ..run::run_start(which)
+        printing: Printing {
+            run: Run {
+                used,
+                ..run::run_start(which)
+            },
+            lost: false,
         },
     };
-    let g = read_all(start, &mut book, &mut out, &mut text);
-    let r = listed(
-        g.run,
-        line::line_end(g.line),
-        &mut book,
-        &mut out,
-        &mut text,
-    );
-    let used = r.used;
-    io::write_all(STDOUT_FILENO, &text[..used]);
+    read_all(start, &mut book, &mut out, &mut text);
 }
 
 // Reads to the end. A proved loop has to end, and nothing says that an input does, so the turns are counted down from a
 // number that no run uses up.
-fn read_all(start: Reading, book: &mut [u8], out: &mut [u8], text: &mut [u8]) -> Reading
-    requires { ⌜ Room (start .run) (now text) ⌝ }
-    ensures { λ r. ⌜ Room (r .run) (now (text .exit)) ⌝ }
+fn read_all(start: Reading, book: &mut [u8], out: &mut [u8], text: &mut [u8])
+    requires { ⌜ Room (start .printing .run) (now text) ⌝ }
 {
     let mut g = start;
     let mut turns = u64::MAX;
     while turns > 0 {
-        let t = read_once(g, &mut *book, &mut *out, &mut *text);
+        let t = read_next(g, &mut *book, &mut *out, &mut *text);
         g = t.reading;
         if !t.more {
-            return g;
+            return;
         }
         turns -= 1;
     }
-    g
 }
 
+// A read may wait for somebody to type, so all there is to see is written out before it.
+fn read_next(g: Reading, book: &mut [u8], out: &mut [u8], text: &mut [u8]) -> Turn
+    requires { ⌜ Room (g .printing .run) (now text) ⌝ }
+    ensures { λ r. ⌜ Room (r .reading .printing .run) (now (text .exit)) ⌝ }
+{
+    let printing = written(g.printing, &*text);
+    let shown = Reading { printing, ..g };
+    if printing.lost {
+        return Turn {
+            reading: shown,
+            more: false,
+        };
+    }
+    read_once(shown, book, out, text)
+}
+
+// At the end of the input its last line may lack a line feed. Where a read fails the line under way was cut off, and nobody
+// knows what it was to be.
 fn read_once(g: Reading, book: &mut [u8], out: &mut [u8], text: &mut [u8]) -> Turn
-    requires { ⌜ Room (g .run) (now text) ⌝ }
-    ensures { λ r. ⌜ Room (r .reading .run) (now (text .exit)) ⌝ }
+    requires { ⌜ Room (g .printing .run) (now text) ⌝ }
+    ensures { λ r. ⌜ Room (r .reading .printing .run) (now (text .exit)) ⌝ }
 {
     let mut block = [0u8; BLOCK_LEN];
     let got = libc::read(STDIN_FILENO, &mut block);
+    if got < 0 {
+        io::write_all(STDERR_FILENO, b"listing: the input can't be read\n");
+        return Turn {
+            reading: g,
+            more: false,
+        };
+    }
     let n = io::count(got, &block);
     if n == 0 {
         return Turn {
-            reading: g,
+            reading: last(g, book, out, text),
             more: false,
         };
     }
@@ -125,11 +151,11 @@ fn read_once(g: Reading, book: &mut [u8], out: &mut [u8], text: &mut [u8]) -> Tu
 
 // Takes the octets of one read.
 fn taken(g: Reading, s: &[u8], book: &mut [u8], out: &mut [u8], text: &mut [u8]) -> Reading
-    requires { ⌜ Room (g .run) (now text) ⌝ }
-    ensures { λ r. ⌜ Room (r .run) (now (text .exit)) ⌝ }
+    requires { ⌜ Room (g .printing .run) (now text) ⌝ }
+    ensures { λ r. ⌜ Room (r .printing .run) (now (text .exit)) ⌝ }
 {
     let mut l = g.line;
-    let mut r = g.run;
+    let mut p = g.printing;
     for i in 0..s.len() {
         let read = line::line_octet(l, s[i]);
         l = read.line;
@@ -137,20 +163,33 @@ fn taken(g: Reading, s: &[u8], book: &mut [u8], out: &mut [u8], text: &mut [u8])
         match f {
             LineFound::More => {}
             _ => {
-                r = done(r, f, &mut *book, &mut *out, &mut *text);
+                p = done(p, f, &mut *book, &mut *out, &mut *text);
             }
         }
     }
-    Reading { line: l, run: r }
+    Reading {
+        line: l,
+        printing: p,
+    }
+}
+
+// The end of the input ends the last line.
+fn last(g: Reading, book: &mut [u8], out: &mut [u8], text: &mut [u8]) -> Reading
+    requires { ⌜ Room (g .printing .run) (now text) ⌝ }
+    ensures { λ r. ⌜ Room (r .printing .run) (now (text .exit)) ⌝ }
+{
+    let p = done(g.printing, line::line_end(g.line), book, out, &mut *text);
+    let printing = written(p, text);
+    Reading { printing, ..g }
 }
 
 // A line that has ended.
-fn done(run: Run, f: LineFound, book: &mut [u8], out: &mut [u8], text: &mut [u8]) -> Run
-    requires { ⌜ Room run (now text) ⌝ }
-    ensures { λ r. ⌜ Room r (now (text .exit)) ⌝ }
+fn done(p: Printing, f: LineFound, book: &mut [u8], out: &mut [u8], text: &mut [u8]) -> Printing
+    requires { ⌜ Room (p .run) (now text) ⌝ }
+    ensures { λ r. ⌜ Room (r .run) (now (text .exit)) ⌝ }
 {
-    let r = listed(run, f, book, out, &mut *text);
-    flushed(r, text)
+    let run = listed(p.run, f, book, out, &mut *text);
+    flushed(Printing { run, ..p }, text)
 }
 
 // The text of a line is never dropped: with half the text free there is room for it.
@@ -162,14 +201,37 @@ fn listed(run: Run, f: LineFound, book: &mut [u8], out: &mut [u8], text: &mut [u
 }
 
 // Writes the text out where more than half of it is filled.
-fn flushed(run: Run, text: &[u8]) -> Run
-    requires { ⌜ run .used ≤ length (now text) ⌝ }
-    ensures { λ r. ⌜ r .used ≤ half ⌝ }
+fn flushed(p: Printing, text: &[u8]) -> Printing
+    requires { ⌜ p .run .used ≤ length (now text) ⌝ }
+    ensures { λ r. ⌜ r .run .used ≤ half ⌝ }
 {
-    let used = run.used;
-    if used <= HALF {
-        return run;
+    if p.run.used <= HALF {
+        return p;
     }
-    io::write_all(STDOUT_FILENO, &text[..used]);
-    Run { used: 0, ..run }
+    written(p, text)
+}
+
+// Writes the text out.
+fn written(p: Printing, text: &[u8]) -> Printing
+    requires { ⌜ p .run .used ≤ length (now text) ⌝ }
+    ensures { λ r. ⌜ r .run .used ≡ 0 ⌝ }
+{
+    let run = p.run;
+    let used = run.used;
+    Printing {
+        run: Run { used: 0, ..run },
+        lost: lost(p.lost, &text[..used]),
+    }
+}
+
+// Whether the output is lost, before these octets or with them; that it is is told once.
+fn lost(before: bool, s: &[u8]) -> bool {
+    if before {
+        return true;
+    }
+    if io::write_all(STDOUT_FILENO, s) {
+        return false;
+    }
+    io::write_all(STDERR_FILENO, b"listing: the output can't be written\n");
+    true
 }

@@ -6,10 +6,10 @@ use Rattle.cases.proofs.cases.Statement.{statement}
 use Rattle.cases.proofs.cases.Tie as tie
 
 abbrev Inv-loop : tie.InvT-loop
-Inv-loop s from₀ from = from ≤ length s + 1
+Inv-loop s whole from₀ from = from ≤ length s + 1
 
 abbrev μ-loop : tie.MeasureT-loop
-μ-loop s from₀ from = length s + 1 - from
+μ-loop s whole from₀ from = length s + 1 - from
 
 pub cases-spec : {M : Type 1} → statement M
 cases-spec =
@@ -22,7 +22,9 @@ cases-spec =
     (λ c. search needs)
     (λ c. search needs)
     (λ c. search needs)
+    (λ c. search needs)
     (λ c κs. search needs)
+    (λ c. search needs)
     (λ c. search needs)
     (λ c. search needs)
     (λ c. search needs)

@@ -1,10 +1,8 @@
--- `listing::list` is safe: the header leaves room for a line, and what is left of the text is written at the end.
-use mathlib.Core.Path.{sym}
+-- `listing::list` is safe: the header leaves room for a line.
 use native.Mathlib.Omega.{arith}
-use lib.Seq.{length-take-le}
+use borrow.Author.Needs.{needs}
 use Rattle.octets.proofs.Laws.{put-stored}
 use Rattle.printout.specs.Listing.{header}
-use borrow.Author.Needs.{needs}
 use Rattle.listing.proofs.list.Statement.{statement}
 use Rattle.listing.proofs.list.Tie as tie
 
@@ -13,9 +11,6 @@ unfolding header
 read-all-requires c κs =
     let p = put-stored (c .before .before .before .before .before .before .before .put-header .ensures) (search needs) in
     record { used = omega (arith, p .place); long = search needs }
-
-slice-aggregate-write-all : tie.Need-slice-aggregate-write-all
-slice-aggregate-write-all c = sym (length-take-le _ _ (search needs))
 
 pub list-spec : {M : Type 1} → statement M
 list-spec =
@@ -29,12 +24,4 @@ list-spec =
     (λ c. search needs)
     (λ c. search needs)
     read-all-requires
-    (λ c κs. search needs)
-    (λ c. search needs)
-    (λ c. search needs)
-    (λ c. search needs)
-    (λ c κs. search needs)
-    (λ c. search needs)
-    slice-aggregate-write-all
-    (λ c κs. search needs)
     (λ c. search needs))

@@ -1,4 +1,4 @@
--- `listing::read_all` is safe, ends and keeps room for a line: the turns are counted down.
+-- `listing::read_all` is safe and ends: the turns are counted down, and each leaves room for a line.
 use mathlib.Core.Path.{_≡_}
 use borrow.Author.Needs.{needs}
 use lib.ListN.{length}
@@ -8,7 +8,7 @@ use Rattle.listing.proofs.read_all.Tie as tie
 
 abbrev Inv-loop : tie.InvT-loop
 Inv-loop book₀ out₀ text₀ g₀ turns₀ book out text g turns =
-    (length book ≡ length book₀) × (length out ≡ length out₀) × (length text ≡ length text₀) × Room (g .run) text
+    (length book ≡ length book₀) × (length out ≡ length out₀) × (length text ≡ length text₀) × Room (g .printing .run) text
 
 abbrev μ-loop : tie.MeasureT-loop
 μ-loop book₀ out₀ text₀ g₀ turns₀ book out text g turns = turns

@@ -9,11 +9,11 @@ use Rattle.listing.proofs.taken.Statement.{statement}
 use Rattle.listing.proofs.taken.Tie as tie
 
 abbrev Inv-loop : tie.InvT-loop
-Inv-loop s book₀ out₀ text₀ l₀ r₀ i₀ i-end book out text l r i =
-    (i ≤ length s) × (length book ≡ length book₀) × (length out ≡ length out₀) × Room r text
+Inv-loop s book₀ out₀ text₀ l₀ p₀ i₀ i-end book out text l p i =
+    (i ≤ length s) × (length book ≡ length book₀) × (length out ≡ length out₀) × Room (p .run) text
 
 abbrev μ-loop : tie.MeasureT-loop
-μ-loop s book₀ out₀ text₀ l₀ r₀ i₀ i-end book out text l r i = length s - i
+μ-loop s book₀ out₀ text₀ l₀ p₀ i₀ i-end book out text l p i = length s - i
 
 loop-again : tie.Need-loop-again Inv-loop μ-loop
 loop-again c =

@@ -1,0 +1,29 @@
+-- `cases::words::same` is safe and ends: it stays within both texts, which are as long as each other.
+use Prim.Native.Nat.{_-_, _≤_}
+use mathlib.Core.Path.{_≡_}
+use borrow.Author.Needs.{needs}
+use lib.ListN.{length}
+use Rattle.cases.proofs.words.same.Statement.{statement}
+use Rattle.cases.proofs.words.same.Tie as tie
+
+abbrev Inv-loop : tie.InvT-loop
+Inv-loop a b i₀ i-end i = (i ≤ length a) × (length a ≡ length b)
+
+abbrev μ-loop : tie.MeasureT-loop
+μ-loop a b i₀ i-end i = length a - i
+
+pub same-spec : {M : Type 1} → statement M
+same-spec =
+    tie.close
+    (tie.spec
+    Inv-loop
+    μ-loop
+    (λ c. search needs)
+    (λ c. search needs)
+    (λ c. search needs)
+    (λ c. search needs)
+    (λ c. search needs)
+    (λ c. search needs)
+    (λ c. search needs)
+    (λ c. search needs)
+    (λ c. search needs))
