@@ -2,3 +2,4 @@ pub mod Laws
 pub mod Writable
 pub mod Written
 pub mod Only
+pub mod Starts
