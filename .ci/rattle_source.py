@@ -12,6 +12,9 @@ import sys
 ROOT = os.path.dirname(os.path.dirname(os.path.abspath(__file__)))
 sys.stdout.reconfigure(encoding="utf-8")
 
+# what ./bench says of how far it is with proving
+PROGRESS = re.compile(rb"^bench: (?:proving|waiting|\d+ of \d+:) .*\n", re.M)
+
 CLOSER = {"(": ")", "[": "]", "{": "}"}
 ANGLED = {"(": ")", "[": "]", "<": ">"}
 CLAUSES = ("requires", "ensures", "ghost")

@@ -12,6 +12,7 @@ crates.
 """
 import collections
 import os
+import re
 
 Change = collections.namedtuple("Change", "path old new")
 Edit = collections.namedtuple("Edit", "words changes")
@@ -46,6 +47,8 @@ def make(changes, root):
     """Makes the changes in the repository, or a copy of it, that stands at `root`."""
     for change in changes:
         path = os.path.join(root, change.path)
+        if not re.fullmatch(r"crates/\w+/src/[\w/]+\.rt", change.path) or not os.path.isfile(path):
+            raise BadEdit("there is no code at %s" % change.path)
         with open(path, encoding="utf-8") as file:
             text = file.read()
         if text.count(change.old) != 1:

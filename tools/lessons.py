@@ -23,7 +23,11 @@ def is_lesson(folder):
 
 
 def title(folder):
-    with open(os.path.join(folder, "page.md"), encoding="utf-8") as page:
+    """The title of a lesson's page; a lesson that is being made may have none yet."""
+    path = os.path.join(folder, "page.md")
+    if not os.path.isfile(path):
+        return "(no page yet)"
+    with open(path, encoding="utf-8") as page:
         return page.readline().lstrip("# ").strip()
 
 
@@ -33,7 +37,7 @@ def words_of(folder):
     if not os.path.isfile(path):
         return []
     with open(path, encoding="utf-8") as words:
-        return words.read().split("\n")[:-1]
+        return words.read().splitlines()
 
 
 def kept(folder, name):

@@ -1,4 +1,6 @@
 """Proving, building and running the programs of this repository, with the Rattle toolchain's command `rt`."""
+import contextlib
+import fcntl
 import os
 import platform
 import re
@@ -12,8 +14,8 @@ import threading
 import edits
 
 ROOT = os.path.dirname(os.path.dirname(os.path.realpath(__file__)))
-# So long may `rt` take to see that nothing is to be proved; what takes longer is told.
-PATIENCE = 1.0
+# So long may be waited in silence, for another command or for `rt` to see that nothing is to be proved.
+PATIENCE = 3.0
 USUALLY = "usually some 4 minutes, once"
 CHUNK = 65536
 
@@ -64,12 +66,46 @@ def crates_of(program):
     return found
 
 
+@contextlib.contextmanager
+def told_after(seconds, text):
+    """Tells the text unless what is done within takes less time."""
+    timer = threading.Timer(seconds, say, [text])
+    timer.daemon = True
+    timer.start()
+    try:
+        yield
+    finally:
+        timer.cancel()
+
+
+@contextlib.contextmanager
+def alone():
+    """Waits until no other command proves in this repository: two of them would take each other's work for undone."""
+    folder = os.open(ROOT, os.O_RDONLY)
+    try:
+        with told_after(PATIENCE, "waiting for another ./bench, which proves"):
+            fcntl.flock(folder, fcntl.LOCK_EX)
+        yield
+    finally:
+        os.close(folder)
+
+
 def prove(program):
-    """Proves and builds what is not built yet. What takes longer than a moment is told, crate by crate."""
-    count, passed, told = len(crates_of(program)), 0, []
-    process = start_rt(["check", program], ROOT)
-    announced = threading.Timer(PATIENCE, say, ["proving `%s`, %d crates: %s" % (program, count, USUALLY)])
-    announced.start()
+    """Proves and builds what is not built yet, and tells the crates as they pass."""
+    crates = crates_of(program)
+    text = "proving `%s`, %d crates: %s" % (program, len(crates), USUALLY)
+    with alone():
+        new = not all(os.path.exists(os.path.join(ROOT, "target", "stamp", crate)) for crate in crates)
+        with told_after(0 if new else PATIENCE, text):
+            status, told = checked(program, len(crates))
+    if status != 0:
+        sys.stderr.write(told)
+        raise Failed("%s is not built" % program)
+
+
+def checked(program, count):
+    """Has `rt` check a program: the status, and all that it said."""
+    passed, told, process = 0, [], start_rt(["check", program], ROOT)
     try:
         for line in process.stdout:
             told.append(line.decode("utf-8", "replace"))
@@ -78,19 +114,15 @@ def prove(program):
                 passed += 1
                 if not crate.group(2):
                     say("%d of %d: %s" % (passed, count, crate.group(1)))
-        process.wait()
+        return process.wait(), "".join(told)
     finally:
-        announced.cancel()
         end_rt(process)
-    if process.returncode != 0:
-        sys.stderr.write("".join(told))
-        raise Failed("%s is not built" % program)
 
 
 def command(program):
     """The words that run a proved program. Programs are for x86-64 and run under the toolchain's own loader; on another
     machine it has an emulator for them."""
-    guide = subprocess.run([rt(), "doc"], stdout=subprocess.PIPE, check=True).stdout.decode().strip()
+    guide = subprocess.run([rt(), "doc"], stdout=subprocess.PIPE).stdout.decode().strip()
     home = os.path.dirname(os.path.dirname(guide))
     tools = os.path.join(home, "on", platform.machine(), "toolchain")
     emulator = os.path.join(tools, "bin", "qemu-x86_64")

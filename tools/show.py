@@ -45,6 +45,11 @@ def read_second(line):
     return Second(*[int(text) for text in found.groups()[:4]], *[int(text, 16) for text in found.groups()[4:]])
 
 
+def is_listed(line):
+    """Whether a line is one of a listing, and not of an input."""
+    return line == HEADER or read_second(line) is not None or bool(REPLY.fullmatch(line) or BAD.fullmatch(line))
+
+
 def lit(row):
     """The approaches with a lamp lit, each a bit."""
     return sum(1 << i for i in range(len(APPROACHES)) if approach(row.steady | row.flashing, i))

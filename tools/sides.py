@@ -9,8 +9,12 @@ NEAR = 2
 
 
 def pairs(ours, theirs):
-    """The lines of both, those that belong together beside each other; None where one side has none."""
-    for tag, i, i_end, j, j_end in difflib.SequenceMatcher(None, ours, theirs, autojunk=False).get_opcodes():
+    """The lines of both, those that belong together beside each other; None where one side has none. Where there are as many of
+    the one as of the other, each line of the input has brought one, and they belong together as they stand."""
+    if len(ours) == len(theirs):
+        yield from zip(ours, theirs)
+        return
+    for _, i, i_end, j, j_end in difflib.SequenceMatcher(None, ours, theirs, autojunk=False).get_opcodes():
         yield from itertools.zip_longest(ours[i:i_end], theirs[j:j_end])
 
 

@@ -136,8 +136,8 @@ def field_words(code, wanted):
     if len(meant) == 1 and (phase or len(counts) == len(COUNTS)):
         return texts[0]
     of = ["more" if len(counts) > 1 else COUNT_WORDS[counts[0]] for counts in meant.values()]
-    of[0] += " phase" if of[0] == "one" else " phases"
-    return ", ".join("%s of %s" % pair for pair in zip(texts, of))
+    of[0] = "there is one phase" if of[0] == "one" else "there are %s phases" % of[0]
+    return ", ".join("%s if %s" % pair for pair in zip(texts, of))
 
 
 def message_words(info):
