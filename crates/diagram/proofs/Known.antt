@@ -1,5 +1,5 @@
 -- What specs/Known.antt promises. Each line of the directory and each row of the table pass a computed test.
-use Prim.Native.Nat.{ℕ, suc, _+_, _-_, _≤_, _<_}
+use Prim.Native.Nat.{ℕ, suc, _+_, _*_, _-_, _≤_, _<_}
 use mathlib.Core.Path.{_≡_, refl, sym, ap, _∙_}
 use mathlib.Core.Bool.{Bool, true, false, _||_}
 use mathlib.Core.List.{List, [], _∷_}
@@ -196,6 +196,25 @@ phases-due order = by (decLt order codesEnd) (decLe 1 (phasesOf order))
     by (yes l) _ = eqb-true (phasesOf order) (phasesDue order) (below-at (λ o. eqb (phasesOf o) (phasesDue o)) codesEnd order codes-pass l)
     by (no g) (yes p) = absurd (g (codes-below order (phases-known order p)))
     by (no g) (no z) = omega (arith, none-due order (omega arith))
+
+-- the first row of each code, as the code asks for it
+unfoldable pub firstDue : ℕ → ℕ
+firstDue order =
+    pick (leb 0x60 order) (200 + 20 * (order - 0x60))
+    (pick (leb 0x50 order) (40 + 20 * (order - 0x50))
+    (pick (eqb order 0x20) 10
+    (pick (eqb order 0x38) 25 0)))
+
+firsts-pass : every (λ d. eqb (d .first) (firstDue (d .order))) directory ≡ true
+unfolding every directory firstDue
+firsts-pass = refl
+
+pub first-due : (order : ℕ) → 1 ≤ phasesOf order → diagramOf order .first ≡ firstDue order
+first-due order h =
+    let k = phases-known order h in
+    let l = lineAt (k .line) in
+    let t = every-at (λ d. eqb (d .first) (firstDue (d .order))) directory (k .line) noLine firsts-pass (λ g. absurd (omega (arith, g, k .within))) in
+    rw (← k .there, each-found (k .line) (k .within)) (eqb-true (l .first) (firstDue (l .order)) t)
 
 -- a number that is not from the least to the greatest
 outside : (least v greatest : ℕ) → (least ≤ v → v ≤ greatest → ⊥) → both (leb least v) (leb v greatest) ≡ false

@@ -1,13 +1,15 @@
 -- What follows from the definitions of specs/Table.antt, one law a way.
-use Prim.Native.Nat.{ℕ, zero, suc, _+_, _*_, _-_, _≤_, _<_}
-use mathlib.Core.Path.{_≡_, sym, ap, _∙_}
-use mathlib.Core.List.{List, [], _∷_, map}
+use Prim.Native.Nat.{ℕ, zero, suc, _+_, _*_, _-_, _/_, _%_, _≤_, _<_}
+use mathlib.Core.Path.{_≡_, refl, ap, _∙_}
+use mathlib.Core.List.{List, [], _∷_}
 use native.Mathlib.Omega.{arith}
 use borrow.Author.Tests.{le-leb, lt-leb}
-use lib.ListN.{length, getD, List·getD-map, List·getD-eq-default}
-use Rattle.diagram.specs.Row.{LampRow, Diagram}
+use lib.ListN.{length, getD, take, drop, List·getD-eq-default}
+use lib.Seq.{getD-take, getD-drop}
+use Rattle.diagram.specs.Row.{LampRow}
 use Rattle.diagram.specs.Rows.{lampRows}
 use Rattle.diagram.specs.Table.{darkRow, diagramOf, stepsOf, rowNumber, lampRowOf}
+use Rattle.diagram.specs.Lines.{wordsOf, words, lineLen, lineWords}
 
 -- The numbers of 01, by name
 
@@ -37,28 +39,6 @@ redManPlace = 3
 abbrev pub yellowPlace : ℕ
 yellowPlace = 4
 
--- The column in which the code holds the first rows of the directory
-
--- the numbers from k on
-unfoldable pub upFrom : ℕ → ℕ → List ℕ
-upFrom k zero = []
-upFrom k (suc n) = k ∷ upFrom (suc k) n
-
-up-at : (k n i d : ℕ) → i < n → getD (upFrom k n) i d ≡ k + i
-unfolding upFrom
-up-at k zero i d h = absurd (omega arith)
-up-at k (suc n) zero d h = omega arith
-up-at k (suc n) (suc i) d h = up-at (suc k) n i d (omega arith) ∙ omega arith
-
--- an order is an octet
-abbrev orders : ℕ
-orders = 256
-
--- a column has what the line of each order says, and past the last what is said where there is none
-pub column-at : (f : Diagram → ℕ) (order : ℕ) → order < orders → getD (map (λ o. f (diagramOf o)) (upFrom 0 orders)) order (f (diagramOf orders)) ≡ f (diagramOf order)
-column-at f order h =
-    List·getD-map (λ o. f (diagramOf o)) (upFrom 0 orders) order orders ∙ ap (λ (o : ℕ). f (diagramOf o)) (up-at 0 orders order orders h ∙ omega arith)
-
 -- Rows
 
 module _ (order step : ℕ) where
@@ -82,10 +62,32 @@ module _ (order step : ℕ) where
   unfolding lampRowOf
   row-past h = List·getD-eq-default lampRows darkRow {n = rowNumber order step} h
 
-  -- a word of the row, by the column that the code holds
-  pub word-there : (f : LampRow → ℕ) {n : ℕ} → n ≡ rowNumber order step → getD (map f lampRows) n (f darkRow) ≡ f (lampRowOf order step)
-  unfolding lampRowOf
-  word-there f {n} e = List·getD-map f lampRows n darkRow ∙ ap (λ (m : ℕ). f (getD lampRows m darkRow)) e
+-- Words
 
-  pub word-past : (f : LampRow → ℕ) {n : ℕ} → n ≡ rowNumber order step → length lampRows ≤ n → f darkRow ≡ f (lampRowOf order step)
-  word-past f e h = ap f (sym (row-past (omega (arith, e))))
+-- a word, by the line that it stands in
+pub line-at : (n : ℕ) → getD (lineWords (n / lineLen)) (n % lineLen) 0 ≡ getD words n 0
+unfolding lineWords
+line-at n =
+    let at : lineLen * (n / lineLen) + n % lineLen ≡ n = omega arith in
+    getD-take lineLen (drop (lineLen * (n / lineLen)) words) (n % lineLen) 0 (omega arith)
+    ∙ getD-drop (lineLen * (n / lineLen)) words (n % lineLen) 0
+    ∙ ap (λ (m : ℕ). getD words m 0) at
+
+-- the two words of a row
+words-at : (rs : List LampRow) (n : ℕ) → (getD (wordsOf rs) (2 * n) 0 ≡ getD rs n darkRow .steady) × (getD (wordsOf rs) (2 * n + 1) 0 ≡ getD rs n darkRow .flashing)
+unfolding wordsOf
+words-at [] n = (refl, refl)
+words-at (r ∷ rs) zero = (refl, refl)
+words-at (r ∷ rs) (suc n) =
+    let e : 2 * suc n ≡ suc (suc (2 * n)) = omega arith in
+    let o : 2 * suc n + 1 ≡ suc (suc (2 * n + 1)) = omega arith in
+    rw (o, e) (words-at rs n)
+
+module _ (order step n m : ℕ) (e : n ≡ rowNumber order step) where
+  pub steady-there : m ≡ 2 * n → getD words m 0 ≡ lampRowOf order step .steady
+  unfolding lampRowOf
+  steady-there h = rw (h, e) (words-at lampRows (rowNumber order step) .0)
+
+  pub flashing-there : m ≡ 2 * n + 1 → getD words m 0 ≡ lampRowOf order step .flashing
+  unfolding lampRowOf
+  flashing-there h = rw (h, e) (words-at lampRows (rowNumber order step) .1)

@@ -1,14 +1,12 @@
 -- The words of the table, by one computed test over its rows; a row that is not there is dark, and passes it too.
 use Prim.Native.Nat.{ℕ, _-_, _^_, _≤_, _<_}
-use mathlib.Core.Path.{_≡_, refl, sym, subst}
+use mathlib.Core.Path.{_≡_, refl}
 use mathlib.Core.Bool.{Bool, true, false, not}
-use mathlib.Core.List.{List, [], _∷_, map}
+use mathlib.Core.List.{List, [], _∷_}
 use native.Mathlib.Decide.{decLt}
 use native.Mathlib.Nat.{div-eq-of-lt, lt-of-lt-of-le, pow-le-pow-right}
 use native.Mathlib.Omega.{arith}
 use borrow.Author.Tests.{not-true, ltb-true}
-use mir.Syntax.{w64}
-use mir.Val.{Fits}
 use lib.Dec.{ltb}
 use lib.ListN.{getD}
 use Rattle.octets.specs.Choice.{both}
@@ -18,7 +16,7 @@ use Rattle.diagram.specs.Row.{LampRow}
 use Rattle.diagram.specs.Rows.{lampRows}
 use Rattle.diagram.specs.Table.{darkRow, rowNumber, lampRowOf, steadyOf, flashingOf}
 use Rattle.diagram.specs.Lamps.{bit, lampIn, SteadyOrFlashing, WordsFit}
-use Rattle.diagram.proofs.Laws.{lastLamp, word-there}
+use Rattle.diagram.proofs.Laws.{lastLamp}
 
 abbrev notBoth : LampRow → ℕ → Bool
 notBoth r i = not (both (bit (r .steady) i) (bit (r .flashing) i))
@@ -41,10 +39,6 @@ steady-fits order step = ltb-true (steadyOf order step) (2 ^ lastLamp) (row-pass
 pub flashing-fits : (order step : ℕ) → flashingOf order step < 2 ^ lastLamp
 unfolding wordTests
 flashing-fits order step = ltb-true (flashingOf order step) (2 ^ lastLamp) (row-passes order step 1)
-
--- a word that the code's column has, widened to 64 bits
-pub word-widens : (order step : ℕ) (f : LampRow → ℕ) {n : ℕ} → f (lampRowOf order step) < 2 ^ lastLamp → n ≡ rowNumber order step → Fits w64 (getD (map f lampRows) n (f darkRow))
-word-widens order step f h e = subst (λ (v : ℕ). Fits w64 v) (sym (word-there order step f e)) (omega (arith, h))
 
 pub words-fit : WordsFit
 words-fit order step = (steady-fits order step, flashing-fits order step)

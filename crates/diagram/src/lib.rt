@@ -1,20 +1,27 @@
 // 01, "Lamps and seconds": the step table. The lamp words of all diagrams stand in one table, row by row; for each phase order
 // there are its phases and its first row.
 ghost use mathlib.Core.Path.{_≡_};
+ghost use Prim.Native.Nat.{_≤_, _<_};
+ghost use lib.ListN.{getD};
 ghost use Rattle.diagram.specs.Table.{diagramOf, phasesOf, inRange, stepsOf, rowNumber, steadyOf, flashingOf};
+ghost use Rattle.diagram.specs.Lines.{words, lineWords};
 
 mod rows;
 
-use crate::rows::FIRST_ROWS;
-use crate::rows::FLASHING;
+use crate::rows::LINE_LEN;
 use crate::rows::ROWS;
-use crate::rows::STEADY;
+use crate::rows::TABLE;
 
 // The steps of a phase: green, walk flash, red man, yellow, all-red.
 pub const STEPS_A_PHASE: u16 = 5;
 
 // The step of the walk flash in each phase.
 const WALK_FLASH: u16 = 2;
+
+// Which of a row's two words.
+const STEADY: usize = 0;
+
+const FLASHING: usize = 1;
 
 // The phases of an order; 0 where it is unknown. Each call asks for them while a plan of the book runs, so no table is read.
 pub fn phases(order: u8) -> u8
@@ -51,26 +58,78 @@ fn steps(order: u8) -> u16
     STEPS_A_PHASE * phases(order) as u16
 }
 
-// The first row of an order, from 0; 0 where it is unknown.
+// The first row of a known order, from 0. The diagrams of four phases have twenty rows each.
 fn first_row(order: u8) -> u16
-    ensures { λ r. ⌜ r ≡ diagramOf order .first ⌝ }
+    ensures { λ r. ⌜ (1 ≤ phasesOf order → r ≡ diagramOf order .first) ⌝ }
 {
-    FIRST_ROWS[order as usize]
+    if 0x60 <= order {
+        return 200 + 20 * (order - 0x60) as u16;
+    }
+    if 0x50 <= order {
+        return 40 + 20 * (order - 0x50) as u16;
+    }
+    match order {
+        0x20 => 10,
+        0x38 => 25,
+        _ => 0,
+    }
 }
 
 // The row of a step, from 0; past the table's end where there is no such step.
 fn row_number(order: u8, step: u16) -> usize
     ensures { λ r. ⌜ r ≡ rowNumber order step ⌝ }
 {
-    // Read before the tests: so the compiler works out one row for both words, and stores the column once.
-    let first = first_row(order) as usize;
     if step == 0 {
         return ROWS;
     }
     if steps(order) < step {
         return ROWS;
     }
-    first + (step - 1) as usize
+    first_row(order) as usize + (step - 1) as usize
+}
+
+// A line of the table. Each is named by a number of its own, so that the program holds the lines as they are and builds no table.
+fn line(p: usize) -> [u32; LINE_LEN]
+    requires { ⌜ p < 24 ⌝ }
+    ensures { λ r. ⌜ r ≡ lineWords p ⌝ }
+{
+    let t = TABLE;
+    match p {
+        0 => t[0],
+        1 => t[1],
+        2 => t[2],
+        3 => t[3],
+        4 => t[4],
+        5 => t[5],
+        6 => t[6],
+        7 => t[7],
+        8 => t[8],
+        9 => t[9],
+        10 => t[10],
+        11 => t[11],
+        12 => t[12],
+        13 => t[13],
+        14 => t[14],
+        15 => t[15],
+        16 => t[16],
+        17 => t[17],
+        18 => t[18],
+        19 => t[19],
+        20 => t[20],
+        21 => t[21],
+        22 => t[22],
+        _ => t[23],
+    }
+}
+
+// The word of this number, from 0.
+fn word(number: usize) -> u32
+    requires { ⌜ number < 960 ⌝ }
+    ensures { λ r. ⌜ r ≡ getD words number 0 ⌝ }
+{
+    let words = line(number / LINE_LEN);
+    let at = number % LINE_LEN;
+    words[at]
 }
 
 // The steady lamps of a step, the first step being 1; none where there is no such step.
@@ -79,7 +138,7 @@ pub fn steady(order: u8, step: u16) -> u64
 {
     let row = row_number(order, step);
     if row < ROWS {
-        return STEADY[row] as u64;
+        return word(2 * row + STEADY) as u64;
     }
     0
 }
@@ -93,7 +152,7 @@ pub fn flashing(order: u8, step: u16) -> u64
     }
     let row = row_number(order, step);
     if row < ROWS {
-        return FLASHING[row] as u64;
+        return word(2 * row + FLASHING) as u64;
     }
     0
 }

@@ -1,9 +1,10 @@
 -- `diagram::flashing` meets its contract: but in the walk flash no lamp flashes, and there the code's words are those of the table.
-use mathlib.Core.Path.{sym}
+use mathlib.Core.Path.{ap, sym, _∙_}
+use native.Mathlib.Omega.{arith}
 use borrow.Author.Needs.{needs}
+use Rattle.diagram.specs.Row.{LampRow}
 use Rattle.diagram.specs.Rows.{lampRows}
-use Rattle.diagram.proofs.Laws.{word-there, word-past}
-use Rattle.diagram.proofs.Words.{flashing-fits, word-widens}
+use Rattle.diagram.proofs.Laws.{row-past, flashing-there}
 use Rattle.diagram.proofs.Named.{quiet-else}
 use Rattle.diagram.proofs.flashing.Statement.{statement}
 use Rattle.diagram.proofs.flashing.Tie as tie
@@ -11,17 +12,12 @@ use Rattle.diagram.proofs.flashing.Tie as tie
 returns : tie.Need-returns
 returns c = let a = c .before .args in sym (quiet-else (a .order) (a .step) (c .if1 .taken))
 
-cast-result : tie.Need-cast-result
-unfolding lampRows
-cast-result c = let a = c .before .before .before .args in word-widens (a .order) (a .step) (λ r. r .flashing) (flashing-fits (a .order) (a .step)) (c .before .row-number .ensures)
-
 returns-2 : tie.Need-returns-2
-unfolding lampRows
-returns-2 c = let a = c .before .before .before .args in word-there (a .order) (a .step) (λ r. r .flashing) (c .before .row-number .ensures)
+returns-2 c = let a = c .before .before .before .before .args in c .word .ensures ∙ flashing-there (a .order) (a .step) _ _ (c .before .before .row-number .ensures) (omega arith)
 
 returns-3 : tie.Need-returns-3
 unfolding lampRows
-returns-3 c = let a = c .before .before .before .args in word-past (a .order) (a .step) (λ r. r .flashing) (c .before .row-number .ensures) (search needs)
+returns-3 c = let a = c .before .before .before .args in ap (λ (r : LampRow). r .flashing) (sym (row-past (a .order) (a .step) (omega (arith, c .before .row-number .ensures))))
 
 pub flashing-spec : {M : Type 1} → statement M
-flashing-spec = tie.close (tie.spec returns (λ c κs. search needs) (λ c. search needs) (λ c. search needs) cast-result returns-2 returns-3)
+flashing-spec = tie.close (tie.spec returns (λ c κs. search needs) (λ c. search needs) (λ c. search needs) (λ c κs. search needs) (λ c. search needs) returns-2 returns-3)

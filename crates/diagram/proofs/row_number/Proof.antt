@@ -10,27 +10,16 @@ use Rattle.diagram.proofs.row_number.Tie as tie
 
 returns : tie.Need-returns
 unfolding lampRows
-returns c = let a = c .before .before .args in sym (number-none (a .order) (a .step) (c .if1 .taken))
+returns c = let a = c .before .args in sym (number-none (a .order) (a .step) (c .if1 .taken))
 
 returns-2 : tie.Need-returns-2
 unfolding lampRows
-returns-2 c = let a = c .before .before .before .before .args in sym (number-past (a .order) (a .step) (omega arith))
+returns-2 c = let a = c .before .before .before .args in sym (number-past (a .order) (a .step) (omega arith))
 
 returns-3 : tie.Need-returns-3
 returns-3 c =
     let a = c .before .before .before .before .args in
-    ap (λ (f : ℕ). f + (a .step - 1)) (c .before .before .before .first-row .ensures) ∙ sym (number-there (a .order) (a .step) (omega arith) (omega arith))
+    ap (λ (f : ℕ). f + (a .step - 1)) (c .first-row .ensures (omega arith)) ∙ sym (number-there (a .order) (a .step) (omega arith) (omega arith))
 
 pub row-number-spec : {M : Type 1} → statement M
-row-number-spec =
-    tie.close
-    (tie.spec
-    (λ c κs. search needs)
-    (λ c. search needs)
-    returns
-    (λ c κs. search needs)
-    returns-2
-    (λ c. search needs)
-    (λ c. search needs)
-    (λ c. search needs)
-    returns-3)
+row-number-spec = tie.close (tie.spec returns (λ c κs. search needs) returns-2 (λ c κs. search needs) (λ c. search needs) (λ c. search needs) (λ c. search needs) (λ c. search needs) returns-3)
