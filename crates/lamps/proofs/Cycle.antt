@@ -9,7 +9,7 @@ use Rattle.record.specs.Record.{Ready, kOf, orderOf, greenOf, yellowOf, allRedO
 use Rattle.lamps.specs.declared.Row.{Row}
 use Rattle.lamps.specs.Rows.{phaseTable, stepsOfPlan, secondsOf, rowOf, rowsFrom, rowsOf, rowAt}
 use Rattle.lamps.specs.Promises.{secondsTo, stepIn, Stretch, GreenWhole, CycleLong, GreenShown, WholePhases}
-use Rattle.lamps.proofs.Laws.{seconds-line, seconds-next, rows-all, rows-part, row-first, rows-stretch}
+use Rattle.lamps.proofs.Laws.{seconds-line, step-end, rows-all, rows-part, row-first, rows-stretch}
 
 -- the seconds of the record's steps 1 to n, and the rows of n steps after t
 abbrev upTo : List ℕ → ℕ → ℕ
@@ -19,13 +19,10 @@ abbrev after : List ℕ → ℕ → ℕ → List Row
 after rec t n = rowsFrom (secondsOf rec) (orderOf rec) (t + 1) n
 
 module _ (rec : List ℕ) (r : Ready rec) (i : ℕ) (h : i < kOf rec) where
-  step-end : (j : ℕ) → j < stepsAPhase → upTo rec (stepIn i (j + 1)) ≡ upTo rec (stepIn i j) + getD (phaseTable rec i) j 0
-  step-end j l = omega (arith, seconds-next (secondsOf rec) (stepIn i j) (stepIn i (j + 1)) (omega arith), seconds-line rec i h j (stepIn i (j + 1)) l refl)
-
   step-stretch : (j seconds : ℕ) → j < stepsAPhase → seconds ≡ getD (phaseTable rec i) j 0
       → Stretch (orderOf rec) (stepIn i (j + 1)) (stepIn i (j + 1)) seconds (after rec (stepIn i j) 1)
   step-stretch j seconds l e =
-      rows-stretch (secondsOf rec) (orderOf rec) (stepIn i j) 1 (stepIn i (j + 1)) (stepIn i (j + 1)) seconds (omega arith) (omega arith) (omega (arith, step-end j l))
+      rows-stretch (secondsOf rec) (orderOf rec) (stepIn i j) 1 (stepIn i (j + 1)) (stepIn i (j + 1)) seconds (omega arith) (omega arith) (omega (arith, step-end rec i h j l))
 
   -- "walk flash plus red man less than minimum", and the green is at least that
   walk : walkFlashOf rec i + redManOf rec i < greenOf rec i
@@ -33,11 +30,11 @@ module _ (rec : List ℕ) (r : Ready rec) (i : ℕ) (h : i < kOf rec) where
 
   green-end : upTo rec (stepIn i 3) ≡ upTo rec (stepIn i 0) + greenOf rec i
   unfolding phaseTable
-  green-end = omega (arith, step-end 0 (omega arith), step-end 1 (omega arith), step-end 2 (omega arith), walk)
+  green-end = omega (arith, step-end rec i h 0 (omega arith), step-end rec i h 1 (omega arith), step-end rec i h 2 (omega arith), walk)
 
   phase-end : upTo rec (stepIn i 5) ≡ upTo rec (stepIn i 0) + phaseSeconds rec i
   unfolding phaseTable
-  phase-end = omega (arith, green-end, step-end 3 (omega arith), step-end 4 (omega arith))
+  phase-end = omega (arith, green-end, step-end rec i h 3 (omega arith), step-end rec i h 4 (omega arith))
 
   green-whole : GreenWhole rec i (after rec (stepIn i 0) 3)
   unfolding phaseTable

@@ -1,5 +1,5 @@
 -- What follows from the definitions of specs/, over any seconds of the steps.
-use Prim.Native.Nat.{ℕ, zero, suc, _+_, _-_, _≤_, _<_}
+use Prim.Native.Nat.{ℕ, zero, suc, _+_, _*_, _-_, _≤_, _<_}
 use mathlib.Core.Path.{_≡_, refl, sym, ap, _∙_}
 use mathlib.Core.List.{List, [], _∷_, _++_, append-assoc}
 use native.Mathlib.Decide.{decLt, ℕ-discrete}
@@ -11,7 +11,7 @@ use lib.Seq.{getD-append-add}
 use Rattle.diagram.specs.Table.{stepsAPhase}
 use Rattle.record.specs.Record.{kOf, orderOf}
 use Rattle.lamps.specs.declared.Row.{Row}
-use Rattle.lamps.specs.Rows.{phaseTable, stepsOfPlan, phaseOf, lineOf, secondsOf, rowOf, countedDown, rowsFrom, rowsOf, noRow, rowAt}
+use Rattle.lamps.specs.Rows.{phaseTable, tableSum, stepsOfPlan, phaseOf, lineOf, secondsOf, rowOf, countedDown, rowsFrom, rowsOf, phaseRows, noRow, rowAt}
 use Rattle.lamps.specs.Promises.{secondsTo, stepIn, Due, WithinSteps, Each, Stretch}
 
 -- Seconds
@@ -32,6 +32,11 @@ module _ (rec : List ℕ) (step : ℕ) where
 -- a step of phase i, by its line of the phase's table
 pub seconds-line : (rec : List ℕ) (i : ℕ) → i < kOf rec → (j step : ℕ) → j < stepsAPhase → step ≡ stepIn i (j + 1) → getD (phaseTable rec i) j 0 ≡ secondsOf rec step
 seconds-line rec i h j step l e = seconds-in rec step i j (omega arith) (omega arith) (omega arith) (omega arith)
+
+-- the same where the code holds the table
+pub seconds-here : (rec : List ℕ) (i : ℕ) → i < kOf rec → (j step : ℕ) (table : List ℕ) → table ≡ phaseTable rec i → j < stepsAPhase → step ≡ stepIn i (j + 1)
+    → getD table j 0 ≡ secondsOf rec step
+seconds-here rec i h j step table t l e = rw t (seconds-line rec i h j step l e)
 
 module _ (sec : ℕ → ℕ) where
   pub seconds-next : (n m : ℕ) → m ≡ n + 1 → secondsTo sec m ≡ secondsTo sec n + sec m
@@ -99,6 +104,20 @@ module _ (sec : ℕ → ℕ) (order : ℕ) where
   rows-part t (suc m) n u e =
       let q : suc m + n ≡ suc (m + n) = omega arith in
       rw (q, append-assoc) (ap (λ (l : List Row). countedDown order (t + 1) (sec (t + 1)) ++ l) (rows-part (t + 1) m n u (omega arith)))
+
+  -- m steps after t that have so many seconds: past these the rows are those of the others, and before them those of the steps alone
+  module _ (t m n u s p : ℕ) (e : u ≡ t + m) (long : secondsTo sec u ≡ secondsTo sec t + s) where
+    pub rows-over : s ≤ p → getD (rowsFrom sec order (t + 1) (m + n)) p noRow ≡ getD (rowsFrom sec order (u + 1) n) (p - s) noRow
+    rows-over h =
+        let l : p ≡ length (rowsFrom sec order (t + 1) m) + (p - s) = omega (arith, rows-long t m u e, long) in
+        rw (rows-part t m n u e)
+        (ap (λ (x : ℕ). getD (rowsFrom sec order (t + 1) m ++ rowsFrom sec order (u + 1) n) x noRow) l
+        ∙ getD-append-add (rowsFrom sec order (t + 1) m) (rowsFrom sec order (u + 1) n) (p - s) noRow)
+
+    pub rows-within : p < s → getD (rowsFrom sec order (t + 1) (m + n)) p noRow ≡ getD (rowsFrom sec order (t + 1) m) p noRow
+    rows-within h =
+        rw (rows-part t m n u e)
+        (List·getD-append (rowsFrom sec order (t + 1) m) (rowsFrom sec order (u + 1) n) noRow p (omega (arith, rows-long t m u e, long)))
 
   -- the first second of the step after t, if it has one
   pub row-first : (t step n : ℕ) → step ≡ t + 1 → step ≤ n → 1 ≤ sec step → getD (rowsFrom sec order 1 n) (secondsTo sec t) noRow ≡ rowOf order step (sec step)
@@ -172,11 +191,53 @@ module _ (sec : ℕ → ℕ) (order : ℕ) where
         steps = each-row first last t n (omega arith) (omega arith);
       }
 
--- The search, which stands at a step before the end with p of the position left
+-- The search for a phase, which stands before phase i with p of the position left
 
-pub search-begins : (rec : List ℕ) (end p : ℕ) → end ≡ stepsOfPlan rec + 1 → getD (rowsFrom (secondsOf rec) (orderOf rec) 1 (end - 1)) p noRow ≡ rowAt rec p
+-- the rows of phase i and of those after it
+abbrev pub fromPhase : List ℕ → ℕ → List Row
+fromPhase rec i = rowsFrom (secondsOf rec) (orderOf rec) (stepsAPhase * i + 1) (stepsAPhase * (kOf rec - i))
+
+pub phases-begin : (rec : List ℕ) (p : ℕ) → getD (fromPhase rec 0) p noRow ≡ rowAt rec p
 unfolding rowAt rowsOf
-search-begins rec end p e = let n : end - 1 ≡ stepsOfPlan rec = omega arith in rw n
+phases-begin rec p = let n : kOf rec - 0 ≡ kOf rec = omega arith in rw n
+
+pub phases-past : (rec : List ℕ) (i p : ℕ) → kOf rec ≤ i → noRow ≡ getD (fromPhase rec i) p noRow
+unfolding rowsFrom
+phases-past rec i p h = let e : kOf rec - i ≡ 0 = omega arith in rw e
+
+module _ (rec : List ℕ) (i : ℕ) (h : i < kOf rec) where
+  abbrev upTo : ℕ → ℕ
+  upTo n = secondsTo (secondsOf rec) n
+
+  pub step-end : (j : ℕ) → j < stepsAPhase → upTo (stepIn i (j + 1)) ≡ upTo (stepIn i j) + getD (phaseTable rec i) j 0
+  step-end j l = omega (arith, seconds-next (secondsOf rec) (stepIn i j) (stepIn i (j + 1)) (omega arith), seconds-line rec i h j (stepIn i (j + 1)) l refl)
+
+  table-end : upTo (stepsAPhase * (i + 1)) ≡ upTo (stepsAPhase * i) + tableSum (phaseTable rec i)
+  table-end =
+      let first : stepsAPhase * i ≡ stepIn i 0 = omega arith in
+      let last : stepsAPhase * (i + 1) ≡ stepIn i 5 = omega arith in
+      rw (first, last) (omega (arith, step-end 0 (omega arith), step-end 1 (omega arith), step-end 2 (omega arith), step-end 3 (omega arith), step-end 4 (omega arith)))
+
+  one-phase : stepsAPhase * (kOf rec - i) ≡ stepsAPhase + stepsAPhase * (kOf rec - (i + 1))
+  one-phase = omega arith
+
+  module _ (s p : ℕ) (es : s ≡ tableSum (phaseTable rec i)) where
+    -- a phase's five steps may be skipped by their sum
+    pub phase-over : s ≤ p → getD (fromPhase rec (i + 1)) (p - s) noRow ≡ getD (fromPhase rec i) p noRow
+    phase-over l =
+        rw one-phase
+        (sym (rows-over (secondsOf rec) (orderOf rec) (stepsAPhase * i) stepsAPhase (stepsAPhase * (kOf rec - (i + 1))) (stepsAPhase * (i + 1)) s p (omega arith) (omega (arith, table-end, es)) l))
+
+    pub phase-here : p < s → getD (phaseRows rec i) p noRow ≡ getD (fromPhase rec i) p noRow
+    phase-here l =
+        rw one-phase
+        (sym (rows-within (secondsOf rec) (orderOf rec) (stepsAPhase * i) stepsAPhase (stepsAPhase * (kOf rec - (i + 1))) (stepsAPhase * (i + 1)) s p (omega arith) (omega (arith, table-end, es)) l))
+
+-- The search for a step, which stands at one before the end with p of the position left
+
+pub steps-begin : (rec : List ℕ) (i first end p : ℕ) → first ≡ stepsAPhase * i + 1 → end ≡ first + stepsAPhase
+    → getD (rowsFrom (secondsOf rec) (orderOf rec) first (end - first)) p noRow ≡ getD (phaseRows rec i) p noRow
+steps-begin rec i first end p f e = let n : end - first ≡ stepsAPhase = omega arith in rw (n, f)
 
 module _ (sec : ℕ → ℕ) (order step end p : ℕ) where
   pub search-ends : end ≤ step → noRow ≡ getD (rowsFrom sec order step (end - step)) p noRow

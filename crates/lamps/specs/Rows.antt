@@ -27,6 +27,10 @@ phaseTable rec i =
     ∷ allRedOf rec i  -- 5
     ∷ []
 
+-- the seconds of all five
+abbrev pub tableSum : List ℕ → ℕ
+tableSum t = getD t 0 0 + getD t 1 0 + getD t 2 0 + getD t 3 0 + getD t 4 0
+
 -- step 6 "as 1 with phase 2", step 7 "as 2": steps are counted from 1 and go on through the phases
 abbrev pub stepsOfPlan : List ℕ → ℕ
 stepsOfPlan rec = stepsAPhase * kOf rec
@@ -64,6 +68,10 @@ rowsFrom sec order step (suc n) = countedDown order step (sec step) ++ rowsFrom 
 -- the rows of a record's cycle
 unfoldable pub rowsOf : List ℕ → List Row
 rowsOf rec = rowsFrom (secondsOf rec) (orderOf rec) 1 (stepsOfPlan rec)
+
+-- those of phase i alone
+abbrev pub phaseRows : List ℕ → ℕ → List Row
+phaseRows rec i = rowsFrom (secondsOf rec) (orderOf rec) (stepsAPhase * i + 1) stepsAPhase
 
 -- where there is no row: step 0, which no row has, and all lamps dark
 abbrev pub noRow : Row
