@@ -88,36 +88,38 @@ fn row_number(order: u8, step: u16) -> usize
     first_row(order) as usize + (step - 1) as usize
 }
 
-// A line of the table. Each is named by a number of its own, so that the program holds the lines as they are and builds no table.
+// A line of the table. Each is named by a number of its own, so that the program holds the lines as they are and builds no table;
+// and it is told by its first word, since by numbers without a gap the compiler would put the line together from all its columns.
 fn line(p: usize) -> [u32; LINE_LEN]
     requires { ⌜ p < 24 ⌝ }
     ensures { λ r. ⌜ r ≡ lineWords p ⌝ }
 {
     let t = TABLE;
-    match p {
+    let first = LINE_LEN * p;
+    match first {
         0 => t[0],
-        1 => t[1],
-        2 => t[2],
-        3 => t[3],
-        4 => t[4],
-        5 => t[5],
-        6 => t[6],
-        7 => t[7],
-        8 => t[8],
-        9 => t[9],
-        10 => t[10],
-        11 => t[11],
-        12 => t[12],
-        13 => t[13],
-        14 => t[14],
-        15 => t[15],
-        16 => t[16],
-        17 => t[17],
-        18 => t[18],
-        19 => t[19],
-        20 => t[20],
-        21 => t[21],
-        22 => t[22],
+        40 => t[1],
+        80 => t[2],
+        120 => t[3],
+        160 => t[4],
+        200 => t[5],
+        240 => t[6],
+        280 => t[7],
+        320 => t[8],
+        360 => t[9],
+        400 => t[10],
+        440 => t[11],
+        480 => t[12],
+        520 => t[13],
+        560 => t[14],
+        600 => t[15],
+        640 => t[16],
+        680 => t[17],
+        720 => t[18],
+        760 => t[19],
+        800 => t[20],
+        840 => t[21],
+        880 => t[22],
         _ => t[23],
     }
 }
