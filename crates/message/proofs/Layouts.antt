@@ -2,18 +2,17 @@
 use Prim.Native.Nat.{ℕ, zero, suc, _+_, _*_, _-_, _%_, _≤_, _<_}
 use mathlib.Core.Path.{_≡_, refl, sym, ap, _∙_}
 use mathlib.Core.Bool.{Bool, true}
-use mathlib.Core.List.{List, _++_, map, append-assoc}
+use mathlib.Core.List.{List, _++_, append-assoc}
 use native.Mathlib.Decide.{decLt}
 use native.Mathlib.Nat.{mul-le-mul-right, mul-zero, zero-mul, suc-mul, mod-eq-of-lt, mod-eq-sub-mod}
 use native.Mathlib.Omega.{arith}
 use borrow.Author.Tests.{leb-true}
 use lib.Dec.{leb}
-use lib.ListN.{length, getD, drop, length-append, length-drop, List·getD-append, List·getD-eq-default, List·getD-map}
+use lib.ListN.{length, getD, drop, length-append, length-drop, List·getD-append, List·getD-eq-default}
 use lib.Seq.{getD-take, getD-drop, length-take-le}
 use Rattle.octets.specs.Choice.{both}
 use Rattle.octets.proofs.Laws.{both-left, both-right, getD-past}
 use Rattle.octets.proofs.Every.{every, every-at}
-use Rattle.message.specs.declared.layout.Entry.{Entry}
 use Rattle.message.specs.declared.layout.Field.{Field}
 use Rattle.message.specs.declared.layout.LayoutLine.{LayoutLine}
 use Rattle.message.specs.Fields.{noField}
@@ -87,30 +86,16 @@ module _ (y : LayoutLine) (k i : ℕ) (h : y .from + y .head + y .group + y .tai
         let e : length (repeated k (cut (y .from + y .head) (y .group))) ≡ k * y .group = length-repeated k (cut (y .from + y .head) (y .group)) ∙ rw group-len in
         rw past-head (sym (rw e at (getD-past (repeated k (cut (y .from + y .head) (y .group))) (cut (y .from + y .head + y .group) (y .tail)) noField (i - y .head) (rw e l))))
 
--- The code's table of layouts
+-- The code's lines
 
-abbrev pub noEntry : Entry
-noEntry = (0, 0, 0, 0, 0, 0, 0, 0)
+-- a line that cuts out the layout of a number keeps it
+module _ {y : LayoutLine} (inside : y .from + y .head + y .group + y .tail ≤ tableLen) where
+  pub kept-at : {l : ℕ} (n : ℕ) → l ≡ n → keptBy y ≡ layoutAt n → Kept l y
+  kept-at n e is = rw e (record { is = is; inside = inside })
 
-abbrev pub named : Entry → LayoutLine
-named e = record { code = e .0; from = e .1; head = e .2; group = e .3; tail = e .4; count = e .5; fewest = e .6; most = e .7 }
-
-abbrev pub inside : Entry → Bool
-inside e = leb (e .1 + e .2 + e .3 + e .4) tableLen
-
--- a list of lines that cuts out the layouts, one by one, keeps each under its number
-module _ (es : List Entry) (cuts : map (λ (e : Entry). keptBy (named e)) es ≡ layouts) (inner : every inside es ≡ true) (l : ℕ) where
-  pub kept : Kept l (named (getD es l noEntry))
-  unfolding layoutAt cut
-  kept =
-      record {
-        is = sym (List·getD-map (λ (e : Entry). keptBy (named e)) es l noEntry) ∙ ap (λ (ls : List _). getD ls l noLayout) cuts;
-        inside = leb-true _ _ (every-at inside es l noEntry inner (λ _. refl));
-      }
-
-pub kept-none : {l : ℕ} → length layouts ≤ l → Kept l (named noEntry)
-unfolding layoutAt cut
-kept-none {l} h = record { is = sym (List·getD-eq-default layouts noLayout h); inside = omega arith }
+  pub kept-none : {l : ℕ} → length layouts ≤ l → keptBy y ≡ noLayout → Kept l y
+  unfolding layoutAt
+  kept-none {l} h is = record { is = is ∙ sym (List·getD-eq-default layouts noLayout h); inside = inside }
 
 pub kept-code : {l : ℕ} {y : LayoutLine} → Kept l y → y .code ≡ layoutAt l .code
 kept-code h = ap (λ (l : specified.Layout). l .code) (h .is)

@@ -1,4 +1,4 @@
-// 01, "Messages": the layouts. One table has the rows of all fields, and one says for each layout which of them are its own.
+// 01, "Messages": the fields and their ranges, and how the code keeps a layout: its rows stand together in one table of fields.
 
 // "Fields are one octet unless marked": the least and the greatest value of a field of one octet, and of one of two. A
 // phase order is one octet too; its range is the directory.
@@ -9,19 +9,19 @@ pub enum Field {
 }
 
 // "k is 1 to 8"
-const K_FEWEST: u8 = 1;
+pub const K_FEWEST: usize = 1;
 
-const K_MOST: u8 = 8;
+pub const K_MOST: usize = 8;
 
-const CODE: Field = Field::Two(0, 65_535);
+pub const CODE: Field = Field::Two(0, 65_535);
 
-const ERROR_NUMBER: Field = Field::Octet(0, 255);
+pub const ERROR_NUMBER: Field = Field::Octet(0, 255);
 
-const PARAMETER_NUMBER: Field = Field::Octet(0, 255);
+pub const PARAMETER_NUMBER: Field = Field::Octet(0, 255);
 
-const PLAN_SET: Field = Field::Octet(1, 48);
+pub const PLAN_SET: Field = Field::Octet(1, 48);
 
-const PLAN: Field = Field::Octet(0, 48);
+pub const PLAN: Field = Field::Octet(0, 48);
 
 pub const COUNT: Field = Field::Octet(K_FEWEST as u16, K_MOST as u16);
 
@@ -39,110 +39,34 @@ pub const RED_MAN: Field = Field::Octet(0, 9);
 
 pub const DIRECT: Field = Field::Octet(0, 7);
 
-const ORDER: Field = Field::Order;
+pub const ORDER: Field = Field::Order;
 
-const GREEN: Field = Field::Two(1, 900);
+pub const GREEN: Field = Field::Two(1, 900);
 
 pub const CYCLE: Field = Field::Two(1, 900);
 
-const OFFSET: Field = Field::Two(0, 899);
+pub const OFFSET: Field = Field::Two(0, 899);
 
 // Past the last field nothing but 0 has a place.
 pub const NO_FIELD: Field = Field::Octet(0, 0);
 
-pub const ROWS: usize = 38;
-
-pub const FIELDS: [Field; ROWS] = [
-    // 0: 0F 80 and 0F 81
-    CODE,
-    ERROR_NUMBER,
-    PARAMETER_NUMBER,
-    // 3: 5F 14, and from 5 on the times of a record
-    PLAN_SET,
-    COUNT,
-    MINIMUM,
-    MAXIMUM,
-    YELLOW,
-    ALL_RED,
-    WALK_FLASH,
-    RED_MAN,
-    // 11: 5F C4; its plan is that of 5F 18, 5F 44 and 5F 45
-    PLAN,
-    COUNT,
-    MINIMUM,
-    MAXIMUM,
-    YELLOW,
-    ALL_RED,
-    WALK_FLASH,
-    RED_MAN,
-    // 19: 5F 15
-    PLAN_SET,
-    DIRECT,
-    ORDER,
-    COUNT,
-    GREEN,
-    CYCLE,
-    OFFSET,
-    // 26: 5F C5 and 5F C8
-    PLAN,
-    DIRECT,
-    ORDER,
-    COUNT,
-    GREEN,
-    CYCLE,
-    OFFSET,
-    // 33: what makes a record ready
-    DIRECT,
-    ORDER,
-    GREEN,
-    CYCLE,
-    OFFSET,
-];
-
-// A line of the table of layouts. In order: the code; the first row; how many rows stand before those that come k times,
-// how many those are, and how many stand after them; the number of the field that is the count k, 0 for none; the least k
-// and the greatest.
-pub struct Entry(
-    pub u16,
-    pub u8,
-    pub u8,
-    pub u8,
-    pub u8,
-    pub u8,
-    pub u8,
-    pub u8,
-);
-
+// How many layouts there are: number 0 is that of a code that is not listed, 1 to 11 are 01's table, and 12 and 13 the parts
+// of a record.
 pub const LAYOUTS: usize = 14;
 
-// Lines 1 to 11 are 01's table. Line 0 is of a code that is not there, and the last two are the parts of a record.
-pub const CODES: usize = 11;
-
-pub const ENTRIES: [Entry; LAYOUTS] = [
-    Entry(0, 0, 0, 0, 0, 0, 0, 0),
-    Entry(crate::CARRIED_OUT, 0, 1, 0, 0, 0, 0, 0),
-    Entry(crate::REFUSED, 0, 3, 0, 0, 0, 0, 0),
-    Entry(crate::SET_TIMES, 3, 2, 6, 0, 2, K_FEWEST, K_MOST),
-    Entry(crate::REPORT_TIMES, 11, 2, 6, 0, 2, K_FEWEST, K_MOST),
-    Entry(crate::SET_PLAN, 19, 4, 1, 2, 4, K_FEWEST, K_MOST),
-    Entry(crate::REPORT_PLAN, 26, 4, 1, 2, 4, K_FEWEST, K_MOST),
-    Entry(crate::REPORT_RUNNING, 26, 4, 1, 2, 4, K_FEWEST, K_MOST),
-    Entry(crate::RUN, 11, 1, 0, 0, 0, 0, 0),
-    Entry(crate::QUERY_TIMES, 11, 1, 0, 0, 0, 0, 0),
-    Entry(crate::QUERY_PLAN, 11, 1, 0, 0, 0, 0, 0),
-    Entry(crate::QUERY_RUNNING, 0, 0, 0, 0, 0, 0, 0),
-    Entry(0, 5, 0, 6, 0, 0, K_FEWEST, K_MOST),
-    Entry(0, 33, 2, 1, 2, 0, K_FEWEST, K_MOST),
-];
-
-// A line of the table, by name.
+// A layout, as the code keeps it.
 pub struct LayoutLine {
+    // its code, 0 where it has none
     pub code: u16,
+    // its first row in the table of fields
     pub from: usize,
+    // how many rows stand before those that come k times, how many those are, and how many stand after them
     pub head: usize,
     pub group: usize,
     pub tail: usize,
+    // the number of the field that is the count k, 0 where no field is
     pub count: usize,
+    // the least k and the greatest
     pub fewest: usize,
     pub most: usize,
 }

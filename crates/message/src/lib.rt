@@ -1,6 +1,7 @@
 // 01, "Messages": every code of its table, and the layouts. There is nothing to run: what reading and writing give is defined in
 // specs/, and what 01 asks of them is proved in proofs/. The functions that are proved to do so are the crate `message_calls`.
 pub mod layout;
+pub mod lines;
 
 // The codes of 01's table, high octet first.
 pub const CARRIED_OUT: u16 = 0x0F80;

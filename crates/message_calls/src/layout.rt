@@ -1,4 +1,5 @@
-// 01, "Messages": the layouts, looked up in the tables of `message`: their rows, their sizes and the ranges of their fields.
+// 01, "Messages": the layouts: their rows, their sizes and the ranges of their fields. What stands in a table is picked by a
+// `match`: a constant table would be built on the stack wherever it is read.
 ghost use mathlib.Core.Path.{_≡_};
 ghost use mathlib.Core.Bool.{not};
 ghost use Prim.Native.Nat.{_+_, _*_, _≤_};
@@ -6,42 +7,32 @@ ghost use lib.ListN.{length, getD};
 ghost use Rattle.message.specs.Fields.{twoOf, widthOf, passes, noField};
 ghost use Rattle.message.specs.Layouts.{layoutAt, known, rowsAt, mostAt, kFits, numberOf};
 ghost use Rattle.message.specs.Values.{fieldsMost, sizeOf, numbered, firstOut};
-ghost use Rattle.message.specs.Table.{tableLen, cut, Kept};
+ghost use Rattle.message.specs.Table.{table, tableLen, cut, Kept};
 use message::FIELDS_MOST;
-use message::layout::CODES;
-use message::layout::ENTRIES;
-use message::layout::FIELDS;
+use message::layout;
 use message::layout::Field;
-use message::layout::LAYOUTS;
 use message::layout::LayoutLine;
-use message::layout::NO_FIELD;
+use message::lines;
 
 // The layout of this number; that of no field where there is none.
 pub(crate) fn layout_at(l: usize) -> LayoutLine
     ensures { λ r. ⌜ Kept l r ⌝ }
 {
-    if l < LAYOUTS {
-        let e = ENTRIES[l];
-        return LayoutLine {
-            code: e.0,
-            from: e.1 as usize,
-            head: e.2 as usize,
-            group: e.3 as usize,
-            tail: e.4 as usize,
-            count: e.5 as usize,
-            fewest: e.6 as usize,
-            most: e.7 as usize,
-        };
-    }
-    LayoutLine {
-        code: 0,
-        from: 0,
-        head: 0,
-        group: 0,
-        tail: 0,
-        count: 0,
-        fewest: 0,
-        most: 0,
+    match l {
+        1 => lines::CARRIED_OUT,
+        2 => lines::REFUSED,
+        3 => lines::SET_TIMES,
+        4 => lines::REPORT_TIMES,
+        5 => lines::SET_PLAN,
+        6 => lines::REPORT_PLAN,
+        7 => lines::REPORT_RUNNING,
+        8 => lines::RUN,
+        9 => lines::QUERY_TIMES,
+        10 => lines::QUERY_PLAN,
+        11 => lines::QUERY_RUNNING,
+        12 => lines::STORED_TIMES,
+        13 => lines::STORED_PLAN,
+        _ => lines::NO_LAYOUT,
     }
 }
 
@@ -49,22 +40,26 @@ pub(crate) fn layout_at(l: usize) -> LayoutLine
 pub(crate) fn known(l: usize) -> bool
     ensures { λ r. ⌜ r ≡ known l ⌝ }
 {
-    1 <= l && l < LAYOUTS
+    1 <= l && l < layout::LAYOUTS
 }
 
 // The number of a code's layout; 0 where the code is not listed.
 pub(crate) fn find(code: u16) -> usize
     ensures { λ r. ⌜ r ≡ numberOf code ⌝ }
 {
-    let mut n: usize = 0;
-    loop {
-        if CODES <= n {
-            break 0;
-        }
-        if layout_at(n + 1).code == code {
-            break n + 1;
-        }
-        n += 1;
+    match code {
+        message::CARRIED_OUT => 1,
+        message::REFUSED => 2,
+        message::SET_TIMES => 3,
+        message::REPORT_TIMES => 4,
+        message::SET_PLAN => 5,
+        message::REPORT_PLAN => 6,
+        message::REPORT_RUNNING => 7,
+        message::RUN => 8,
+        message::QUERY_TIMES => 9,
+        message::QUERY_PLAN => 10,
+        message::QUERY_RUNNING => 11,
+        _ => 0,
     }
 }
 
@@ -88,15 +83,46 @@ pub(crate) fn fields(l: usize, k: usize) -> usize
     y.head + k * y.group + y.tail
 }
 
+// The field in a row of the table, from 0. A column of numbers below is a layout: the times of 5F 14 from 3 on and of 5F C4
+// from 11 on, whose plan is that of 5F 18, 5F 44 and 5F 45 too; the plan of 5F 15 from 19 on, of 5F C5 and 5F C8 from 26 on,
+// and of a record from 33 on.
+fn field_at(row: usize) -> Field
+    ensures { λ r. ⌜ r ≡ getD table row noField ⌝ }
+{
+    match row {
+        0 => layout::CODE,
+        1 => layout::ERROR_NUMBER,
+        2 => layout::PARAMETER_NUMBER,
+        3 => layout::PLAN_SET,
+        11 => layout::PLAN,
+        4 | 12 => layout::COUNT,
+        5 | 13 => layout::MINIMUM,
+        6 | 14 => layout::MAXIMUM,
+        7 | 15 => layout::YELLOW,
+        8 | 16 => layout::ALL_RED,
+        9 | 17 => layout::WALK_FLASH,
+        10 | 18 => layout::RED_MAN,
+        19 => layout::PLAN_SET,
+        26 => layout::PLAN,
+        20 | 27 | 33 => layout::DIRECT,
+        21 | 28 | 34 => layout::ORDER,
+        22 | 29 => layout::COUNT,
+        23 | 30 | 35 => layout::GREEN,
+        24 | 31 | 36 => layout::CYCLE,
+        25 | 32 | 37 => layout::OFFSET,
+        _ => layout::NO_FIELD,
+    }
+}
+
 // Row i, from 0, of the `len` rows of the table from `from` on.
 fn row_in(from: usize, len: usize, i: usize) -> Field
     requires { ⌜ from + len ≤ tableLen ⌝ }
     ensures { λ r. ⌜ r ≡ getD (cut from len) i noField ⌝ }
 {
     if len <= i {
-        return NO_FIELD;
+        return layout::NO_FIELD;
     }
-    FIELDS[from + i]
+    field_at(from + i)
 }
 
 // The row of the field at place i, from 0.
@@ -175,7 +201,7 @@ fn out(l: usize, k: usize, n: usize, i: usize, v: u16) -> bool
     ensures { λ r. ⌜ r ≡ not (passes (getD (rowsAt l k) i noField) v) ⌝ }
 {
     if n <= i {
-        return !passes(NO_FIELD, v);
+        return !passes(layout::NO_FIELD, v);
     }
     !passes(row(l, k, i), v)
 }
