@@ -21,15 +21,12 @@ use Rattle.frame.specs.Frame.{ack, nak, infoMost, frontOf, sentOf, twice, doubl
 use Rattle.frame.specs.Decoder.{possibleOf, takenOf}
 use Rattle.frame.proofs.Finding.{finds}
 use Rattle.message.specs.declared.Message as message
-use Rattle.message.specs.declared.layout.Field.{Field}
-use Rattle.message.specs.Fields.{twoOf}
 use Rattle.message.specs.Layouts.{layouts, layoutAt, numberOf, rowsAt, layoutRows}
-use Rattle.message.specs.Values.{sizeOf, placed}
+use Rattle.message.specs.Values.{placed}
 use Rattle.message.specs.Names.{planAt}
 use Rattle.message.specs.Reader.{codeIn, bodyIn, readOf}
 use Rattle.message.specs.Writer.{numberIn, kOfMessage, writable, infoAs, infoOf}
-use Rattle.message.proofs.Layouts.{rows-most}
-use Rattle.message.proofs.Values.{width-most}
+use Rattle.message.proofs.Layouts.{rows-size}
 use Rattle.message.proofs.Writing.{info-len, writable-most}
 use Rattle.plan.specs.declared.Which.{Which}
 use Rattle.plan.specs.declared.setting.Answered.{Answered}
@@ -70,16 +67,12 @@ refused-info code n parameter hn hp = rw (mod-eq-of-lt hn, mod-eq-of-lt hp)
 
 -- INFO of what is writable
 
-size-most : (fs : List Field) → sizeOf fs ≤ 2 * length fs
-size-most [] = omega arith
-size-most (f ∷ fs) = omega (arith, width-most (twoOf f), size-most fs)
-
 pub info-fits : (m : message.Message) → writable m ≡ true → (codeLen ≤ length (infoOf m)) × (length (infoOf m) ≤ infoMost)
 info-fits m w =
     let l = numberIn m in
     let k = kOfMessage m in
     let n = info-len (m .code) (rowsAt l k) (m .values) in
-    (omega arith, omega (arith, size-most (rowsAt l k), rows-most l k (writable-most l k (m .fields) (m .values) w)))
+    (omega arith, omega (arith, rows-size l k (writable-most l k (m .fields) (m .values) w)))
 
 -- A plan that is reported
 

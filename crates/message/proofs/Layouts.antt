@@ -1,44 +1,29 @@
 -- The rows of a layout, and how the code's table keeps them.
-use Prim.Native.Nat.{ℕ, zero, suc, _+_, _*_, _-_, _%_, _≤_, _<_}
+use Prim.Native.Nat.{ℕ, zero, suc, _+_, _*_, _≤_, _<_}
 use mathlib.Core.Path.{_≡_, refl, sym, ap, _∙_}
 use mathlib.Core.Bool.{Bool, true}
-use mathlib.Core.List.{List, _++_, append-assoc}
-use native.Mathlib.Decide.{decLt}
-use native.Mathlib.Nat.{mul-le-mul-right, mul-zero, zero-mul, suc-mul, mod-eq-of-lt, mod-eq-sub-mod}
+use mathlib.Core.List.{List}
+use native.Mathlib.Nat.{mul-le-mul-right, zero-mul, suc-mul}
 use native.Mathlib.Omega.{arith}
 use borrow.Author.Tests.{leb-true}
 use lib.Dec.{leb}
-use lib.ListN.{length, getD, drop, length-append, length-drop, List·getD-append, List·getD-eq-default}
+use lib.ListN.{length, getD, drop, length-append, length-drop, List·getD-eq-default}
 use lib.Seq.{getD-take, getD-drop, length-take-le}
 use Rattle.octets.specs.Choice.{both}
-use Rattle.octets.proofs.Laws.{both-left, both-right, getD-past}
+use Rattle.octets.proofs.Laws.{both-left, both-right}
 use Rattle.octets.proofs.Every.{every, every-at}
 use Rattle.message.specs.declared.layout.Field.{Field}
 use Rattle.message.specs.declared.layout.LayoutLine.{LayoutLine}
-use Rattle.message.specs.Fields.{noField}
+use Rattle.message.specs.Fields.{kMost, noField}
 use Rattle.message.specs.Layouts as specified
 use Rattle.message.specs.Layouts.{layouts, layoutAt, noLayout, mostAt, layoutRows, rowsAt, kFits, repeated}
-use Rattle.message.specs.Values.{fieldsMost}
+use Rattle.message.specs.Values.{fieldsMost, sizeOf}
 use Rattle.message.specs.Table.{table, tableLen, cut, keptBy, Kept}
+use Rattle.message.proofs.Values.{size-append, size-repeated, size-most}
 
 pub length-repeated : (k : ℕ) (g : List Field) → length (repeated k g) ≡ k * length g
 length-repeated zero g = sym (zero-mul (length g))
 length-repeated (suc k) g = omega (arith, length-append g (repeated k g), length-repeated k g, suc-mul k (length g))
-
-pub repeated-at : (k : ℕ) (g t : List Field) (j : ℕ) → j < k * length g → getD (repeated k g ++ t) j noField ≡ getD g (j % length g) noField
-repeated-at zero g t j h = absurd (omega (arith, zero-mul (length g)))
-repeated-at (suc k) g t j h = rw append-assoc (by (decLt j (length g)) (λ p. repeated-at k g t (j - length g) p))
-  where
-    by : Dec (j < length g) → (j - length g < k * length g → getD (repeated k g ++ t) (j - length g) noField ≡ getD g ((j - length g) % length g) noField)
-        → getD (g ++ (repeated k g ++ t)) j noField ≡ getD g (j % length g) noField
-    by (yes l) r = rw (List·getD-append g (repeated k g ++ t) noField j l, mod-eq-of-lt l)
-    by (no m) r =
-        let p : length g ≤ j = omega arith in
-        rw (getD-past g (repeated k g ++ t) noField j p, mod-eq-sub-mod p) (r (omega (arith, suc-mul k (length g))))
-
-pub some-repeated : (k n : ℕ) {j : ℕ} → j < k * n → 0 < n
-some-repeated k zero h = absurd (omega (arith, mul-zero k))
-some-repeated k (suc n) h = omega arith
 
 -- the rows of a layout, as the code's table keeps them
 module _ (from n : ℕ) (h : from + n ≤ tableLen) where
@@ -50,10 +35,7 @@ module _ (from n : ℕ) (h : from + n ≤ tableLen) where
   unfolding cut
   cut-at i l = rw (getD-take, getD-drop)
 
-  pub cut-past : (i : ℕ) → n ≤ i → getD (cut from n) i noField ≡ noField
-  cut-past i l = List·getD-eq-default (cut from n) noField (rw length-cut l)
-
-module _ (y : LayoutLine) (k i : ℕ) (h : y .from + y .head + y .group + y .tail ≤ tableLen) where
+module _ (y : LayoutLine) (k : ℕ) (h : y .from + y .head + y .group + y .tail ≤ tableLen) where
   head-len : length (cut (y .from) (y .head)) ≡ y .head
   head-len = length-cut (y .from) (y .head) (omega arith)
 
@@ -66,25 +48,6 @@ module _ (y : LayoutLine) (k i : ℕ) (h : y .from + y .head + y .group + y .tai
   pub rows-len : y .head + k * y .group + y .tail ≡ length (layoutRows (keptBy y) k)
   unfolding layoutRows
   rows-len = simp (length-append, length-repeated, head-len, group-len, tail-len) (omega arith)
-
-  pub row-head : i < y .head → getD (cut (y .from) (y .head)) i noField ≡ getD (layoutRows (keptBy y) k) i noField
-  unfolding layoutRows
-  row-head l = sym (List·getD-append (cut (y .from) (y .head)) _ noField i (rw head-len l))
-
-  module _ (m : y .head ≤ i) where
-    past-head : getD (layoutRows (keptBy y) k) i noField
-        ≡ getD (repeated k (cut (y .from + y .head) (y .group)) ++ cut (y .from + y .head + y .group) (y .tail)) (i - y .head) noField
-    unfolding layoutRows
-    past-head = getD-past (cut (y .from) (y .head)) _ noField i (rw head-len m) ∙ rw head-len
-
-    pub row-group : i - y .head < k * y .group → getD (cut (y .from + y .head) (y .group)) ((i - y .head) % y .group) noField ≡ getD (layoutRows (keptBy y) k) i noField
-    row-group l = rw past-head (sym (rw group-len at (repeated-at k (cut (y .from + y .head) (y .group)) (cut (y .from + y .head + y .group) (y .tail)) (i - y .head) (rw group-len l))))
-
-    pub row-tail : k * y .group ≤ i - y .head
-        → getD (cut (y .from + y .head + y .group) (y .tail)) (i - y .head - k * y .group) noField ≡ getD (layoutRows (keptBy y) k) i noField
-    row-tail l =
-        let e : length (repeated k (cut (y .from + y .head) (y .group))) ≡ k * y .group = length-repeated k (cut (y .from + y .head) (y .group)) ∙ rw group-len in
-        rw past-head (sym (rw e at (getD-past (repeated k (cut (y .from + y .head) (y .group))) (cut (y .from + y .head + y .group) (y .tail)) noField (i - y .head) (rw e l))))
 
 -- The code's lines
 
@@ -109,22 +72,11 @@ module _ {l : ℕ} {y : LayoutLine} (h : Kept l y) (k : ℕ) where
 
   pub kept-len : y .head + k * y .group + y .tail ≡ length (rowsAt l k)
   unfolding rowsAt
-  kept-len = rw (← h .is) (rows-len y k 0 (h .inside))
+  kept-len = rw (← h .is) (rows-len y k (h .inside))
 
-  module _ (i : ℕ) where
-    pub kept-head : i < y .head → getD (cut (y .from) (y .head)) i noField ≡ getD (rowsAt l k) i noField
-    unfolding rowsAt
-    kept-head p = rw (← h .is) (row-head y k i (h .inside) p)
-
-    pub kept-group : y .head ≤ i → i - y .head < k * y .group
-        → getD (cut (y .from + y .head) (y .group)) ((i - y .head) % y .group) noField ≡ getD (rowsAt l k) i noField
-    unfolding rowsAt
-    kept-group p q = rw (← h .is) (row-group y k i (h .inside) p q)
-
-    pub kept-tail : y .head ≤ i → k * y .group ≤ i - y .head
-        → getD (cut (y .from + y .head + y .group) (y .tail)) (i - y .head - k * y .group) noField ≡ getD (rowsAt l k) i noField
-    unfolding rowsAt
-    kept-tail p q = rw (← h .is) (row-tail y k i (h .inside) p q)
+  pub kept-size : sizeOf (cut (y .from) (y .head)) + sizeOf (cut (y .from + y .head + y .group) (y .tail)) + k * sizeOf (cut (y .from + y .head) (y .group)) ≡ sizeOf (rowsAt l k)
+  unfolding rowsAt layoutRows
+  kept-size = rw (← h .is, size-append, size-append, size-repeated) (omega arith)
 
 -- What holds of every layout
 
@@ -147,8 +99,35 @@ rows-most l k h =
     let t : n ≤ fieldsMost = leb-true n fieldsMost (both-left (leb n fieldsMost) (leb (y .count) (length (y .head))) (fitting-at l)) in
     omega (arith, rows-length y k, mul-le-mul-right (length (y .group)) h)
 
+pub rows-size : (l k : ℕ) → k ≤ mostAt l → sizeOf (rowsAt l k) ≤ 2 * fieldsMost
+rows-size l k h = omega (arith, size-most (rowsAt l k), rows-most l k h)
+
 pub count-head : (l : ℕ) → layoutAt l .count ≤ length (layoutAt l .head)
 count-head l =
     let y = layoutAt l in
     let n = length (y .head) + y .most * length (y .group) + length (y .tail) in
     leb-true (y .count) (length (y .head)) (both-right (leb n fieldsMost) (leb (y .count) (length (y .head))) (fitting-at l))
+
+-- rows come k times just where k may be more than 0
+abbrev repeating : specified.Layout → Bool
+repeating y = both (leb (length (y .group)) (fieldsMost * y .fewest)) (leb (y .most) (kMost * length (y .group)))
+
+repeating-at : (l : ℕ) → repeating (layoutAt l) ≡ true
+unfolding layouts layoutAt every
+repeating-at l = every-at repeating layouts l noLayout refl (λ _. refl)
+
+module _ {l : ℕ} {y : LayoutLine} (h : Kept l y) (k : ℕ) (f : kFits (layoutAt l) k ≡ true) where
+  group-length : y .group ≡ length (layoutAt l .group)
+  group-length = sym (group-len y k (h .inside)) ∙ ap (λ (l : specified.Layout). length (l .group)) (h .is)
+
+  pub kept-once : k ≡ 0 → y .group ≡ 0
+  kept-once e =
+      let g = layoutAt l in
+      let t = leb-true (length (g .group)) (fieldsMost * g .fewest) (both-left _ (leb (g .most) (kMost * length (g .group))) (repeating-at l)) in
+      omega (arith, group-length, leb-true (g .fewest) k (both-left _ (leb k (g .most)) f))
+
+  pub kept-again : 0 < k → 0 < y .group
+  kept-again p =
+      let g = layoutAt l in
+      let t = leb-true (g .most) (kMost * length (g .group)) (both-right (leb (length (g .group)) (fieldsMost * g .fewest)) _ (repeating-at l)) in
+      omega (arith, group-length, leb-true k (g .most) (both-right (leb (g .fewest) k) _ f))

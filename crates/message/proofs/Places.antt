@@ -1,26 +1,19 @@
 -- What is read is what stands there.
-use Prim.Native.Nat.{ℕ, zero, suc, _<_}
-use mathlib.Core.Path.{_≡_, refl, _∙_}
-use mathlib.Core.List.{List, [], _∷_}
+use Prim.Native.Nat.{ℕ}
+use mathlib.Core.Path.{_≡_, _∙_}
+use mathlib.Core.List.{List}
 use native.Mathlib.Omega.{arith}
-use lib.ListN.{length, getD, drop, List·getD-eq-default}
-use lib.Seq.{drop-drop}
+use lib.ListN.{drop, List·getD-eq-default}
 use Rattle.message.specs.declared.layout.Field.{Field}
 use Rattle.message.specs.declared.layout.Field.the-variants.{Octet, Two, Order}
-use Rattle.message.specs.Fields.{twoOf, widthOf, valueOf, noField}
-use Rattle.message.specs.Values.{fieldStart, valuesOf}
+use Rattle.message.specs.Fields.{twoOf, valueOf}
 use Rattle.message.specs.Reader.{partOf, bodyIn, readOf}
 use Rattle.message.specs.Promises.{valueThere, ValuesTaken, HoldsInfo, ValuesStand}
 use Rattle.message.proofs.Layouts.{rows-most}
-use Rattle.message.proofs.Values.{value-one, value-two, length-values}
+use Rattle.message.proofs.Values.{value-one, value-two, value-at, length-values}
 use Rattle.message.proofs.Ranges.{placed-at}
 use Rattle.message.proofs.Fitting.{length-placed}
 use Rattle.message.proofs.Accepted.{Accepted, accepted-in, is-part, code-is, rows-is, readRows, readValues, readPart}
-
-pub value-at : (fs : List Field) (os : List ℕ) (i : ℕ) → i < length fs → getD (valuesOf fs os) i 0 ≡ valueOf (twoOf (getD fs i noField)) (drop (fieldStart fs i) os)
-value-at [] os i h = absurd (omega arith)
-value-at (f ∷ fs) os zero h = refl
-value-at (f ∷ fs) os (suc i) h = value-at fs (drop (widthOf (twoOf f)) os) i (omega arith) ∙ simp drop-drop
 
 -- by the field's octets: high octet first
 there : (f : Field) (os : List ℕ) (s : ℕ) → valueOf (twoOf f) (drop s os) ≡ valueThere f os s

@@ -1,24 +1,27 @@
 -- What follows from the reader's definitions: one law for each way through.
-use Prim.Native.Nat.{ℕ, zero, suc, _≤_, _<_}
-use mathlib.Core.Path.{_≡_, refl}
-use mathlib.Core.Bool.{true, false}
+use Prim.Native.Nat.{ℕ, zero, suc, _-_, _≤_, _<_}
+use mathlib.Core.Path.{_≡_, refl, sym, _∙_}
+use mathlib.Core.Bool.{Bool, true, false, not}
 use mathlib.Core.List.{List, [], _∷_, _++_, append-assoc}
-use borrow.Author.Tests.{eq-eqb, ne-eqb, lt-ltb, le-ltb, leb-true}
-use lib.Dec.{leb}
+use native.Mathlib.Omega.{arith}
+use borrow.Author.Tests.{eqb-true, eq-eqb, ne-eqb, lt-ltb, le-ltb, leb-true, le-leb, not-true}
+use lib.Dec.{eqb, leb}
 use lib.ListN.{length, getD, drop, List·getD-append}
 use lib.Seq.{drop-drop}
+use Rattle.octets.specs.Choice.{pick, both}
 use Rattle.octets.specs.Refusal as refusal
 use Rattle.octets.specs.Part.{codeLen}
 use Rattle.octets.specs.Word.{wordOf}
-use Rattle.octets.proofs.Laws.{both-right}
+use Rattle.octets.proofs.Laws.{both-left, both-right}
+use Rattle.octets.proofs.Every.{every, every-at}
 use Rattle.octets.proofs.Search.{search-first}
 use Rattle.message.specs.declared.layout.Field.{Field}
-use Rattle.message.specs.Fields.{twoOf, widthOf}
-use Rattle.message.specs.Layouts.{layoutAt, known, numberOf, rowsAt, layoutRows, kFits}
-use Rattle.message.specs.Values.{fieldsMost, sizeOf, valuesOf, placed, numbered, firstOut, outAt}
+use Rattle.message.specs.Fields.{twoOf, widthOf, valueOf, noField}
+use Rattle.message.specs.Layouts.{Layout, layouts, noLayout, layoutAt, known, numberOf, rowsAt, layoutRows, kFits}
+use Rattle.message.specs.Values.{fieldsMost, sizeOf, fieldStart, valuesOf, placed, numbered, firstOut, outAt}
 use Rattle.message.specs.Reader.{notRead, readAs, kIn, partOf, rangedOf, readPartOf, readOf}
 use Rattle.message.proofs.Layouts.{count-head}
-use Rattle.message.proofs.Values.{length-values}
+use Rattle.message.proofs.Values.{numbered-one, value-at, length-values}
 
 pub first-out-most : (fs : List Field) (vs : List ℕ) → firstOut fs vs ≤ fieldsMost
 unfolding firstOut
@@ -38,6 +41,26 @@ unfolding placed rowsAt layoutRows
 k-placed l k os =
     let y = layoutAt l in
     rw (values-append (y .head) _ os, append-assoc) (numbered-append (valuesOf (y .head) os) _ (y .count) (rw length-values (count-head l)))
+
+-- the fields up to the count have one octet each
+abbrev countOctet : Layout → Bool
+countOctet y =
+    pick (leb 1 (y .count)) (both (not (twoOf (getD (y .head) (y .count - 1) noField))) (eqb (fieldStart (y .head) (y .count - 1)) (y .count - 1))) true
+
+count-octet : (l : ℕ) → countOctet (layoutAt l) ≡ true
+unfolding layouts layoutAt every
+count-octet l = every-at countOctet layouts l noLayout refl (λ _. refl)
+
+pub k-octet : (l : ℕ) (os : List ℕ) → 1 ≤ layoutAt l .count → valueOf false (drop (layoutAt l .count - 1) os) ≡ kIn (layoutAt l) os
+k-octet l os h =
+    let y = layoutAt l in
+    let i = y .count - 1 in
+    let t = twoOf (getD (y .head) i noField) in
+    let s = fieldStart (y .head) i in
+    let r : both (not t) (eqb s i) ≡ true = rw (le-leb 1 (y .count) h) at (count-octet l) in
+    let one : t ≡ false = not-true t (both-left (not t) (eqb s i) r) in
+    let there : s ≡ i = eqb-true s i (both-right (not t) (eqb s i) r) in
+    sym (numbered-one (valuesOf (y .head) os) (y .count) h ∙ value-at (y .head) os i (omega (arith, count-head l)) ∙ rw (one, there))
 
 -- what the code has found of the part, its values and the first out of range
 module _ (l k : ℕ) (os vs : List ℕ) (field : ℕ) (ev : vs ≡ placed (valuesOf (rowsAt l k) os)) (ef : field ≡ firstOut (rowsAt l k) vs) where

@@ -12,7 +12,7 @@ use Rattle.octets.specs.Word.{wordOf}
 use Rattle.message.specs.declared.layout.Field.{Field}
 use Rattle.message.specs.Fields.{noField, twoOf, widthOf, valueOf}
 use Rattle.message.specs.Layouts.{repeated}
-use Rattle.message.specs.Values.{fieldsMost, sizeOf, valuesOf, zeros, placed, numbered}
+use Rattle.message.specs.Values.{fieldsMost, sizeOf, fieldStart, valuesOf, zeros, placed, numbered}
 
 pub numbered-past : (vs : List ℕ) (n : ℕ) → length vs < n → numbered vs n ≡ 0
 numbered-past vs zero h = refl
@@ -41,6 +41,10 @@ pub width-most : (t : Bool) → widthOf t ≤ 2
 width-most false = omega arith
 width-most true = omega arith
 
+pub size-most : (fs : List Field) → sizeOf fs ≤ 2 * length fs
+size-most [] = omega arith
+size-most (f ∷ fs) = omega (arith, width-most (twoOf f), size-most fs)
+
 pub value-one : (os : List ℕ) (at : ℕ) → valueOf false (drop at os) ≡ getD os at 0
 value-one os at = rw (getD-drop, add-zero)
 
@@ -50,6 +54,11 @@ value-two os at = rw (getD-drop at os 0 0, getD-drop at os 1 0, add-zero)
 pub length-values : (fs : List Field) (os : List ℕ) → length (valuesOf fs os) ≡ length fs
 length-values [] os = refl
 length-values (f ∷ fs) os = ap suc (length-values fs (drop (widthOf (twoOf f)) os))
+
+pub value-at : (fs : List Field) (os : List ℕ) (i : ℕ) → i < length fs → getD (valuesOf fs os) i 0 ≡ valueOf (twoOf (getD fs i noField)) (drop (fieldStart fs i) os)
+value-at [] os i h = absurd (omega arith)
+value-at (f ∷ fs) os zero h = refl
+value-at (f ∷ fs) os (suc i) h = value-at fs (drop (widthOf (twoOf f)) os) i (omega arith) ∙ simp drop-drop
 
 -- a turn of the reader: the field at i is read where the octets before it end
 module _ (fs : List Field) (os v : List ℕ) (i at x : ℕ) (t : Bool) (h : i < length fs)

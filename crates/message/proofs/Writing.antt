@@ -98,6 +98,10 @@ module _ (m : Message) (at : ℕ) (out : List ℕ) where
     pub write-on : t ≡ true → {r : Written} {out′ : List ℕ} → WriterLeaves (writtenAs (infoAs (m .code) (rowsAt l k) (m .values)) at out) r out′ → WriterLeaves (writeMessage m at out) r out′
     write-on h w = rw (← write-yes (sym tested ∙ h)) (rw (ek, el) at w)
 
-pub writable-most : (l k n : ℕ) (vs : List ℕ) → writableAs l k n vs ≡ true → k ≤ mostAt l
-unfolding writableAs
-writable-most l k n vs h = most-fits l k (both-left (kFits (layoutAt l) k) _ (both-right (known l) _ h))
+module _ (l k n : ℕ) (vs : List ℕ) (h : writableAs l k n vs ≡ true) where
+  pub writable-fits : kFits (layoutAt l) k ≡ true
+  unfolding writableAs
+  writable-fits = both-left (kFits (layoutAt l) k) _ (both-right (known l) _ h)
+
+  pub writable-most : k ≤ mostAt l
+  writable-most = most-fits l k writable-fits

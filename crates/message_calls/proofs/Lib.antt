@@ -1,3 +1,4 @@
 pub mod Apart
+pub mod Walking
 pub mod Promised
 pub mod Only

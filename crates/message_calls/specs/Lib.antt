@@ -1,2 +1,3 @@
 pub mod Info
+pub mod Walk
 pub mod Promises

@@ -1,13 +1,14 @@
 // 01, "Messages": the layouts: their rows, their sizes and the ranges of their fields. What stands in a table is picked by a
 // `match`: a constant table would be built on the stack wherever it is read.
 ghost use mathlib.Core.Path.{_≡_};
-ghost use mathlib.Core.Bool.{not};
+ghost use mathlib.Core.Bool.{true};
 ghost use Prim.Native.Nat.{_+_, _*_, _≤_};
 ghost use lib.ListN.{length, getD};
 ghost use Rattle.message.specs.Fields.{twoOf, widthOf, passes, noField};
-ghost use Rattle.message.specs.Layouts.{layoutAt, known, rowsAt, mostAt, kFits, numberOf};
+ghost use Rattle.message.specs.Layouts.{layoutAt, known, rowsAt, kFits, numberOf};
 ghost use Rattle.message.specs.Values.{fieldsMost, sizeOf, numbered, firstOut};
 ghost use Rattle.message.specs.Table.{table, tableLen, cut, Kept};
+use crate::walk::Walk;
 use message::FIELDS_MOST;
 use message::layout;
 use message::layout::Field;
@@ -76,7 +77,7 @@ pub(crate) fn k_fits(l: usize, k: usize) -> bool
 
 // How many fields a layout has for k.
 pub(crate) fn fields(l: usize, k: usize) -> usize
-    requires { ⌜ k ≤ mostAt l ⌝ }
+    requires { ⌜ kFits (layoutAt l) k ≡ true ⌝ }
     ensures { λ r. ⌜ (r ≡ length (rowsAt l k)) × (r ≤ fieldsMost) ⌝ }
 {
     let y = layout_at(l);
@@ -86,7 +87,7 @@ pub(crate) fn fields(l: usize, k: usize) -> usize
 // The field in a row of the table, from 0. A column of numbers below is a layout: the times of 5F 14 from 3 on and of 5F C4
 // from 11 on, whose plan is that of 5F 18, 5F 44 and 5F 45 too; the plan of 5F 15 from 19 on, of 5F C5 and 5F C8 from 26 on,
 // and of a record from 33 on.
-fn field_at(row: usize) -> Field
+pub(crate) fn field_at(row: usize) -> Field
     ensures { λ r. ⌜ r ≡ getD table row noField ⌝ }
 {
     match row {
@@ -114,35 +115,7 @@ fn field_at(row: usize) -> Field
     }
 }
 
-// Row i, from 0, of the `len` rows of the table from `from` on.
-fn row_in(from: usize, len: usize, i: usize) -> Field
-    requires { ⌜ from + len ≤ tableLen ⌝ }
-    ensures { λ r. ⌜ r ≡ getD (cut from len) i noField ⌝ }
-{
-    if len <= i {
-        return layout::NO_FIELD;
-    }
-    field_at(from + i)
-}
-
-// The row of the field at place i, from 0.
-pub(crate) fn row(l: usize, k: usize, i: usize) -> Field
-    requires { ⌜ k ≤ mostAt l ⌝ }
-    ensures { λ r. ⌜ r ≡ getD (rowsAt l k) i noField ⌝ }
-{
-    let y = layout_at(l);
-    if i < y.head {
-        return row_in(y.from, y.head, i);
-    }
-    let j = i - y.head;
-    let repeated = k * y.group;
-    if j < repeated {
-        return row_in(y.from + y.head, y.group, j % y.group);
-    }
-    row_in(y.from + y.head + y.group, y.tail, j - repeated)
-}
-
-fn two(f: Field) -> bool
+pub(crate) fn two(f: Field) -> bool
     ensures { λ r. ⌜ r ≡ twoOf f ⌝ }
 {
     match f {
@@ -152,31 +125,33 @@ fn two(f: Field) -> bool
     }
 }
 
-// Is the field at place i of two octets?
-pub(crate) fn two_at(l: usize, k: usize, i: usize) -> bool
-    requires { ⌜ k ≤ mostAt l ⌝ }
-    ensures { λ r. ⌜ r ≡ twoOf (getD (rowsAt l k) i noField) ⌝ }
-{
-    two(row(l, k, i))
-}
-
 pub(crate) fn width(two: bool) -> usize
     ensures { λ r. ⌜ r ≡ widthOf two ⌝ }
 {
     if two { 2 } else { 1 }
 }
 
-// How many octets the fields have.
-pub(crate) fn size(l: usize, k: usize) -> usize
-    requires { ⌜ k ≤ mostAt l ⌝ }
-    ensures { λ r. ⌜ (r ≡ sizeOf (rowsAt l k)) × (r ≤ 2 * fieldsMost) ⌝ }
+// How many octets the fields in so many rows of the table have, from one on.
+fn size_in(from: usize, len: usize) -> usize
+    requires { ⌜ from + len ≤ tableLen ⌝ }
+    ensures { λ r. ⌜ r ≡ sizeOf (cut from len) ⌝ }
 {
-    let n = fields(l, k);
     let mut size: usize = 0;
-    for i in 0..n {
-        size += width(two_at(l, k, i));
+    for i in 0..len {
+        size += width(two(field_at(from + i)));
     }
     size
+}
+
+// How many octets the fields have.
+pub(crate) fn size(l: usize, k: usize) -> usize
+    requires { ⌜ kFits (layoutAt l) k ≡ true ⌝ }
+    ensures { λ r. ⌜ (r ≡ sizeOf (rowsAt l k)) × (r ≤ 2 * fieldsMost) ⌝ }
+{
+    let y = layout_at(l);
+    let first = y.from + y.head;
+    let once = size_in(y.from, y.head) + size_in(first + y.group, y.tail);
+    once + k * size_in(first, y.group)
 }
 
 // Is the value in its field's range?
@@ -195,31 +170,22 @@ pub fn passes(f: Field, v: u16) -> bool
     }
 }
 
-// Is the value at place i out of range? The layout has n fields; a place past them is looked up in no table.
-fn out(l: usize, k: usize, n: usize, i: usize, v: u16) -> bool
-    requires { ⌜ (k ≤ mostAt l) × (n ≡ length (rowsAt l k)) ⌝ }
-    ensures { λ r. ⌜ r ≡ not (passes (getD (rowsAt l k) i noField) v) ⌝ }
-{
-    if n <= i {
-        return !passes(layout::NO_FIELD, v);
-    }
-    !passes(row(l, k, i), v)
-}
-
-// "The search over fields stops at the first that fails and yields its number", 0 where none fails.
+// "The search over fields stops at the first that fails and yields its number", 0 where none fails. Past the last field
+// nothing but 0 has a place.
 pub(crate) fn first_out(l: usize, k: usize, values: &[u16]) -> usize
-    requires { ⌜ (k ≤ mostAt l) × (length (now values) ≡ fieldsMost) ⌝ }
+    requires { ⌜ (kFits (layoutAt l) k ≡ true) × (length (now values) ≡ fieldsMost) ⌝ }
     ensures { λ r. ⌜ r ≡ firstOut (rowsAt l k) (now (values .entry)) ⌝ }
 {
-    let n = fields(l, k);
+    let mut w = Walk::start(l, k);
     let mut i: usize = 0;
     loop {
         if FIELDS_MOST <= i {
             break 0;
         }
-        if out(l, k, n, i, values[i]) {
+        if !passes(w.field(), values[i]) {
             break i + 1;
         }
+        w = w.next();
         i += 1;
     }
 }

@@ -1,11 +1,12 @@
 // 01, "Messages": "The fields of a message are read left to right", each by a reader of INFO.
 ghost use mathlib.Core.Path.{_≡_};
-ghost use Prim.Native.Nat.{_≤_};
-ghost use Rattle.message.specs.Layouts.{layoutAt, rowsAt, mostAt};
+ghost use mathlib.Core.Bool.{true};
+ghost use Rattle.message.specs.Layouts.{layoutAt, kFits, rowsAt};
 ghost use Rattle.message.specs.Values.{valuesOf, placed};
 ghost use Rattle.message.specs.Reader.{notRead, kIn, rangedOf, readPartOf, readOf};
 use crate::info;
 use crate::layout;
+use crate::walk::Walk;
 use message::FIELDS_MOST;
 use message::Message;
 use message::Read;
@@ -42,7 +43,7 @@ fn read_part(l: usize, k: usize, part: &[u8]) -> Read
 
 // A part of the right length: its first field out of range is refused.
 fn ranged(l: usize, k: usize, part: &[u8]) -> Read
-    requires { ⌜ k ≤ mostAt l ⌝ }
+    requires { ⌜ kFits (layoutAt l) k ≡ true ⌝ }
     ensures { λ r. ⌜ r ≡ rangedOf l k (now (part .entry)) ⌝ }
 {
     let values = values(l, k, part);
@@ -77,25 +78,31 @@ fn refused(n: u8, field: u8) -> Read
     }
 }
 
-// The count k: it stands before the fields that come k times.
+// The count k: the octets before it are a field each.
 fn count_in(l: usize, body: &[u8]) -> usize
     ensures { λ r. ⌜ r ≡ kIn (layoutAt l) (now (body .entry)) ⌝ }
 {
-    layout::count(l, values(l, 0, body))
+    let n = layout::layout_at(l).count;
+    if n == 0 {
+        return 0;
+    }
+    info::value_at(body, n - 1, false) as usize
 }
 
 // The values of the fields, left to right.
 fn values(l: usize, k: usize, body: &[u8]) -> [u16; FIELDS_MOST]
-    requires { ⌜ k ≤ mostAt l ⌝ }
+    requires { ⌜ kFits (layoutAt l) k ≡ true ⌝ }
     ensures { λ r. ⌜ r ≡ placed (valuesOf (rowsAt l k) (now (body .entry))) ⌝ }
 {
     let n = layout::fields(l, k);
+    let mut w = Walk::start(l, k);
     let mut v = [0u16; FIELDS_MOST];
     let mut at: usize = 0;
     for i in 0..n {
-        let two = layout::two_at(l, k, i);
+        let two = layout::two(w.field());
         v[i] = info::value_at(body, at, two);
         at += layout::width(two);
+        w = w.next();
     }
     v
 }

@@ -1,14 +1,16 @@
 // 01, "Messages": the writer, straight into the output from `at` on.
 ghost use mathlib.Core.Path.{_≡_};
+ghost use mathlib.Core.Bool.{true};
 ghost use Prim.Native.Nat.{_+_, _≤_};
 ghost use lib.ListN.{length};
 ghost use Rattle.octets.specs.Put.{Put, Stored};
 ghost use Rattle.octets.specs.Writing.{WriterLeaves, writtenAs};
 ghost use Rattle.message.specs.Fields.{fieldOctets};
-ghost use Rattle.message.specs.Layouts.{rowsAt, mostAt};
+ghost use Rattle.message.specs.Layouts.{layoutAt, kFits, rowsAt};
 ghost use Rattle.message.specs.Values.{sizeOf, octetsOf};
 ghost use Rattle.message.specs.Writer.{infoAs, writableAs, writeMessage};
 use crate::layout;
+use crate::walk::Walk;
 use message::FIELDS_MOST;
 use message::Message;
 use octets::Written;
@@ -56,7 +58,7 @@ fn put_message(
     out: &mut [u8],
     at: usize,
 ) -> Written
-    requires { ⌜ k ≤ mostAt l ⌝ }
+    requires { ⌜ kFits (layoutAt l) k ≡ true ⌝ }
     ensures { λ r. ⌜ WriterLeaves (writtenAs (infoAs code (rowsAt l k) values) at (now (out .entry))) r (now (out .exit)) ⌝ }
 {
     let n = octets::CODE_LEN + layout::size(l, k);
@@ -76,14 +78,16 @@ fn put_message(
 
 // The fields' octets, left to right.
 fn put_fields(l: usize, k: usize, values: [u16; FIELDS_MOST], out: &mut [u8], at: usize) -> usize
-    requires { ⌜ (k ≤ mostAt l) × (at + sizeOf (rowsAt l k) ≤ length (now out)) ⌝ }
+    requires { ⌜ (kFits (layoutAt l) k ≡ true) × (at + sizeOf (rowsAt l k) ≤ length (now out)) ⌝ }
     ensures { λ r. ⌜ Stored (octetsOf (rowsAt l k) values) at (now (out .entry)) r (now (out .exit)) ⌝ }
 {
     let n = layout::fields(l, k);
+    let mut w = Walk::start(l, k);
     let mut p = at;
     for i in 0..n {
-        let two = layout::two_at(l, k, i);
+        let two = layout::two(w.field());
         p = put_field(values[i], two, &mut *out, p);
+        w = w.next();
     }
     p
 }

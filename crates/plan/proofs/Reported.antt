@@ -15,9 +15,8 @@ use Rattle.message.specs.Values.{valuesOf, placed}
 use Rattle.message.specs.Reader.{partOf}
 use Rattle.message.specs.Promises.{FieldStands, PhaseFields, TimesFields, PlanFields}
 use Rattle.message.proofs.Numbers.{field-numbers}
-use Rattle.message.proofs.Places.{value-at}
 use Rattle.message.proofs.Ranges.{placed-at}
-use Rattle.message.proofs.Values.{value-one, value-two, length-values}
+use Rattle.message.proofs.Values.{value-one, value-two, value-at, length-values}
 use Rattle.record.specs.Record.{empty, ready, octetAt, wordAt, kOf, timesAt, timesEnd, greensAt, readyEnd, directOf, orderOf, AllTimesFit}
 use Rattle.checks.specs.Standing.{between, standingOf}
 use Rattle.checks.proofs.Stands.{part-long, times-fit, some-long, some-times, stands-as-it-is}

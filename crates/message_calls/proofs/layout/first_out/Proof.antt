@@ -1,45 +1,59 @@
 -- `message_calls::layout::first_out` meets its contract: what is left of the search yields what the whole does.
 use Prim.Native.Nat.{_-_}
-use mathlib.Core.Path.{_≡_, refl, sym, _∙_}
+use mathlib.Core.Path.{_≡_, refl, sym, ap, _∙_}
+use mathlib.Core.Bool.{not}
 use borrow.Author.Needs.{needs}
+use lib.ListN.{getD}
 use Rattle.octets.specs.First.{firstOf}
 use Rattle.octets.proofs.Search.{search-ends, search-stops, search-goes}
+use Rattle.message.specs.declared.layout.Field.{Field}
+use Rattle.message.specs.Fields.{passes}
 use Rattle.message.specs.Layouts.{rowsAt}
 use Rattle.message.specs.Values.{fieldsMost, outAt, firstOut}
+use Rattle.message_calls.specs.Walk.{AtPlace}
+use Rattle.message_calls.proofs.Walking.{field-there, stands-next}
 use Rattle.message_calls.proofs.layout.first_out.Statement.{statement}
 use Rattle.message_calls.proofs.layout.first_out.Tie as tie
 
 abbrev Inv-loop : tie.InvT-loop
-Inv-loop l k values n i₀ i = firstOf (outAt (rowsAt l k) values) i (fieldsMost - i) ≡ firstOut (rowsAt l k) values
+Inv-loop l k values w₀ i₀ w i = (firstOf (outAt (rowsAt l k) values) i (fieldsMost - i) ≡ firstOut (rowsAt l k) values) × AtPlace (rowsAt l k) i w
 
 abbrev μ-loop : tie.MeasureT-loop
-μ-loop l k values n i₀ i = fieldsMost - i
+μ-loop l k values w₀ i₀ w i = fieldsMost - i
 
 loop-holds : tie.Need-loop-holds Inv-loop μ-loop
 unfolding firstOut
-loop-holds c = refl
+loop-holds c = (refl, c .start .ensures)
 
 -- the test of the turn is the search's
-judged : (c : tie.After-out Inv-loop μ-loop)
-    → (let a = c .before .before .before .before .before .before .args in c .out .result ≡ outAt (rowsAt (a .l) (a .k)) (a .values .now) (c .before .before .before .loop .i))
-judged c = c .out .ensures
+judged : (c : tie.After-passes Inv-loop μ-loop)
+    → (let a = c .before .before .before .before .before .before .before .args in
+    not (c .passes .result) ≡ outAt (rowsAt (a .l) (a .k)) (a .values .now) (c .before .before .before .before .loop .i))
+judged c =
+    let v = c .before .before .before .before .loop in
+    let a = c .before .before .before .before .before .before .before .args in
+    ap not (c .passes .ensures ∙ ap (λ (f : Field). passes f (getD (a .values .now) (v .i) 0)) (field-there (v .inv .1) (c .before .before .field .ensures)))
 
 loop-again : tie.Need-loop-again Inv-loop μ-loop
 loop-again c =
-    let v = c .before .before .before .before .loop in
-    let a = c .before .before .before .before .before .before .before .args in
-    sym (search-goes (outAt (rowsAt (a .l) (a .k)) (a .values .now)) fieldsMost (v .i) (search needs) (sym (judged (c .before)) ∙ c .if2 .left)) ∙ v .inv
+    let p = c .before .before in
+    let v = p .before .before .before .before .loop in
+    let a = p .before .before .before .before .before .before .before .args in (
+      sym (search-goes (outAt (rowsAt (a .l) (a .k)) (a .values .now)) fieldsMost (v .i) (search needs) (sym (judged p) ∙ c .before .if2 .left)) ∙ v .inv .0,
+      stands-next (v .inv .1) (c .next .ensures),
+    )
 
 returns : tie.Need-returns Inv-loop μ-loop
 returns c =
     let a = c .before .before .before .before .args in
-    sym (search-ends (outAt (rowsAt (a .l) (a .k)) (a .values .now)) fieldsMost (c .before .loop .i) (c .if1 .taken)) ∙ c .before .loop .inv
+    sym (search-ends (outAt (rowsAt (a .l) (a .k)) (a .values .now)) fieldsMost (c .before .loop .i) (c .if1 .taken)) ∙ c .before .loop .inv .0
 
 returns-2 : tie.Need-returns-2 Inv-loop μ-loop
 returns-2 c =
-    let v = c .before .before .before .before .loop in
-    let a = c .before .before .before .before .before .before .before .args in
-    sym (search-stops (outAt (rowsAt (a .l) (a .k)) (a .values .now)) fieldsMost (v .i) (search needs) (sym (judged (c .before)) ∙ c .if2 .taken)) ∙ v .inv
+    let p = c .before in
+    let v = p .before .before .before .before .loop in
+    let a = p .before .before .before .before .before .before .before .args in
+    sym (search-stops (outAt (rowsAt (a .l) (a .k)) (a .values .now)) fieldsMost (v .i) (search needs) (sym (judged p) ∙ c .if2 .taken)) ∙ v .inv .0
 
 pub first-out-spec : {M : Type 1} → statement M
 first-out-spec =
@@ -49,10 +63,12 @@ first-out-spec =
     μ-loop
     (λ c κs. search needs)
     loop-holds
+    (λ c κs. c .before .loop .inv .1 .walking)
     (λ c. search needs)
     (λ c. search needs)
     (λ c κs. search needs)
     (λ c. search needs)
+    (λ c κs. c .before .before .before .before .before .loop .inv .1 .walking)
     (λ c. search needs)
     (λ c. search needs)
     loop-again

@@ -1,57 +1,56 @@
--- `message_calls::layout::size` meets its contract: what is counted and what is left are the whole.
-use Prim.Native.Nat.{_+_, _*_, _-_, _≤_}
-use mathlib.Core.Path.{_≡_, ap, _∙_}
+-- `message_calls::layout::size` meets its contract: the repeated rows have their octets k times, and the others once.
+use Prim.Native.Nat.{_+_, _*_}
+use mathlib.Core.Path.{_≡_}
 use native.Mathlib.Omega.{arith}
 use borrow.Author.Needs.{needs}
-use lib.ListN.{getD, drop}
-use Rattle.message.specs.Fields.{twoOf, widthOf, noField}
 use Rattle.message.specs.Layouts.{rowsAt}
 use Rattle.message.specs.Values.{sizeOf}
-use Rattle.message.proofs.Layouts.{rows-most}
-use Rattle.message.proofs.Values.{size-next, size-done, width-most}
+use Rattle.message.proofs.Layouts.{kept-size, rows-size}
+use Rattle.message.proofs.Reading.{most-fits}
 use Rattle.message_calls.proofs.layout.size.Statement.{statement}
 use Rattle.message_calls.proofs.layout.size.Tie as tie
 
-abbrev Inv-loop : tie.InvT-loop
-Inv-loop l k n size₀ i₀ size i = (i ≤ n) × (size + sizeOf (drop i (rowsAt l k)) ≡ sizeOf (rowsAt l k)) × (size ≤ 2 * i)
+add-once : tie.Need-add-once
+add-once c =
+    let y = c .before .before .before .before in
+    let s = y .before in
+    let a = s .args in
+    omega (arith, c .size-in2 .ensures, c .before .before .size-in .ensures, kept-size (y .layout-at .ensures) (a .k), rows-size (a .l) (a .k) (most-fits (a .l) (a .k) (s .pre)))
 
-abbrev μ-loop : tie.MeasureT-loop
-μ-loop l k n size₀ i₀ size i = n - i
+whole : (c : tie.After-size-in3)
+    → (let a = c .before .before .before .before .before .before .args in
+    c .before .before .before .size-in .result + c .before .size-in2 .result + a .k * c .size-in3 .result ≡ sizeOf (rowsAt (a .l) (a .k)))
+whole c =
+    let y = c .before .before .before .before .before in
+    rw (c .size-in3 .ensures, c .before .size-in2 .ensures, c .before .before .before .size-in .ensures) (kept-size (y .layout-at .ensures) (y .before .args .k))
 
--- the turn counts the field at i
-counted : (c : tie.After-width Inv-loop μ-loop)
-    → (let a = c .before .before .before .before .before .args in
-    (c .width .result + sizeOf (drop (c .before .before .before .loop .i + 1) (rowsAt (a .l) (a .k))) ≡ sizeOf (drop (c .before .before .before .loop .i) (rowsAt (a .l) (a .k))))
-    × (c .width .result ≤ 2))
-counted c =
-    let a = c .before .before .before .before .before .args in
-    let i = c .before .before .before .loop .i in
-    let w = c .width .ensures ∙ ap widthOf (c .before .two-at .ensures) in
-    (omega (arith, w, size-next (rowsAt (a .l) (a .k)) i (search needs)), omega (arith, w, width-most (twoOf (getD (rowsAt (a .l) (a .k)) i noField))))
+mul-result : tie.Need-mul-result
+mul-result c =
+    let s = c .before .before .before .before .before .before in
+    let a = s .args in omega (arith, whole c, rows-size (a .l) (a .k) (most-fits (a .l) (a .k) (s .pre)))
 
-loop-again : tie.Need-loop-again Inv-loop μ-loop
-loop-again c = let h = counted c in omega arith
+add-result : tie.Need-add-result
+add-result c =
+    let s = c .before .before .before .before .before .before in
+    let a = s .args in omega (arith, whole c, rows-size (a .l) (a .k) (most-fits (a .l) (a .k) (s .pre)))
 
-add-size : tie.Need-add-size Inv-loop μ-loop
-add-size c =
-    let a = c .before .before .before .before .before .args in
-    let h = counted c in omega (arith, rows-most (a .l) (a .k) (c .before .before .before .before .before .pre))
-
-returns : tie.Need-returns Inv-loop μ-loop
-returns c = let a = c .before .before .before .args in (omega (arith, size-done (rowsAt (a .l) (a .k)) (c .before .loop .i) (search needs)), search needs)
+returns : tie.Need-returns
+returns c =
+    let s = c .before .before .before .before .before .before in
+    let a = s .args in
+    let e = whole c in (e, omega (arith, rows-size (a .l) (a .k) (most-fits (a .l) (a .k) (s .pre))))
 
 pub size-spec : {M : Type 1} → statement M
 size-spec =
     tie.close
     (tie.spec
-    Inv-loop
-    μ-loop
     (λ c κs. search needs)
-    (λ c. (search needs, search needs, search needs))
-    (λ c κs. search needs)
-    (λ c κs. search needs)
-    add-size
     (λ c. search needs)
+    (λ c κs. search needs)
     (λ c. search needs)
-    loop-again
+    (λ c κs. search needs)
+    add-once
+    (λ c κs. search needs)
+    mul-result
+    add-result
     returns)

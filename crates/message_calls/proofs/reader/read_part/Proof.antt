@@ -2,7 +2,7 @@
 use mathlib.Core.Path.{sym, _∙_}
 use borrow.Author.Needs.{needs}
 use borrow.Author.Tests.{not-true, not-false}
-use Rattle.message.proofs.Reading.{part-10, part-k, part-length, part-done, most-fits}
+use Rattle.message.proofs.Reading.{part-10, part-k, part-length, part-done}
 use Rattle.message_calls.proofs.reader.read_part.Statement.{statement}
 use Rattle.message_calls.proofs.reader.read_part.Tie as tie
 
@@ -19,9 +19,7 @@ returns-2 c =
     (sym (c .before .before .k-fits .ensures) ∙ not-true _ (c .before .if2 .taken))
 
 size-requires : tie.Need-size-requires
-size-requires c κs =
-    let a = c .before .before .before .before .before .args in
-    most-fits (a .l) (a .k) (sym (c .before .k-fits .ensures) ∙ not-false _ (c .if2 .left))
+size-requires c κs = sym (c .before .k-fits .ensures) ∙ not-false _ (c .if2 .left)
 
 returns-3 : tie.Need-returns-3
 returns-3 c =
@@ -32,9 +30,7 @@ returns-3 c =
     (λ e. c .before .if3 .taken (e ∙ sym (c .before .before .size .ensures .0)))
 
 ranged-requires : tie.Need-ranged-requires
-ranged-requires c κs =
-    let a = c .before .before .before .before .before .before .before .args in
-    most-fits (a .l) (a .k) (sym (c .before .before .before .k-fits .ensures) ∙ not-false _ (c .before .before .if2 .left))
+ranged-requires c κs = sym (c .before .before .before .k-fits .ensures) ∙ not-false _ (c .before .before .if2 .left)
 
 returns-4 : tie.Need-returns-4
 returns-4 c =

@@ -2,7 +2,6 @@
 use mathlib.Core.Path.{sym, _∙_}
 use borrow.Author.Needs.{needs}
 use borrow.Author.Tests.{not-true, not-false}
-use Rattle.message.proofs.Reading.{most-fits}
 use Rattle.message.proofs.Writing.{writable-known, writable-k, writable-fields, writable-ranges}
 use Rattle.message_calls.proofs.writer.writable.Statement.{statement}
 use Rattle.message_calls.proofs.writer.writable.Tie as tie
@@ -16,7 +15,7 @@ returns-2 c =
     sym (writable-k (a .l) (a .k) (a .fields) (a .t4) (sym (c .before .before .before .known .ensures) ∙ not-false _ (c .before .before .if1 .left)) (sym (c .before .k-fits .ensures) ∙ not-true _ (c .if2 .taken)))
 
 fields-requires : tie.Need-fields-requires
-fields-requires c κs = let a = c .before .before .before .before .args in most-fits (a .l) (a .k) (sym (c .before .k-fits .ensures) ∙ not-false _ (c .if2 .left))
+fields-requires c κs = sym (c .before .k-fits .ensures) ∙ not-false _ (c .if2 .left)
 
 returns-3 : tie.Need-returns-3
 returns-3 c =
@@ -25,9 +24,7 @@ returns-3 c =
     (sym (c .before .before .before .k-fits .ensures) ∙ not-false _ (c .before .before .if2 .left)) (λ e. c .if3 .taken (e ∙ sym (c .before .fields .ensures .0))))
 
 first-out-requires : tie.Need-first-out-requires
-first-out-requires c κs =
-    let a = c .before .before .before .before .before .before .before .args in
-    (most-fits (a .l) (a .k) (sym (c .before .before .before .before .k-fits .ensures) ∙ not-false _ (c .before .before .before .if2 .left)), search needs)
+first-out-requires c κs = (sym (c .before .before .before .before .k-fits .ensures) ∙ not-false _ (c .before .before .before .if2 .left), search needs)
 
 returns-4 : tie.Need-returns-4
 returns-4 c =

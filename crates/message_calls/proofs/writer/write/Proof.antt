@@ -2,7 +2,7 @@
 use mathlib.Core.Path.{sym, _∙_}
 use borrow.Author.Needs.{needs}
 use borrow.Author.Tests.{not-true, not-false}
-use Rattle.message.proofs.Writing.{write-5, write-on, writable-most}
+use Rattle.message.proofs.Writing.{write-5, write-on, writable-fits}
 use Rattle.message_calls.proofs.writer.write.Statement.{statement}
 use Rattle.message_calls.proofs.writer.write.Tie as tie
 
@@ -16,7 +16,7 @@ put-message-requires : tie.Need-put-message-requires
 put-message-requires c κs =
     let b = c .before .before .before .before in
     let m = b .before .before .before .args .m in
-    writable-most (b .find .result) (c .before .before .before .count .result) (m .fields) (m .values) (sym (c .before .before .writable .ensures) ∙ not-false _ (c .before .if1 .left))
+    writable-fits (b .find .result) (c .before .before .before .count .result) (m .fields) (m .values) (sym (c .before .before .writable .ensures) ∙ not-false _ (c .before .if1 .left))
 
 returns-2 : tie.Need-returns-2
 returns-2 c =

@@ -1,0 +1,131 @@
+-- A walk over the fields of a layout has the layout's rows ahead at first, and from each row one less.
+use Prim.Native.Nat.{ℕ, zero, suc, _+_, _-_, _≤_, _<_}
+use mathlib.Core.Path.{_≡_, refl, sym, ap, _∙_}
+use mathlib.Core.Bool.{true}
+use mathlib.Core.List.{List, [], _∷_, _++_, append-assoc}
+use native.Mathlib.Decide.{decLt}
+use native.Mathlib.Numerals.{add-one}
+use native.Mathlib.Omega.{arith}
+use native.Mathlib.Nat.{add-zero}
+use lib.ListN.{getD}
+use lib.Seq.{drop-cons, drop-drop, getD-drop, take-add}
+use Rattle.message.specs.declared.layout.Field.{Field}
+use Rattle.message.specs.declared.layout.LayoutLine.{LayoutLine}
+use Rattle.message.specs.Fields.{noField}
+use Rattle.message.specs.Layouts.{layoutAt, kFits, layoutRows, repeated, rowsAt}
+use Rattle.message.specs.Table.{table, tableLen, cut, keptBy, Kept}
+use Rattle.message.proofs.Layouts.{kept-once, kept-again}
+use Rattle.message_calls.specs.declared.walk.Walk.{Walk}
+use Rattle.message_calls.specs.Walk.{fieldsFrom, fieldsAhead, Walking, AtPlace}
+
+-- Rows of the table, from one on
+
+cut-next : (row e : ℕ) → row < e → e ≤ tableLen → cut row (e - row) ≡ getD table row noField ∷ cut (row + 1) (e - (row + 1))
+unfolding table cut
+cut-next row e h t = let s : e - row ≡ suc (e - (row + 1)) = omega arith in rw (s, drop-cons table row noField (omega arith), add-one)
+
+cut-done : (row e : ℕ) → e ≤ row → cut row (e - row) ≡ []
+unfolding cut
+cut-done row e h = let s : e - row ≡ 0 = omega arith in rw s
+
+cut-on : (a m n b c : ℕ) → a + m ≡ b → m + n ≡ c → cut a m ++ cut b n ≡ cut a c
+unfolding cut
+cut-on a m n b c e f = rw (← e, ← f, take-add, drop-drop)
+
+-- From a layout's first row on
+
+module _ (y : LayoutLine) where
+  abbrev first : ℕ
+  first = y .from + y .head
+
+  abbrev after : ℕ
+  after = first + y .group
+
+  abbrev end : ℕ
+  end = after + y .tail
+
+  rounds-ahead : (again row : ℕ) → row ≤ after
+      → cut row (after - row) ++ (repeated again (cut first (y .group)) ++ cut after (y .tail)) ≡ fieldsFrom first after end row again
+  unfolding fieldsFrom
+  rounds-ahead zero row h = cut-on row (after - row) (y .tail) after (end - row) (omega arith) (omega arith)
+  rounds-ahead (suc again) row h =
+      let g : after - first ≡ y .group = omega arith in
+      rw append-assoc (ap (λ (fs : List Field). cut row (after - row) ++ fs) (rw g at (rounds-ahead again first (omega arith))))
+
+  layout-ahead : (k : ℕ) → (k ≡ 0 → y .group ≡ 0) → layoutRows (keptBy y) k ≡ fieldsFrom first after end (y .from) (k - 1)
+  unfolding layoutRows fieldsFrom
+  layout-ahead zero h = cut-on (y .from) (y .head) (y .tail) after (end - y .from) (omega (arith, h refl)) (omega (arith, h refl))
+  layout-ahead (suc again) h =
+      let e : suc again - 1 ≡ again = omega arith in
+      let rest = repeated again (cut first (y .group)) ++ cut after (y .tail) in
+      rw (e, append-assoc (cut first (y .group)))
+      (sym (append-assoc (cut (y .from) (y .head)) (cut first (y .group)) rest)
+      ∙ rw (cut-on (y .from) (y .head) (y .group) first (after - y .from) refl (omega arith)) (rounds-ahead again (y .from) (omega arith)))
+
+-- the walk from a layout's first row on, for k
+module _ {l : ℕ} {y : LayoutLine} (h : Kept l y) (k : ℕ) (f : kFits (layoutAt l) k ≡ true) where
+  pub start-stands : AtPlace (rowsAt l k) 0 (record { row = y .from; rounds = k; first = first y; after = after y; end = end y })
+  unfolding rowsAt
+  start-stands =
+      record {
+        walking = record { ends = omega arith; inside = h .inside; again = λ p. (omega (arith, kept-again h k f (omega arith)), omega (arith, kept-again h k f (omega arith))) };
+        ahead = rw (← h .is) (sym (layout-ahead y k (kept-once h k f)));
+      }
+
+-- A step
+
+module _ (w : Walk) (h : Walking w) where
+  pub ahead-done : w .end ≤ w .row → fieldsAhead w ≡ []
+  unfolding fieldsFrom
+  ahead-done d = by (decLt 1 (w .rounds))
+    where
+      by : Dec (1 < w .rounds) → fieldsAhead w ≡ []
+      by (yes p) = absurd (omega (arith, h .again p .0, h .ends))
+      by (no q) = let s : w .rounds - 1 ≡ 0 = omega arith in rw s (cut-done (w .row) (w .end) d)
+
+  pub ahead-next : w .row < w .end → fieldsAhead w ≡ getD table (w .row) noField ∷ fieldsFrom (w .first) (w .after) (w .end) (w .row + 1) (w .rounds - 1)
+  unfolding fieldsFrom
+  ahead-next l = by (decLt 1 (w .rounds))
+    where
+      by : Dec (1 < w .rounds) → fieldsAhead w ≡ getD table (w .row) noField ∷ fieldsFrom (w .first) (w .after) (w .end) (w .row + 1) (w .rounds - 1)
+      by (yes p) =
+          let s : w .rounds - 1 ≡ suc (w .rounds - 2) = omega arith in
+          rw (s, cut-next (w .row) (w .after) (h .again p .0) (omega (arith, h .ends, h .inside)))
+      by (no q) = let s : w .rounds - 1 ≡ 0 = omega arith in rw (s, cut-next (w .row) (w .end) l (h .inside))
+
+  pub ahead-again : w .row + 1 ≡ w .after → 1 < w .rounds
+      → fieldsFrom (w .first) (w .after) (w .end) (w .row + 1) (w .rounds - 1) ≡ fieldsFrom (w .first) (w .after) (w .end) (w .first) (w .rounds - 1 - 1)
+  unfolding fieldsFrom
+  ahead-again e p =
+      let s : w .rounds - 1 ≡ suc (w .rounds - 2) = omega arith in
+      let t : w .rounds - 1 - 1 ≡ w .rounds - 2 = omega arith in
+      rw (t, s, cut-done (w .row + 1) (w .after) (omega arith))
+
+  pub done-stands : w .end ≤ w .row → AtPlace (fieldsAhead w) 1 w
+  done-stands d = record { walking = h; ahead = rw (ahead-done d) }
+
+  module _ (l : w .row < w .end) where
+    pub on-stands : (1 < w .rounds → w .row + 1 ≡ w .after → ⊥)
+        → AtPlace (fieldsAhead w) 1 (record { row = w .row + 1; rounds = w .rounds; first = w .first; after = w .after; end = w .end })
+    on-stands n =
+        record {
+          walking = record { ends = h .ends; inside = h .inside; again = λ p. (omega (arith, h .again p .0, n p), h .again p .1) };
+          ahead = rw (ahead-next l);
+        }
+
+    pub again-stands : w .row + 1 ≡ w .after → 1 < w .rounds
+        → AtPlace (fieldsAhead w) 1 (record { row = w .first; rounds = w .rounds - 1; first = w .first; after = w .after; end = w .end })
+    again-stands e p =
+        record {
+          walking = record { ends = h .ends; inside = h .inside; again = λ q. (h .again p .1, h .again p .1) };
+          ahead = rw (ahead-next l) (sym (ahead-again e p));
+        }
+
+-- A walk at a place of the fields
+
+module _ {fs : List Field} {i : ℕ} {w : Walk} (s : AtPlace fs i w) where
+  pub field-there : {f : Field} → f ≡ getD (fieldsAhead w) 0 noField → f ≡ getD fs i noField
+  field-there e = e ∙ rw (s .ahead, getD-drop, add-zero)
+
+  pub stands-next : {r : Walk} → AtPlace (fieldsAhead w) 1 r → AtPlace fs (i + 1) r
+  stands-next n = record { walking = n .walking; ahead = n .ahead ∙ rw (s .ahead, drop-drop) }
