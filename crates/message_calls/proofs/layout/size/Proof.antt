@@ -1,44 +1,41 @@
 -- `message_calls::layout::size` meets its contract: the repeated rows have their octets k times, and the others once.
-use Prim.Native.Nat.{_+_, _*_}
+use Prim.Native.Nat.{_+_, _*_, _≤_}
 use mathlib.Core.Path.{_≡_}
 use native.Mathlib.Omega.{arith}
 use borrow.Author.Needs.{needs}
 use Rattle.message.specs.Layouts.{rowsAt}
-use Rattle.message.specs.Values.{sizeOf}
+use Rattle.message.specs.Table.{cut}
+use Rattle.message.specs.Values.{fieldsMost, sizeOf}
 use Rattle.message.proofs.Layouts.{kept-size, rows-size}
 use Rattle.message.proofs.Reading.{most-fits}
 use Rattle.message_calls.proofs.layout.size.Statement.{statement}
 use Rattle.message_calls.proofs.layout.size.Tie as tie
 
-add-once : tie.Need-add-once
-add-once c =
-    let y = c .before .before .before .before in
-    let s = y .before in
-    let a = s .args in
-    omega (arith, c .size-in2 .ensures, c .before .before .size-in .ensures, kept-size (y .layout-at .ensures) (a .k), rows-size (a .l) (a .k) (most-fits (a .l) (a .k) (s .pre)))
+octets : (c : tie.After-layout-at)
+    → (let a = c .before .args in
+    let y = c .layout-at .result in
+    (sizeOf (cut (y .from) (y .head)) + sizeOf (cut (y .from + y .head + y .group) (y .tail)) + a .k * sizeOf (cut (y .from + y .head) (y .group)) ≡ sizeOf (rowsAt (a .l) (a .k)))
+    × (sizeOf (rowsAt (a .l) (a .k)) ≤ 2 * fieldsMost))
+octets c = let a = c .before .args in (kept-size (c .layout-at .ensures) (a .k), rows-size (a .l) (a .k) (most-fits (a .l) (a .k) (c .before .pre)))
 
+add-once : tie.Need-add-once
+add-once c = let h = octets (c .before .before .before .before) in omega (arith, c .size-in2 .ensures, c .before .before .size-in .ensures)
+
+-- with what has been counted
 whole : (c : tie.After-size-in3)
     → (let a = c .before .before .before .before .before .before .args in
-    c .before .before .before .size-in .result + c .before .size-in2 .result + a .k * c .size-in3 .result ≡ sizeOf (rowsAt (a .l) (a .k)))
-whole c =
-    let y = c .before .before .before .before .before in
-    rw (c .size-in3 .ensures, c .before .size-in2 .ensures, c .before .before .before .size-in .ensures) (kept-size (y .layout-at .ensures) (y .before .args .k))
+    (c .before .before .before .size-in .result + c .before .size-in2 .result + a .k * c .size-in3 .result ≡ sizeOf (rowsAt (a .l) (a .k)))
+    × (sizeOf (rowsAt (a .l) (a .k)) ≤ 2 * fieldsMost))
+whole c = rw (c .size-in3 .ensures, c .before .size-in2 .ensures, c .before .before .before .size-in .ensures) (octets (c .before .before .before .before .before))
 
 mul-result : tie.Need-mul-result
-mul-result c =
-    let s = c .before .before .before .before .before .before in
-    let a = s .args in omega (arith, whole c, rows-size (a .l) (a .k) (most-fits (a .l) (a .k) (s .pre)))
+mul-result c = let h = whole c in omega arith
 
 add-result : tie.Need-add-result
-add-result c =
-    let s = c .before .before .before .before .before .before in
-    let a = s .args in omega (arith, whole c, rows-size (a .l) (a .k) (most-fits (a .l) (a .k) (s .pre)))
+add-result c = let h = whole c in omega arith
 
 returns : tie.Need-returns
-returns c =
-    let s = c .before .before .before .before .before .before in
-    let a = s .args in
-    let e = whole c in (e, omega (arith, rows-size (a .l) (a .k) (most-fits (a .l) (a .k) (s .pre))))
+returns c = let h = whole c in (h .0, omega arith)
 
 pub size-spec : {M : Type 1} → statement M
 size-spec =
