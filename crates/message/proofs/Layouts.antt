@@ -14,7 +14,7 @@ use Rattle.octets.proofs.Laws.{both-left, both-right}
 use Rattle.octets.proofs.Every.{every, every-at}
 use Rattle.message.specs.declared.layout.Field.{Field}
 use Rattle.message.specs.declared.layout.LayoutLine.{LayoutLine}
-use Rattle.message.specs.Fields.{kMost, noField}
+use Rattle.message.specs.Fields.{noField}
 use Rattle.message.specs.Layouts as specified
 use Rattle.message.specs.Layouts.{layouts, layoutAt, noLayout, mostAt, layoutRows, rowsAt, kFits, repeated}
 use Rattle.message.specs.Values.{fieldsMost, sizeOf}
@@ -107,27 +107,3 @@ count-head l =
     let y = layoutAt l in
     let n = length (y .head) + y .most * length (y .group) + length (y .tail) in
     leb-true (y .count) (length (y .head)) (both-right (leb n fieldsMost) (leb (y .count) (length (y .head))) (fitting-at l))
-
--- rows come k times just where k may be more than 0
-abbrev repeating : specified.Layout → Bool
-repeating y = both (leb (length (y .group)) (fieldsMost * y .fewest)) (leb (y .most) (kMost * length (y .group)))
-
-repeating-at : (l : ℕ) → repeating (layoutAt l) ≡ true
-unfolding layouts layoutAt every
-repeating-at l = every-at repeating layouts l noLayout refl (λ _. refl)
-
-module _ {l : ℕ} {y : LayoutLine} (h : Kept l y) (k : ℕ) (f : kFits (layoutAt l) k ≡ true) where
-  group-length : y .group ≡ length (layoutAt l .group)
-  group-length = sym (group-len y k (h .inside)) ∙ ap (λ (l : specified.Layout). length (l .group)) (h .is)
-
-  pub kept-once : k ≡ 0 → y .group ≡ 0
-  kept-once e =
-      let g = layoutAt l in
-      let t = leb-true (length (g .group)) (fieldsMost * g .fewest) (both-left _ (leb (g .most) (kMost * length (g .group))) (repeating-at l)) in
-      omega (arith, group-length, leb-true (g .fewest) k (both-left _ (leb k (g .most)) f))
-
-  pub kept-again : 0 < k → 0 < y .group
-  kept-again p =
-      let g = layoutAt l in
-      let t = leb-true (g .most) (kMost * length (g .group)) (both-right (leb (length (g .group)) (fieldsMost * g .fewest)) _ (repeating-at l)) in
-      omega (arith, group-length, leb-true k (g .most) (both-right (leb (g .fewest) k) _ f))

@@ -1,20 +1,26 @@
 -- A walk over the fields of a layout has the layout's rows ahead at first, and from each row one less.
-use Prim.Native.Nat.{ℕ, zero, suc, _+_, _-_, _≤_, _<_}
+use Prim.Native.Nat.{ℕ, zero, suc, _+_, _*_, _-_, _≤_, _<_}
 use mathlib.Core.Path.{_≡_, refl, sym, ap, _∙_}
-use mathlib.Core.Bool.{true}
+use mathlib.Core.Bool.{Bool, true}
 use mathlib.Core.List.{List, [], _∷_, _++_, append-assoc}
 use native.Mathlib.Decide.{decLt}
+use native.Mathlib.Nat.{add-zero}
 use native.Mathlib.Numerals.{add-one}
 use native.Mathlib.Omega.{arith}
-use native.Mathlib.Nat.{add-zero}
-use lib.ListN.{getD}
+use borrow.Author.Tests.{leb-true}
+use lib.Dec.{leb}
+use lib.ListN.{length, getD}
 use lib.Seq.{drop-cons, drop-drop, getD-drop, take-add}
+use Rattle.octets.specs.Choice.{both}
+use Rattle.octets.proofs.Laws.{both-left, both-right}
+use Rattle.octets.proofs.Every.{every, every-at}
 use Rattle.message.specs.declared.layout.Field.{Field}
 use Rattle.message.specs.declared.layout.LayoutLine.{LayoutLine}
-use Rattle.message.specs.Fields.{noField}
-use Rattle.message.specs.Layouts.{layoutAt, kFits, layoutRows, repeated, rowsAt}
+use Rattle.message.specs.Fields.{kMost, noField}
+use Rattle.message.specs.Layouts.{Layout, layouts, noLayout, layoutAt, kFits, layoutRows, repeated, rowsAt}
 use Rattle.message.specs.Table.{table, tableLen, cut, keptBy, Kept}
-use Rattle.message.proofs.Layouts.{kept-once, kept-again}
+use Rattle.message.specs.Values.{fieldsMost}
+use Rattle.message.proofs.Layouts.{length-cut}
 use Rattle.message_calls.specs.declared.walk.Walk.{Walk}
 use Rattle.message_calls.specs.Walk.{fieldsFrom, fieldsAhead, Walking, AtPlace}
 
@@ -62,14 +68,37 @@ module _ (y : LayoutLine) where
       (sym (append-assoc (cut (y .from) (y .head)) (cut first (y .group)) rest)
       ∙ rw (cut-on (y .from) (y .head) (y .group) first (after - y .from) refl (omega arith)) (rounds-ahead again (y .from) (omega arith)))
 
+-- rows come k times just where k may be more than 0
+abbrev repeating : Layout → Bool
+repeating y = both (leb (length (y .group)) (fieldsMost * y .fewest)) (leb (y .most) (kMost * length (y .group)))
+
+repeating-at : (l : ℕ) → repeating (layoutAt l) ≡ true
+unfolding layouts layoutAt every
+repeating-at l = every-at repeating layouts l noLayout refl (λ _. refl)
+
 -- the walk from a layout's first row on, for k
 module _ {l : ℕ} {y : LayoutLine} (h : Kept l y) (k : ℕ) (f : kFits (layoutAt l) k ≡ true) where
+  group-length : y .group ≡ length (layoutAt l .group)
+  group-length = sym (length-cut (first y) (y .group) (omega (arith, h .inside))) ∙ ap (λ (l : Layout). length (l .group)) (h .is)
+
+  once : k ≡ 0 → y .group ≡ 0
+  once e =
+      let g = layoutAt l in
+      let t = leb-true (length (g .group)) (fieldsMost * g .fewest) (both-left _ (leb (g .most) (kMost * length (g .group))) (repeating-at l)) in
+      omega (arith, group-length, leb-true (g .fewest) k (both-left _ (leb k (g .most)) f))
+
+  again : 0 < k → 0 < y .group
+  again p =
+      let g = layoutAt l in
+      let t = leb-true (g .most) (kMost * length (g .group)) (both-right (leb (length (g .group)) (fieldsMost * g .fewest)) _ (repeating-at l)) in
+      omega (arith, group-length, leb-true k (g .most) (both-right (leb (g .fewest) k) _ f))
+
   pub start-stands : AtPlace (rowsAt l k) 0 (record { row = y .from; rounds = k; first = first y; after = after y; end = end y })
   unfolding rowsAt
   start-stands =
       record {
-        walking = record { ends = omega arith; inside = h .inside; again = λ p. (omega (arith, kept-again h k f (omega arith)), omega (arith, kept-again h k f (omega arith))) };
-        ahead = rw (← h .is) (sym (layout-ahead y k (kept-once h k f)));
+        walking = record { ends = omega arith; inside = h .inside; again = λ p. (omega (arith, again (omega arith)), omega (arith, again (omega arith))) };
+        ahead = rw (← h .is) (sym (layout-ahead y k once));
       }
 
 -- A step
