@@ -1,0 +1,32 @@
+-- `cost::made` is safe and ends: it stays within the events, two octets a turn.
+use Prim.Native.Nat.{_-_, _≤_}
+use mathlib.Core.Path.{_≡_}
+use borrow.Author.Needs.{needs}
+use lib.ListN.{length}
+use Rattle.cost.proofs.made.Statement.{statement}
+use Rattle.cost.proofs.made.Tie as tie
+
+abbrev Inv-loop : tie.InvT-loop
+Inv-loop events book₀ out₀ s₀ i₀ book out s i = (i ≤ length events) × (length book ≡ length book₀) × (length out ≡ length out₀)
+
+abbrev μ-loop : tie.MeasureT-loop
+μ-loop events book₀ out₀ s₀ i₀ book out s i = length events - i
+
+pub made-spec : {M : Type 1} → statement M
+made-spec =
+    tie.close
+    (tie.spec
+    Inv-loop
+    μ-loop
+    (λ c. search needs)
+    (λ c. search needs)
+    (λ c. search needs)
+    (λ c. search needs)
+    (λ c. search needs)
+    (λ c κs. search needs)
+    (λ c. search needs)
+    (λ c. search needs)
+    (λ c. search needs)
+    (λ c. search needs)
+    (λ c. search needs)
+    (λ c. search needs))

@@ -1,0 +1,46 @@
+// A host for measuring: it makes the calls that its input names, and nothing else. An event is two octets: 00 and an octet from
+// the line, 01 and any for a second, 02 and any for a line-idle call. Other numbers make the same calls from a second place, so
+// that in the compiled program each call is a function of its own, and can be counted.
+use controller::OUTPUT_LEN;
+use controller::State;
+use libc::STDIN_FILENO;
+use libc::STDOUT_FILENO;
+use record::BOOK_LEN;
+
+const OWN: u16 = 0x0001;
+
+fn main() {
+    let mut events = io::large_buffer();
+    let n = io::read_full(STDIN_FILENO, &mut events);
+    let mut book = [0u8; BOOK_LEN];
+    let mut out = [0u8; OUTPUT_LEN];
+    let f = calls::fresh(OWN);
+    let state = made(f.state, &events[..n], &mut book, &mut out);
+    // so that no call is left out as one whose result nobody sees
+    io::write_all(STDOUT_FILENO, &[state.seq, state.requested, out[0]]);
+}
+
+fn made(start: State, events: &[u8], book: &mut [u8], out: &mut [u8]) -> State {
+    let mut s = start;
+    let mut i = 0;
+    while i + 1 < events.len() {
+        s = event(s, events[i], events[i + 1], &mut *book, &mut *out);
+        i += 2;
+    }
+    s
+}
+
+fn event(s: State, kind: u8, b: u8, book: &mut [u8], out: &mut [u8]) -> State {
+    match kind {
+        0 => calls::octet(s, book, out, b).state,
+        1 => calls::second(s, book).state,
+        2 => calls::line_idle(s).state,
+        3 => calls::octet(s, book, out, b / 2).state,
+        _ => idle_second(s, book),
+    }
+}
+
+fn idle_second(s: State, book: &[u8]) -> State {
+    let t = calls::line_idle(s);
+    calls::second(t.state, book).state
+}

@@ -1,0 +1,132 @@
+"""What the calls cost: instructions of each call and of a host's whole turn, counted over the program `cost`, and each call's
+deepest stack, worked out from its compiled code. The tables are those of docs/COST.md."""
+import os
+import re
+import shutil
+import subprocess
+import tempfile
+
+from frames import frames_of
+from programs import ROOT, Failed, prove
+
+PROGRAM = os.path.join(ROOT, "target", "bin", "cost")
+OCTET, SECOND = "calls::octet", "calls::second"
+# a second event and the octets of a line that are dropped, many times, so that what is counted once does not show
+MANY = 100
+IDLE, LONG = "00", "11"
+TIMES = "0A 00 5A 03 02 05 02"
+# the plans whose calls are counted: how it is called, its order and its greens
+PLANS = (("plan 0", None, ()), ("two phases", "00", (20, 30)), ("three", "20", (10, 12, 14)), ("four", "60", (10, 12, 14, 16)))
+PLAN_0_CYCLE = 80
+
+
+def tool(name, why):
+    if not shutil.which(name):
+        raise Failed("%s is wanted, %s" % (name, why))
+    return name
+
+
+def words_of(*numbers):
+    return ["%02X" % octet for number in numbers for octet in number.to_bytes(2, "big")]
+
+
+def set_times(plan, count):
+    return ["5F", "14", "%02X" % plan, "%02X" % count] + TIMES.split() * count
+
+
+def set_plan(plan, order, greens):
+    return ["5F", "15", "%02X" % plan, "00", order, "%02X" % len(greens)] + words_of(*greens, sum(greens) + 5 * len(greens), 0)
+
+
+def messages(*infos):
+    """The octets of the message frames with these INFO."""
+    return frames_of([("message", ["%02X" % (1 + seq)] + info) for seq, info in enumerate(infos)])
+
+
+def octets(frame):
+    return bytes(octet for each in frame for octet in (0, int(each, 16)))
+
+
+def seconds(count):
+    return bytes([1, 0]) * count
+
+
+def counted(events, inside=None):
+    """The instructions that the program takes over these events, all of them or those inside a function."""
+    with tempfile.TemporaryDirectory() as folder:
+        out = os.path.join(folder, "out")
+        words = [tool("valgrind", "to count instructions"), "--tool=callgrind", "--callgrind-out-file=" + out]
+        words += ["--toggle-collect=" + inside] if inside else []
+        subprocess.run(words + [PROGRAM], input=events, stdout=subprocess.DEVNULL, stderr=subprocess.DEVNULL, check=True)
+        with open(out, encoding="utf-8") as file:
+            return int(re.search(r"^(?:summary|totals): (\d+)", file.read(), re.M).group(1))
+
+
+def more(before, events, inside=None):
+    """What these events cost behind those before them."""
+    return counted(before + events, inside) - counted(before, inside)
+
+
+def running(order, greens):
+    """The events after which a plan has just begun to run, and its cycle; with no order it is plan 0."""
+    if order is None:
+        return b"", PLAN_0_CYCLE
+    frames = messages(set_times(3, len(greens)), set_plan(3, order, greens), ["5F", "18", "03"])
+    return b"".join(map(octets, frames)) + seconds(PLAN_0_CYCLE), sum(greens) + 5 * len(greens)
+
+
+def of_plan(order, greens):
+    """The rows of the first table for one plan."""
+    start, cycle = running(order, greens)
+    frame = octets(messages([LONG] * 256)[0])
+    inside, idle = frame[:2 * 20], octets([IDLE]) * MANY
+    return [
+        more(start, idle, OCTET) // MANY,
+        more(start, idle) // MANY,
+        more(start + inside, octets([LONG]) * MANY, OCTET) // MANY,
+        more(start, seconds(cycle), SECOND) // cycle,
+        more(start, seconds(cycle)) // cycle,
+        more(start + seconds(cycle - 1), seconds(1), SECOND),
+    ]
+
+
+CALLS = (
+    "an octet in idle, call", "the same, turn", "an octet inside a long frame, call", "a second, over a whole cycle, call",
+    "the same, turn", "the last second of a cycle, which picks the next plan, call")
+
+
+def of_messages():
+    """The rows of the second table: the message, its octets, all of them, the last."""
+    start = running(*PLANS[1][1:])[0]
+    eight = octets(messages(set_times(5, 8))[0])
+    asked = (
+        ("5F 14 with two phases, 0F 80", set_times(4, 2), b""),
+        ("5F 15 with two phases, 0F 80", set_plan(3, "00", (20, 30)), b""),
+        ("5F 14 with four phases, 0F 80", set_times(4, 4), b""),
+        ("5F 14 with eight phases, 0F 80", set_times(4, 8), b""),
+        ("5F 44 of eight phases, 5F C4", ["5F", "44", "05"], eight),
+        ("5F 48, 5F C8", ["5F", "48"], b""),
+    )
+    rows = []
+    for (name, _, before), frame in zip(asked, messages(*(info for _, info, _ in asked))):
+        events = octets(frame)
+        all_of_it = more(start + before, events, OCTET)
+        last = more(start + before + events[:-2], events[-2:], OCTET)
+        rows.append((name, len(frame), all_of_it, last))
+    return rows
+
+
+def table(head, rows):
+    yield "| %s |" % " | ".join(head)
+    yield "|%s" % ("---|" * len(head))
+    for row in rows:
+        yield "| %s |" % " | ".join(text if isinstance(text, str) else "{:,}".format(text) for text in row)
+
+
+def tables():
+    """The tables, line by line, as they are counted."""
+    prove("cost")
+    columns = [of_plan(order, greens) for _, order, greens in PLANS]
+    yield from table(["Call"] + [name for name, _, _ in PLANS], zip(CALLS, *columns))
+    yield ""
+    yield from table(["Message, a plan of two phases running", "Octets in", "All its octets and its reply", "Its last octet"], of_messages())
