@@ -18,6 +18,7 @@ TIMES = "0A 00 5A 03 02 05 02"
 # the plans whose calls are counted: how it is called, its order and its greens
 PLANS = (("plan 0", None, ()), ("two phases", "00", (20, 30)), ("three", "20", (10, 12, 14)), ("four", "60", (10, 12, 14, 16)))
 PLAN_0_CYCLE = 80
+RETURN_ADDRESS, RED_ZONE = 8, 128
 
 
 def tool(name, why):
@@ -116,6 +117,39 @@ def of_messages():
     return rows
 
 
+def frames_and_calls():
+    """Of each function of the program the octets that it puts on the stack, its return address among them, and those it calls."""
+    code = subprocess.run([tool("objdump", "to read the compiled code"), "-d", "--no-show-raw-insn", PROGRAM], stdout=subprocess.PIPE, check=True)
+    frames, calls, name = {}, {}, None
+    for line in code.stdout.decode().splitlines():
+        head = re.match(r"[0-9a-f]+ <(.*)>:$", line)
+        if head:
+            name = head.group(1)
+            frames[name], calls[name] = RETURN_ADDRESS, set()
+        elif name:
+            pushed, moved = re.search(r"\tpush ", line), re.search(r"\tsub +\$0x([0-9a-f]+),%rsp", line)
+            frames[name] += 8 * bool(pushed) + (int(moved.group(1), 16) if moved else 0)
+            called = re.search(r"\t(?:call|jmp) +[0-9a-f]+ <([^+>]*)>", line)
+            if called and called.group(1) != name:
+                calls[name].add(called.group(1))
+    return frames, calls
+
+
+def deepest(name, frames, calls):
+    """The stack of a function with that of the calls in it that reach deepest, and the path of these."""
+    paths = [deepest(called, frames, calls) for called in calls.get(name, ()) if called in frames]
+    octets_below, path = max(paths, default=(0, []))
+    return frames[name] + octets_below, [name] + path
+
+
+def of_stack():
+    """The rows of the third table."""
+    frames, calls = frames_and_calls()
+    for call in (OCTET, SECOND):
+        octets_in_all, path = deepest(call, frames, calls)
+        yield call, octets_in_all + RED_ZONE, " > ".join(path)
+
+
 def table(head, rows):
     yield "| %s |" % " | ".join(head)
     yield "|%s" % ("---|" * len(head))
@@ -130,3 +164,5 @@ def tables():
     yield from table(["Call"] + [name for name, _, _ in PLANS], zip(CALLS, *columns))
     yield ""
     yield from table(["Message, a plan of two phases running", "Octets in", "All its octets and its reply", "Its last octet"], of_messages())
+    yield ""
+    yield from table(["Call", "Stack, with the red zone of 128", "By way of"], of_stack())
