@@ -11,8 +11,9 @@ from programs import ROOT, Failed, prove
 
 PROGRAM = os.path.join(ROOT, "target", "bin", "cost")
 OCTET, SECOND = "calls::octet", "calls::second"
-# a second event and the octets of a line that are dropped, many times, so that what is counted once does not show
+# an event is counted so often, so that what the host does once does not show
 MANY = 100
+# an octet that a decoder at rest drops, and one of INFO
 IDLE, LONG = "00", "11"
 TIMES = "0A 00 5A 03 02 05 02"
 # the plans whose calls are counted: how it is called, its order and its greens
@@ -27,7 +28,8 @@ def tool(name, why):
     return name
 
 
-def words_of(*numbers):
+def two_octets(*numbers):
+    """Each number as two octets, high octet first."""
     return ["%02X" % octet for number in numbers for octet in number.to_bytes(2, "big")]
 
 
@@ -36,7 +38,7 @@ def set_times(plan, count):
 
 
 def set_plan(plan, order, greens):
-    return ["5F", "15", "%02X" % plan, "00", order, "%02X" % len(greens)] + words_of(*greens, sum(greens) + 5 * len(greens), 0)
+    return ["5F", "15", "%02X" % plan, "00", order, "%02X" % len(greens)] + two_octets(*greens, sum(greens) + 5 * len(greens), 0)
 
 
 def messages(*infos):
