@@ -10,7 +10,7 @@ from frames import frames_of
 from programs import ROOT, Failed, prove
 
 PROGRAM = os.path.join(ROOT, "target", "bin", "cost")
-OCTET, SECOND = "calls::octet", "calls::second"
+OCTET, SECOND = "controller_calls::octet", "controller_calls::second"
 # an event is counted so often, so that what the host does once does not show
 MANY = 100
 # an octet that a decoder at rest drops, and one of INFO

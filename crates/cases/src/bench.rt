@@ -4,9 +4,9 @@ use crate::say;
 use crate::script;
 use crate::words::FrameWord;
 use crate::writing;
-use codec::decoder;
 use frame::Kind;
 use frame::decoder::Decoder;
+use frame_calls::decoder;
 
 // The decoder, where the next frame is written, and how long the last one was.
 pub(crate) struct Bench {

@@ -3,11 +3,11 @@ ghost use Prim.Native.Nat.{_≤_};
 use crate::say;
 use crate::script;
 use crate::words::CallWord;
-use codec::writer;
 use controller::Event;
 use controller::OUTPUT_LEN;
 use controller::Started;
 use controller::State;
+use frame_calls::writer;
 use lamps::Row;
 use octets::refusal;
 use record::BOOK_LEN;
@@ -26,7 +26,7 @@ pub(crate) struct Post {
 }
 
 pub(crate) fn start() -> Post {
-    let f = calls::fresh(OWN);
+    let f = controller_calls::fresh(OWN);
     let state = f.state;
     Post {
         state,
@@ -81,14 +81,14 @@ fn called(s: State, w: CallWord, o: &[u8], book: &mut [u8], out: &mut [u8]) -> S
 // A fresh start with this own address.
 fn fresh(own: u16) -> State {
     say_fresh(own);
-    started(calls::fresh(own))
+    started(controller_calls::fresh(own))
 }
 
 // The same with the old built-in plan.
 fn earlier(own: u16) -> State {
     say_fresh(own);
     say::text(b" with the old plan 0");
-    started(calls::fresh_old(own))
+    started(controller_calls::fresh_old(own))
 }
 
 fn say_fresh(own: u16) {
@@ -146,7 +146,7 @@ fn keep(s: State, o: &[u8], book: &mut [u8], out: &mut [u8]) -> State {
 fn swallow(s: State, o: &[u8], book: &mut [u8], out: &mut [u8]) -> State {
     let mut t = s;
     for i in 0..o.len() {
-        let a = calls::octet(t, &mut *book, &mut *out, o[i]);
+        let a = controller_calls::octet(t, &mut *book, &mut *out, o[i]);
         t = a.state;
     }
     t
@@ -154,7 +154,7 @@ fn swallow(s: State, o: &[u8], book: &mut [u8], out: &mut [u8]) -> State {
 
 // The octet call with octet b, which is number n of those given.
 fn octet(s: State, b: u8, n: usize, book: &mut [u8], out: &mut [u8]) -> State {
-    let a = calls::octet(s, book, &mut *out, b);
+    let a = controller_calls::octet(s, book, &mut *out, b);
     if a.refusal != refusal::NONE {
         say_refusal(n, a.refusal, a.parameter);
     }
@@ -194,7 +194,7 @@ fn say_event(e: Event) {
 
 fn line_idle(s: State) -> State {
     say::text(b"\tline-idle call");
-    let a = calls::line_idle(s);
+    let a = controller_calls::line_idle(s);
     if a.refusal != refusal::NONE {
         say::call_refused(a.refusal);
     }
@@ -213,7 +213,7 @@ fn wait(s: State, n: usize, book: &[u8]) -> State {
 }
 
 fn second(s: State, last: bool, book: &[u8]) -> State {
-    let w = calls::second(s, book);
+    let w = controller_calls::second(s, book);
     if last {
         if w.refusal == refusal::NONE {
             say_second(w.plan, w.row);

@@ -1,12 +1,12 @@
 // Octets read aloud: what each brings, where it brings something, and where the decoder then is.
 use crate::say;
 use crate::script;
-use codec::decoder;
 use frame::Kind;
 use frame::decoder::Decoder;
 use frame::decoder::Found;
 use frame::decoder::Head;
 use frame::decoder::Place;
+use frame_calls::decoder;
 use octets::refusal;
 
 pub(crate) fn read(d: Decoder, s: &[u8]) -> Decoder {

@@ -2,8 +2,8 @@
 ghost use Prim.Native.Nat.{_≤_};
 use crate::say;
 use crate::script;
-use codec::writer;
 use frame::Kind;
+use frame_calls::writer;
 use message::FIELDS_MOST;
 use message::Message;
 use octets::Written;

@@ -1,6 +1,6 @@
 // 01, "Replies" and "Lamps and seconds": the controller's state, and what its calls answer. There is nothing to run: what each
 // call makes of state, book and output is defined in specs/, and demands 1 to 3 are proved of it in proofs/. The functions that
-// are proved to do so are the crate `calls`.
+// are proved to do so are the crate `controller_calls`.
 use frame::decoder::Decoder;
 use lamps::Row;
 use message::Message;

@@ -14,7 +14,7 @@ fn main() {
     let n = io::read_full(STDIN_FILENO, &mut events);
     let mut book = [0u8; BOOK_LEN];
     let mut out = [0u8; OUTPUT_LEN];
-    let f = calls::fresh(OWN);
+    let f = controller_calls::fresh(OWN);
     let state = made(f.state, &events[..n], &mut book, &mut out);
     // so that no call is left out as one whose result nobody sees
     io::write_all(STDOUT_FILENO, &[state.seq, state.requested, out[0]]);
@@ -32,15 +32,15 @@ fn made(start: State, events: &[u8], book: &mut [u8], out: &mut [u8]) -> State {
 
 fn event(s: State, kind: u8, b: u8, book: &mut [u8], out: &mut [u8]) -> State {
     match kind {
-        0 => calls::octet(s, book, out, b).state,
-        1 => calls::second(s, book).state,
-        2 => calls::line_idle(s).state,
-        3 => calls::octet(s, book, out, b / 2).state,
+        0 => controller_calls::octet(s, book, out, b).state,
+        1 => controller_calls::second(s, book).state,
+        2 => controller_calls::line_idle(s).state,
+        3 => controller_calls::octet(s, book, out, b / 2).state,
         _ => idle_second(s, book),
     }
 }
 
 fn idle_second(s: State, book: &[u8]) -> State {
-    let t = calls::line_idle(s);
-    calls::second(t.state, book).state
+    let t = controller_calls::line_idle(s);
+    controller_calls::second(t.state, book).state
 }

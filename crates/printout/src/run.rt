@@ -76,8 +76,8 @@ fn started(which: Which) -> Started
     ensures { λ r. ⌜ r ≡ startedOf which own ⌝ }
 {
     match which {
-        Which::New => calls::fresh(OWN),
-        Which::Old => calls::fresh_old(OWN),
+        Which::New => controller_calls::fresh(OWN),
+        Which::Old => controller_calls::fresh_old(OWN),
     }
 }
 
@@ -99,7 +99,7 @@ fn on_second(run: Run, book: &[u8], text: &mut [u8]) -> Run
 {
     let n = run.seconds;
     let at = run.used;
-    let t = calls::second(run.state, book);
+    let t = controller_calls::second(run.state, book);
     let state = t.state;
     let row = t.row;
     Run {
@@ -114,7 +114,7 @@ fn on_octet(run: Run, b: u8, book: &mut [u8], out: &mut [u8], text: &mut [u8]) -
     ensures { λ r. ⌜ Listed (octetMade (run .state) (run .seconds) (now (book .entry)) (now (out .entry)) b) (run .used) (now (text .entry)) r (now (book .exit)) (now (out .exit)) (now (text .exit)) ⌝ }
 {
     let at = run.used;
-    let a = calls::octet(run.state, book, &mut *out, b);
+    let a = controller_calls::octet(run.state, book, &mut *out, b);
     let state = a.state;
     let n = a.count;
     Run {

@@ -1,0 +1,322 @@
+-- What the functions' proofs rest on: one law for each way through.
+use Prim.Native.Nat.{ℕ, _+_, _≤_, _<_}
+use mathlib.Core.Path.{_≡_, refl, sym, ap, subst, _∙_}
+use mathlib.Core.Bool.{Bool, true, false}
+use mathlib.Core.List.{List, [], append-nil}
+use native.Mathlib.Decide.{decLe, ℕ-discrete}
+use native.Mathlib.Omega.{arith}
+use borrow.Author.Tests.{eq-eqb, ne-eqb, lt-ltb, le-ltb, le-leb, lt-leb}
+use denote.Ref.{RefT, now}
+use lib.Dec.{eqb}
+use lib.ListN.{length, getD, take, drop-of-length-le}
+use lib.Seq.{sets-eq, take-all}
+use Rattle.octets.specs.Choice.{pick, both}
+use Rattle.octets.specs.Part.{PartOf}
+use Rattle.octets.specs.Put.{Put}
+use Rattle.octets.specs.Refusal as refusal
+use Rattle.octets.proofs.Laws.{put-stored}
+use Rattle.frame.specs.declared.decoder.Taken.{Taken}
+use Rattle.frame.specs.Decoder.{idleDrops, possibleOf, takenOf}
+use Rattle.frame.proofs.Laws.{taken-dropped}
+use Rattle.message.specs.declared.Message.{Message}
+use Rattle.message.specs.declared.Read.{Read}
+use Rattle.message.specs.Names.{planAt}
+use Rattle.message.specs.Reader.{codeIn, bodyIn, readOf}
+use Rattle.plan.specs.declared.setting.Answered.{Answered}
+use Rattle.record.specs.Record.{recordLen, plansMost, bookLen, empty, ready, cycleOf}
+use Rattle.checks.specs.Standing.{standingOf}
+use Rattle.plan.specs.declared.Which.{Which}
+use Rattle.plan.specs.BuiltIn.{builtIn}
+use Rattle.plan.specs.Reading.{recordStart, recordAt, same, eitherBuiltIn, readRefusal, PartRead}
+use Rattle.plan.specs.Setting.{setTimesCode, setPlanCode, setTimesOf, setPlanOf, planIn}
+use Rattle.plan.specs.Setting as setting
+use Rattle.plan.specs.Reporting.{reportPlanCode, reportRunningCode, reportTimesOf, reportPlanOf}
+use Rattle.plan.proofs.Laws.{same-is, length-built-in, is-either, refused-range, read-zero, refused-empty, read-set}
+use Rattle.checks.proofs.Stands.{some-long, some-state, plan-fits, ready-plan}
+use Rattle.plan.proofs.Reportable.{standing-none, standing-past}
+use Rattle.plan.proofs.Cases.{built-in-stands}
+use Rattle.controller.specs.declared.Running.{Running}
+use Rattle.controller.specs.declared.State.{State}
+use Rattle.controller.specs.declared.Handled.{Handled}
+use Rattle.controller.specs.State.{all, runningSound, soundOf, recordWith, planRecord, startedAt}
+use Rattle.controller.specs.Handling.{runCode, queryTimesCode, queryPlanCode, queryRunningCode, carriedOutReply, accepted, refusedWith, setAs, unlessUnread, runAs, queryTimesAs, queryPlanAs, queryRunningAs, handlingOf}
+use Rattle.controller.specs.Replies.{refusedCall, doneOf}
+use Rattle.controller.specs.Seconds.{pickedOf}
+use Rattle.controller.proofs.Laws.{picked-ready, picked-stays}
+use Rattle.controller.proofs.Judging.{sound-parts}
+use Rattle.controller_calls.specs.Handling.{HandlingLeaves}
+use Rattle.controller_calls.specs.Stepper.{RecordOf}
+
+-- The octet call
+
+module _ (s : State) (book out : List ℕ) (b : ℕ) where
+  -- an octet that is dropped leaves everything as it is
+  pub octet-dropped : idleDrops (s .decoder .head .place) b ≡ true → doneOf s (takenOf (s .decoder) b) book out ≡ refusedCall s refusal.none book out
+  unfolding doneOf
+  octet-dropped h = ap (λ (t : Taken). doneOf s t book out) (taken-dropped (s .decoder) b h)
+
+-- The record of a plan
+
+module _ (book copy r : RefT (List ℕ)) (p : ℕ) (f : PartRead book copy p r) where
+  abbrev refusalIs : ℕ
+  refusalIs = readRefusal (now book) (now copy) p
+
+  abbrev partIf : Bool → Type 0
+  partIf t = pick t (pick (eqb p 0) (PartOf copy 0 recordLen r) (PartOf book (recordStart p) recordLen r)) (PartOf copy 0 0 r)
+
+  read-none : (refusalIs ≡ refusal.none → ⊥) → now r ≡ []
+  read-none n = let q : partIf false = subst partIf (ne-eqb refusalIs refusal.none n) f in q .octets
+
+  read-built-in : refusalIs ≡ refusal.none → p ≡ 0 → now r ≡ take recordLen (now copy)
+  read-built-in e z =
+      let q : partIf true = subst partIf (eq-eqb refusalIs refusal.none e) f in
+      let q′ : PartOf copy 0 recordLen r = subst (λ (t : Bool). pick t (PartOf copy 0 recordLen r) (PartOf book (recordStart p) recordLen r)) (eq-eqb p 0 z) q in
+      q′ .octets
+
+  read-book : refusalIs ≡ refusal.none → (p ≡ 0 → ⊥) → now r ≡ recordAt (now book) p
+  read-book e n =
+      let q : partIf true = subst partIf (eq-eqb refusalIs refusal.none e) f in
+      let q′ : PartOf book (recordStart p) recordLen r = subst (λ (t : Bool). pick t (PartOf copy 0 recordLen r) (PartOf book (recordStart p) recordLen r)) (ne-eqb p 0 n) q in
+      q′ .octets
+
+  abbrev rec : List ℕ
+  rec = recordWith (now copy) (now book) p
+
+  pub record-of : length (now book) ≡ bookLen → (which : Which) → now copy ≡ builtIn which → RecordOf (now copy) (now book) p (now r)
+  record-of hb which ho = by (decLe p plansMost) (ℕ-discrete p 0) (ℕ-discrete (standingOf (recordAt (now book) p)) empty)
+    where
+      lo : length (now copy) ≡ recordLen
+      lo = ap length ho ∙ length-built-in which
+
+      -- an empty part stands as an empty plan
+      nothing-there : now r ≡ [] → standingOf rec ≡ empty → RecordOf (now copy) (now book) p (now r)
+      nothing-there e h =
+          let s : standingOf (now r) ≡ empty = rw e standing-none in
+          record { stands = s ∙ sym h; octets = λ n. absurd (n s); state = rw e (sym standing-none) }
+
+      there : (standingOf rec ≡ empty → ⊥) → now r ≡ rec → RecordOf (now copy) (now book) p (now r)
+      there n e = record { stands = ap standingOf e; octets = λ _. e; state = rw e (some-state rec n) }
+
+      by : Dec (p ≤ plansMost) → Dec (p ≡ 0) → Dec (standingOf (recordAt (now book) p) ≡ empty) → RecordOf (now copy) (now book) p (now r)
+      by (no g) d e =
+          let z : p ≡ 0 → ⊥ = λ (q : p ≡ 0). absurd (omega arith) in
+          let l : plansMost < p = omega arith in
+          let n : refusalIs ≡ refusal.none → ⊥ = λ (q : refusalIs ≡ refusal.none). absurd (omega (arith, q, refused-range (now book) (now copy) p hb lo l)) in
+          nothing-there (read-none n) (rw (ne-eqb p 0 z) (standing-past (now book) p hb l))
+      by (yes l) (yes z) e =
+          let s : true ≡ eitherBuiltIn (now copy) = sym (rw ho (is-either which)) in
+          let q = sym (read-zero (now book) (now copy) p hb lo l z s refl) in
+          let n : standingOf (now copy) ≡ empty → ⊥ = λ (e : standingOf (now copy) ≡ empty). absurd (omega (arith, built-in-stands which, ap standingOf ho, e)) in
+          there (rw (eq-eqb p 0 z) n) (read-built-in q z ∙ (rw (eq-eqb p 0 z) (take-all recordLen (now copy) (omega (arith, lo)))))
+      by (yes l) (no z) (yes e) =
+          let n : refusalIs ≡ refusal.none → ⊥ = λ (q : refusalIs ≡ refusal.none). absurd (omega (arith, q, refused-empty (now book) (now copy) p hb lo l z refl e)) in
+          nothing-there (read-none n) (rw (ne-eqb p 0 z) e)
+      by (yes l) (no z) (no e) =
+          let q = sym (read-set (now book) (now copy) p hb lo l z refl e) in
+          there (rw (ne-eqb p 0 z) e) (read-book q z ∙ rw (ne-eqb p 0 z))
+
+-- Messages
+
+module _ (which : Which) (code requested : ℕ) (book info : List ℕ) {m : Read} (em : m ≡ readOf info) where
+  unread : (h : Handled) → (m .refusal ≡ refusal.none → ⊥) → refusedWith code requested (m .refusal) (m .field) ≡ unlessUnread code requested info h
+  unread h n = rw (← em, ne-eqb (m .refusal) refusal.none n)
+
+  was-read : (h : Handled) → m .refusal ≡ refusal.none → unlessUnread code requested info h ≡ h
+  was-read h e = rw (← em, eq-eqb (m .refusal) refusal.none e)
+
+  module _ (n : m .refusal ≡ refusal.none → ⊥) where
+    pub run-unread : refusedWith code requested (m .refusal) (m .field) ≡ runAs which code requested book info
+    unfolding runAs
+    run-unread = unread _ n
+
+    pub times-unread : refusedWith code requested (m .refusal) (m .field) ≡ queryTimesAs which code requested book info
+    unfolding queryTimesAs
+    times-unread = unread _ n
+
+    pub plan-unread : refusedWith code requested (m .refusal) (m .field) ≡ queryPlanAs which code requested book info
+    unfolding queryPlanAs
+    plan-unread = unread _ n
+
+    pub running-unread : (u : Running) → refusedWith code requested (m .refusal) (m .field) ≡ queryRunningAs code requested u info
+    unfolding queryRunningAs
+    running-unread u = unread _ n
+
+  module _ (e : m .refusal ≡ refusal.none) where
+    pub running-done : (u : Running) {w : Message} → w ≡ reportPlanOf (u .copy) (u .plan) reportRunningCode → accepted requested w ≡ queryRunningAs code requested u info
+    unfolding queryRunningAs
+    running-done u ew = sym (was-read _ e ∙ rw ew)
+
+    module _ {p n : ℕ} {zero rec : List ℕ} (ep : p ≡ planIn (bodyIn info)) (ez : zero ≡ builtIn which) (f : RecordOf zero book p rec) (en : n ≡ standingOf rec) where
+      stands : n ≡ standingOf (planRecord which book (planIn (bodyIn info)))
+      stands = en ∙ (f .stands ∙ rw (ep, ez))
+
+      pub run-13 : (n ≡ ready → ⊥) → refusedWith code requested refusal.notReady planAt ≡ runAs which code requested book info
+      unfolding runAs
+      run-13 g = sym (was-read _ e ∙ rw (← stands, ne-eqb n ready g))
+
+      pub run-done : n ≡ ready → {w : Message} → w ≡ carriedOutReply code → accepted p w ≡ runAs which code requested book info
+      unfolding runAs
+      run-done g ew = sym (was-read _ e ∙ rw (← stands, eq-eqb n ready g, ew, ep))
+
+      pub times-13 : n ≡ empty → refusedWith code requested refusal.notReady planAt ≡ queryTimesAs which code requested book info
+      unfolding queryTimesAs
+      times-13 g = sym (was-read _ e ∙ rw (← stands, eq-eqb n empty g))
+
+      pub times-done : (n ≡ empty → ⊥) → {w : Message} → w ≡ reportTimesOf rec p → accepted requested w ≡ queryTimesAs which code requested book info
+      unfolding queryTimesAs
+      times-done g ew =
+          let r : rec ≡ recordWith zero book p = f .octets (λ (z : standingOf rec ≡ empty). g (en ∙ z)) in
+          sym (was-read _ e ∙ rw (← stands, ne-eqb n empty g, ew, r, ep, ez))
+
+      pub plan-13 : (n ≡ ready → ⊥) → refusedWith code requested refusal.notReady planAt ≡ queryPlanAs which code requested book info
+      unfolding queryPlanAs
+      plan-13 g = sym (was-read _ e ∙ rw (← stands, ne-eqb n ready g))
+
+      pub plan-done : n ≡ ready → {w : Message} → w ≡ reportPlanOf rec p reportPlanCode → accepted requested w ≡ queryPlanAs which code requested book info
+      unfolding queryPlanAs
+      plan-done g ew =
+          let r : rec ≡ recordWith zero book p = f .octets (λ (z : standingOf rec ≡ empty). absurd (omega (arith, g, en, z))) in
+          sym (was-read _ e ∙ rw (← stands, eq-eqb n ready g, ew, r, ep, ez))
+
+-- by the code
+module _ (u : Running) (requested : ℕ) (book info : List ℕ) {code : ℕ} (ec : code ≡ codeIn info) {h : Handled} where
+  pub handles-times : codeIn info ≡ setTimesCode → {a : Answered} {b : List ℕ} → setting.SetLeaves (setTimesOf book info) a b → h ≡ setAs code requested a
+      → HandlingLeaves (handlingOf u requested book info) h b
+  unfolding handlingOf
+  handles-times e d eh = rw e (record { handled = eh ∙ rw (ec ∙ e, d .answer); book = d .book })
+
+  pub handles-plan : codeIn info ≡ setPlanCode → {a : Answered} {b : List ℕ} → setting.SetLeaves (setPlanOf book info) a b → h ≡ setAs code requested a
+      → HandlingLeaves (handlingOf u requested book info) h b
+  unfolding handlingOf
+  handles-plan e d eh = rw e (record { handled = eh ∙ rw (ec ∙ e, d .answer); book = d .book })
+
+  pub handles-run : codeIn info ≡ runCode → h ≡ runAs (u .which) code requested book info → HandlingLeaves (handlingOf u requested book info) h book
+  unfolding handlingOf
+  handles-run e eh = rw e (record { handled = eh ∙ rw (ec ∙ e); book = refl })
+
+  pub handles-query-times : codeIn info ≡ queryTimesCode → h ≡ queryTimesAs (u .which) code requested book info → HandlingLeaves (handlingOf u requested book info) h book
+  unfolding handlingOf
+  handles-query-times e eh = rw e (record { handled = eh ∙ rw (ec ∙ e); book = refl })
+
+  pub handles-query-plan : codeIn info ≡ queryPlanCode → h ≡ queryPlanAs (u .which) code requested book info → HandlingLeaves (handlingOf u requested book info) h book
+  unfolding handlingOf
+  handles-query-plan e eh = rw e (record { handled = eh ∙ rw (ec ∙ e); book = refl })
+
+  pub handles-query-running : codeIn info ≡ queryRunningCode → h ≡ queryRunningAs code requested u info → HandlingLeaves (handlingOf u requested book info) h book
+  unfolding handlingOf
+  handles-query-running e eh = rw e (record { handled = eh ∙ rw (ec ∙ e); book = refl })
+
+  pub handles-other : (codeIn info ≡ setTimesCode → ⊥) → (codeIn info ≡ setPlanCode → ⊥) → (codeIn info ≡ runCode → ⊥) → (codeIn info ≡ queryTimesCode → ⊥)
+      → (codeIn info ≡ queryPlanCode → ⊥) → (codeIn info ≡ queryRunningCode → ⊥) → h ≡ refusedWith code requested refusal.codeNotHandled 0
+      → HandlingLeaves (handlingOf u requested book info) h book
+  unfolding handlingOf
+  handles-other n1 n2 n3 n4 n5 n6 eh =
+      rw (ne-eqb (codeIn info) setTimesCode n1, ne-eqb (codeIn info) setPlanCode n2, ne-eqb (codeIn info) runCode n3, ne-eqb (codeIn info) queryTimesCode n4, ne-eqb (codeIn info) queryPlanCode n5, ne-eqb (codeIn info) queryRunningCode n6)
+      (record { handled = eh ∙ rw ec; book = refl })
+
+-- Soundness
+
+and-true : (b : Bool) → both b true ≡ b
+and-true true = refl
+and-true false = refl
+
+and-false : (b : Bool) → both b false ≡ false
+and-false true = refl
+and-false false = refl
+
+module _ (u : Running) where
+  module _ {c : ℕ} (ec : c ≡ cycleOf (u .copy)) where
+    pub outside : c ≤ u .position → false ≡ runningSound u
+    unfolding runningSound
+    outside h = rw (← ec, le-ltb (u .position) c h)
+
+    module _ (hc : u .position < c) where
+      pub over : plansMost < u .plan → false ≡ runningSound u
+      unfolding runningSound
+      over h = rw (← ec, lt-ltb (u .position) c hc, lt-leb (u .plan) plansMost h)
+
+      module _ (hp : u .plan ≤ plansMost) where
+        -- the built-in record stands ready
+        pub zero-plan : u .plan ≡ 0 → {t : Bool} → t ≡ same (u .copy) (builtIn (u .which)) → t ≡ runningSound u
+        unfolding runningSound
+        zero-plan z {t} e = by t e
+          where
+            by : (t : Bool) → t ≡ same (u .copy) (builtIn (u .which)) → t ≡ runningSound u
+            by true e =
+                let s : standingOf (u .copy) ≡ ready = rw (same-is (u .copy) (builtIn (u .which)) (sym e)) (built-in-stands (u .which)) in
+                rw (← ec, lt-ltb (u .position) c hc, le-leb (u .plan) plansMost hp, eq-eqb (standingOf (u .copy)) ready s, eq-eqb (u .plan) 0 z) e
+            by false e =
+                rw (← ec, lt-ltb (u .position) c hc, le-leb (u .plan) plansMost hp, eq-eqb (u .plan) 0 z, ← e) (sym (and-false (eqb (standingOf (u .copy)) ready)))
+
+        pub other-plan : (u .plan ≡ 0 → ⊥) → {n : ℕ} → n ≡ standingOf (u .copy) → eqb n ready ≡ runningSound u
+        unfolding runningSound
+        other-plan z {n} e =
+            rw (← ec, lt-ltb (u .position) c hc, le-leb (u .plan) plansMost hp, ne-eqb (u .plan) 0 z, ← e) (sym (and-true (eqb n ready)))
+
+module _ (s : State) where
+  pub own-all : s .own ≡ all → false ≡ soundOf s
+  unfolding soundOf
+  own-all h = rw (eq-eqb (s .own) all h)
+
+  module _ (ho : s .own ≡ all → ⊥) where
+    pub requested-over : plansMost < s .requested → false ≡ soundOf s
+    unfolding soundOf
+    requested-over h = rw (ne-eqb (s .own) all ho, lt-leb (s .requested) plansMost h)
+
+    module _ (hr : s .requested ≤ plansMost) {p : Bool} (ep : p ≡ possibleOf (s .decoder .head)) where
+      pub impossible : p ≡ false → false ≡ soundOf s
+      unfolding soundOf
+      impossible h = rw (ne-eqb (s .own) all ho, le-leb (s .requested) plansMost hr, ← ep, h)
+
+      pub by-running : p ≡ true → {r : Bool} → r ≡ runningSound (s .running) → r ≡ soundOf s
+      unfolding soundOf
+      by-running h e = rw (ne-eqb (s .own) all ho, le-leb (s .requested) plansMost hr, ← ep, h) e
+
+-- Copies
+
+-- a run of octets as long as what it is stored in is all that then stands there
+pub filled : (vs l : List ℕ) {r : ℕ} {m : List ℕ} → length vs ≡ length l → Put vs 0 l r m → m ≡ vs
+filled vs l e p =
+    let s = put-stored p (omega (arith, e)) in
+    s .holds ∙ (sets-eq vs l 0 (omega (arith, e)) ∙ rw (drop-of-length-le l {i = 0 + length vs} (omega (arith, e))) (append-nil vs))
+
+-- The pick
+
+-- a ready record has its length
+pub ready-long : (rec : List ℕ) {n : ℕ} → n ≡ standingOf rec → n ≡ ready → length rec ≡ recordLen
+ready-long rec en e = some-long rec (λ (z : standingOf rec ≡ empty). absurd (omega (arith, en, e, z)))
+
+module _ (u : Running) (requested : ℕ) (book : List ℕ) {zero rec : List ℕ} (ez : zero ≡ builtIn (u .which)) (f : RecordOf zero book requested rec) {n : ℕ} (en : n ≡ standingOf rec) where
+  abbrev due : List ℕ
+  due = planRecord (u .which) book requested
+
+  stands-due : standingOf rec ≡ standingOf due
+  stands-due = f .stands ∙ rw ez
+
+  pub picks : n ≡ ready → {copy : List ℕ} → copy ≡ rec → startedAt (u .which) requested copy ≡ pickedOf u requested book
+  picks e ec =
+      let r : rec ≡ due = f .octets (λ (z : standingOf rec ≡ empty). absurd (omega (arith, en, e, z))) ∙ rw ez in
+      rw (ec, r) (sym (picked-ready u requested book (eq-eqb _ _ (sym stands-due ∙ (sym en ∙ e)))))
+
+  pub stays : (n ≡ ready → ⊥) → startedAt (u .which) (u .plan) (u .copy) ≡ pickedOf u requested book
+  stays g = sym (picked-stays u requested book (ne-eqb _ _ (λ (q : standingOf due ≡ ready). g (en ∙ (stands-due ∙ q)))))
+
+-- The octets of a code
+
+module _ (info : List ℕ) {j : ℕ} where
+  pub high-other : getD info 1 0 < 256 → (getD info 0 0 ≡ 0x5F → ⊥) → j < 256 → codeIn info ≡ 0x5F00 + j → ⊥
+  high-other h n l e = n (omega (arith, h, l, e))
+
+  pub low-other : getD info 0 0 ≡ 0x5F → (getD info 1 0 ≡ j → ⊥) → codeIn info ≡ 0x5F00 + j → ⊥
+  low-other h n e = n (omega (arith, h, e))
+
+  pub code-is : getD info 0 0 ≡ 0x5F → getD info 1 0 ≡ j → codeIn info ≡ 0x5F00 + j
+  code-is h e = omega (arith, h, e)
+
+-- The next second
+
+-- a sound position is within a cycle of at most 900 seconds, so the next one is a number of two octets
+pub sound-position : (s : State) → soundOf s ≡ true → s .running .position < 65535
+sound-position s h =
+    let p = sound-parts s h .running in
+    omega (arith, p .position, plan-fits (s .running .copy) (ready-plan (s .running .copy) (p .checks)) .most)

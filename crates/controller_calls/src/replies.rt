@@ -1,0 +1,252 @@
+// 01, "Replies": what is done with that which an octet brought, and what is written. "All frames we write carry our own address."
+ghost use mathlib.Core.Path.{_≡_};
+ghost use mathlib.Core.Bool.{true};
+ghost use Prim.Native.Nat.{_≤_};
+ghost use lib.ListN.{length};
+ghost use Rattle.octets.specs.Part.{codeLen};
+ghost use Rattle.octets.specs.Put.{Stored};
+ghost use Rattle.frame.specs.Frame.{infoMost};
+ghost use Rattle.frame.specs.Decoder.{takenOf};
+ghost use Rattle.frame.specs.Run.{foundMeans};
+ghost use Rattle.message.specs.Writer.{writable, infoOf};
+ghost use Rattle.record.specs.Record.{plansMost, bookLen, ready};
+ghost use Rattle.checks.specs.Standing.{standingOf};
+ghost use Rattle.controller.specs.State.{outputLen, soundOf};
+ghost use Rattle.controller.specs.Replies.{CallLeaves, sent, errOf, naks, acks, forUs, isAnswer, eventFor, repliesOf, CanFind, repliedOf, messageOf, broughtOf, doneOf};
+ghost use Rattle.controller_calls.specs.Handling.{Sendable};
+ghost use Rattle.controller_calls.specs.Replies.{ResultWritten, ResultAndBookLeft, unchangedAs};
+use crate::handling;
+use controller::ALL;
+use controller::Answer;
+use controller::Event;
+use controller::Handled;
+use controller::Running;
+use controller::State;
+use frame::INFO_MOST;
+use frame::Kind;
+use frame::decoder::Found;
+use frame_calls::decoder;
+use frame_calls::writer;
+use message::Message;
+use octets::refusal;
+
+// ERR of a NAK for refusal 3; for 1 and 2 it is the refusal itself.
+const ERR_LEN: u8 = 4;
+
+// What an octet brought: what the answer says of it, and the SEQ and the request that the state then has.
+pub struct ResultCounted {
+    pub refusal: u8,
+    pub parameter: u8,
+    pub event: Event,
+    pub count: usize,
+    pub seq: u8,
+    pub requested: u8,
+}
+
+// One octet to a sound state, and what it brought.
+pub(crate) fn taken(s: State, book: &mut [u8], out: &mut [u8], b: u8) -> Answer
+    requires { ⌜ (soundOf s ≡ true) × (length (now book) ≡ bookLen) × (outputLen ≤ length (now out)) ⌝ }
+    ensures { λ r. ⌜ CallLeaves (doneOf s (takenOf (s .decoder) b) (now (book .entry)) (now (out .entry))) r (now (book .exit)) (now (out .exit)) ⌝ }
+{
+    let h = s.decoder.head;
+    if decoder::idle_drops(h, b) {
+        return crate::quiet(s, refusal::NONE);
+    }
+    let d = s.decoder;
+    let t = decoder::octet(d, b);
+    let decoder = t.decoder;
+    let found = t.found;
+    let u = s.running;
+    let r = by_found(
+        found,
+        s.own,
+        s.seq,
+        s.requested,
+        u,
+        &decoder.info,
+        book,
+        out,
+    );
+    let event = r.event;
+    Answer {
+        state: State {
+            seq: r.seq,
+            requested: r.requested,
+            decoder,
+            ..s
+        },
+        refusal: r.refusal,
+        parameter: r.parameter,
+        event,
+        count: r.count,
+    }
+}
+
+// What the decoder found, at our address, with our SEQ, the requested and the running plan, and the octets kept for INFO.
+fn by_found(
+    found: Found,
+    own: u16,
+    ours: u8,
+    requested: u8,
+    u: Running,
+    kept: &[u8],
+    book: &mut [u8],
+    out: &mut [u8],
+) -> ResultCounted
+    requires { ⌜ (CanFind found) × (length (now kept) ≡ infoMost) × (standingOf (u .copy) ≡ ready) × (u .plan ≤ plansMost) × (length (now book) ≡ bookLen) × (outputLen ≤ length (now out)) ⌝ }
+    ensures { λ r. ⌜ ResultAndBookLeft (broughtOf (foundMeans found (now (kept .entry))) own ours requested u (now (book .entry))) (now (out .entry)) r (now (book .exit)) (now (out .exit)) ⌝ }
+{
+    match found {
+        Found::Nothing => unchanged(refusal::NONE, Event::Nothing, 0, ours, requested),
+        Found::Refused(n, kind, seq, addr) => {
+            let count = nak(kind, own, n, seq, addr, out);
+            unchanged(n, Event::Nothing, count, ours, requested)
+        }
+        Found::Message(seq, addr, n) => {
+            let end = n as usize;
+            message_taken(own, ours, requested, u, seq, addr, &kept[..end], book, out)
+        }
+        Found::Ack(seq, addr) => {
+            let e = event_for(own, addr, Event::Ack(seq));
+            unchanged(refusal::NONE, e, 0, ours, requested)
+        }
+        Found::Nak(seq, addr, err) => {
+            let e = event_for(own, addr, Event::Nak(seq, err));
+            unchanged(refusal::NONE, e, 0, ours, requested)
+        }
+    }
+}
+
+// No message was handled: there is no parameter, and SEQ and request stay.
+fn unchanged(n: u8, event: Event, count: usize, ours: u8, requested: u8) -> ResultCounted
+    ensures { λ r. ⌜ r ≡ unchangedAs n event count ours requested ⌝ }
+{
+    ResultCounted {
+        refusal: n,
+        parameter: 0,
+        event,
+        count,
+        seq: ours,
+        requested,
+    }
+}
+
+// "A sound ACK or NAK for us is handed to the host as an event and changes nothing; one to FFFF is dropped."
+fn event_for(own: u16, addr: u16, e: Event) -> Event
+    ensures { λ r. ⌜ r ≡ eventFor own addr e ⌝ }
+{
+    if addr == own {
+        return e;
+    }
+    Event::Nothing
+}
+
+// "Refusals 1 to 3 of a message frame write one NAK with the received SEQ, if the received ADDR is ours".
+fn nak(kind: Kind, own: u16, n: u8, seq: u8, addr: u16, out: &mut [u8]) -> usize
+    requires { ⌜ outputLen ≤ length (now out) ⌝ }
+    ensures { λ r. ⌜ Stored (sent (naks kind own n seq addr)) 0 (now (out .entry)) r (now (out .exit)) ⌝ }
+{
+    if addr != own {
+        return 0;
+    }
+    match kind {
+        Kind::Message => writer::write_nak(seq, own, err(n), out, 0).count,
+        Kind::Ack => 0,
+        Kind::Nak => 0,
+    }
+}
+
+fn err(n: u8) -> u8
+    ensures { λ r. ⌜ r ≡ errOf n ⌝ }
+{
+    if n == refusal::LEN_WRONG { ERR_LEN } else { n }
+}
+
+// A sound message frame. "A sound frame for another address is dropped silently."
+fn message_taken(
+    own: u16,
+    ours: u8,
+    requested: u8,
+    u: Running,
+    seq: u8,
+    addr: u16,
+    info: &[u8],
+    book: &mut [u8],
+    out: &mut [u8],
+) -> ResultCounted
+    requires { ⌜ (codeLen ≤ length (now info)) × (standingOf (u .copy) ≡ ready) × (u .plan ≤ plansMost) × (length (now book) ≡ bookLen) × (outputLen ≤ length (now out)) ⌝ }
+    ensures { λ r. ⌜ ResultAndBookLeft (messageOf own ours requested u seq addr (now (info .entry)) (now (book .entry))) (now (out .entry)) r (now (book .exit)) (now (out .exit)) ⌝ }
+{
+    if !for_us(own, addr) {
+        return unchanged(refusal::NONE, Event::Nothing, 0, ours, requested);
+    }
+    if is_answer(octets::word(info[0], info[1])) {
+        let count = ack(own, seq, addr, out);
+        return unchanged(refusal::NONE, Event::Nothing, count, ours, requested);
+    }
+    let h = handling::carry_out(u, requested, book, info);
+    replied(own, ours, seq, addr, h, out)
+}
+
+fn for_us(own: u16, addr: u16) -> bool
+    ensures { λ r. ⌜ r ≡ forUs own addr ⌝ }
+{
+    if addr == own {
+        return true;
+    }
+    addr == ALL
+}
+
+fn is_answer(code: u16) -> bool
+    ensures { λ r. ⌜ r ≡ isAnswer code ⌝ }
+{
+    if code == message::CARRIED_OUT {
+        return true;
+    }
+    code == message::REFUSED
+}
+
+// "A received 0F 80 or 0F 81 of any length gets the ACK only (nothing for FFFF) and is no refusal."
+fn ack(own: u16, seq: u8, addr: u16, out: &mut [u8]) -> usize
+    requires { ⌜ outputLen ≤ length (now out) ⌝ }
+    ensures { λ r. ⌜ Stored (sent (acks own seq addr)) 0 (now (out .entry)) r (now (out .exit)) ⌝ }
+{
+    if addr != own {
+        return 0;
+    }
+    writer::write_ack(seq, own, out, 0).count
+}
+
+// "A sound message frame for us writes an ACK with the received SEQ, then one message frame with our next SEQ."
+fn replied(own: u16, ours: u8, seq: u8, addr: u16, h: Handled, out: &mut [u8]) -> ResultCounted
+    requires { ⌜ (Sendable h) × (outputLen ≤ length (now out)) ⌝ }
+    ensures { λ r. ⌜ ResultWritten (repliedOf own ours seq addr h) (now (out .entry)) r (now (out .exit)) ⌝ }
+{
+    // "FFFF is for all: carried out, never replied to."
+    let reply_due = addr == own;
+    let mut count: usize = 0;
+    let mut next = ours;
+    if reply_due {
+        count = write_reply(seq, ours, own, h.reply, out);
+        next = std::num::wrapping_add_u8(ours, 1);
+    }
+    ResultCounted {
+        refusal: h.refusal,
+        parameter: h.parameter,
+        event: Event::Nothing,
+        count,
+        seq: next,
+        requested: h.requested,
+    }
+}
+
+fn write_reply(seq: u8, ours: u8, own: u16, reply: Message, out: &mut [u8]) -> usize
+    requires { ⌜ (writable reply ≡ true) × (outputLen ≤ length (now out)) ⌝ }
+    ensures { λ r. ⌜ Stored (sent (repliesOf seq ours own (infoOf reply))) 0 (now (out .entry)) r (now (out .exit)) ⌝ }
+{
+    let mut info = [0u8; INFO_MOST];
+    let m = message_calls::writer::write(reply, &mut info, 0);
+    let a = writer::write_ack(seq, own, &mut *out, 0);
+    let w = writer::write_message(ours, own, &info[..m.count], &mut *out, a.count);
+    a.count + w.count
+}

@@ -1,0 +1,12 @@
+-- `frame_calls::decoder::fresh` meets its contract: each field is the literal.
+use mathlib.Core.Path.{refl}
+use Rattle.frame.specs.Decoder.{freshDecoder}
+use Rattle.frame_calls.proofs.decoder.fresh.Statement.{statement}
+use Rattle.frame_calls.proofs.decoder.fresh.Tie as tie
+
+returns : tie.Need-returns
+unfolding freshDecoder
+returns c = refl
+
+pub fresh-spec : {M : Type 1} → statement M
+fresh-spec = tie.close (tie.spec returns)
