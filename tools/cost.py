@@ -1,16 +1,12 @@
 """What the calls cost: instructions of each call and of a host's whole turn, counted over the program `cost`, and each call's
 deepest stack, worked out from its compiled code. The tables are those of docs/COST.md."""
-import os
-import re
-import shutil
-import subprocess
-import tempfile
-
+import counting
+import stack
 from frames import frames_of
-from programs import ROOT, Failed, prove
+from programs import prove
 
-PROGRAM = os.path.join(ROOT, "target", "bin", "cost")
-OCTET, SECOND = "controller_calls::octet", "controller_calls::second"
+PROGRAM = stack.PROGRAM
+OCTET, SECOND = stack.CALLS["octet"], stack.CALLS["second"]
 # an event is counted so often, so that what the host does once does not show
 MANY = 100
 # an octet that a decoder at rest drops, and one of INFO
@@ -19,13 +15,6 @@ TIMES = "0A 00 5A 03 02 05 02"
 # the plans whose calls are counted: how it is called, its order and its greens
 PLANS = (("plan 0", None, ()), ("two phases", "00", (20, 30)), ("three", "20", (10, 12, 14)), ("four", "60", (10, 12, 14, 16)))
 PLAN_0_CYCLE = 80
-RETURN_ADDRESS, RED_ZONE = 8, 128
-
-
-def tool(name, why):
-    if not shutil.which(name):
-        raise Failed("%s is wanted, %s" % (name, why))
-    return name
 
 
 def two_octets(*numbers):
@@ -54,20 +43,9 @@ def seconds(count):
     return bytes([1, 0]) * count
 
 
-def counted(events, inside=None):
-    """The instructions that the program takes over these events, all of them or those inside a function."""
-    with tempfile.TemporaryDirectory() as folder:
-        out = os.path.join(folder, "out")
-        words = [tool("valgrind", "to count instructions"), "--tool=callgrind", "--callgrind-out-file=" + out]
-        words += ["--toggle-collect=" + inside] if inside else []
-        subprocess.run(words + [PROGRAM], input=events, stdout=subprocess.DEVNULL, stderr=subprocess.DEVNULL, check=True)
-        with open(out, encoding="utf-8") as file:
-            return int(re.search(r"^(?:summary|totals): (\d+)", file.read(), re.M).group(1))
-
-
 def more(before, events, inside=None):
     """What these events cost behind those before them."""
-    return counted(before + events, inside) - counted(before, inside)
+    return counting.counted(PROGRAM, before + events, inside) - counting.counted(PROGRAM, before, inside)
 
 
 def running(order, greens):
@@ -119,37 +97,12 @@ def of_messages():
     return rows
 
 
-def frames_and_calls():
-    """Of each function of the program the octets that it puts on the stack, its return address among them, and those it calls."""
-    code = subprocess.run([tool("objdump", "to read the compiled code"), "-d", "--no-show-raw-insn", PROGRAM], stdout=subprocess.PIPE, check=True)
-    frames, calls, name = {}, {}, None
-    for line in code.stdout.decode().splitlines():
-        head = re.match(r"[0-9a-f]+ <(.*)>:$", line)
-        if head:
-            name = head.group(1)
-            frames[name], calls[name] = RETURN_ADDRESS, set()
-        elif name:
-            pushed, moved = re.search(r"\tpush ", line), re.search(r"\tsub +\$0x([0-9a-f]+),%rsp", line)
-            frames[name] += 8 * bool(pushed) + (int(moved.group(1), 16) if moved else 0)
-            called = re.search(r"\t(?:call|jmp) +[0-9a-f]+ <([^+>]*)>", line)
-            if called and called.group(1) != name:
-                calls[name].add(called.group(1))
-    return frames, calls
-
-
-def deepest(name, frames, calls):
-    """The stack of a function with that of the calls in it that reach deepest, and the path of these."""
-    paths = [deepest(called, frames, calls) for called in calls.get(name, ()) if called in frames]
-    octets_below, path = max(paths, default=(0, []))
-    return frames[name] + octets_below, [name] + path
-
-
 def of_stack():
     """The rows of the third table."""
-    frames, calls = frames_and_calls()
-    for call in (OCTET, SECOND):
-        octets_in_all, path = deepest(call, frames, calls)
-        yield call, octets_in_all + RED_ZONE, " > ".join(path)
+    program = stack.Program(PROGRAM)
+    for call, function in stack.CALLS.items():
+        octets_in_all, way = program.deepest(function)
+        yield call, stack.LIMIT, octets_in_all, " > ".join(way)
 
 
 def table(head, rows):
@@ -161,10 +114,10 @@ def table(head, rows):
 
 def tables():
     """The tables, line by line, as they are counted."""
-    prove("cost")
+    prove(PROGRAM)
     columns = [of_plan(order, greens) for _, order, greens in PLANS]
     yield from table(["Call"] + [name for name, _, _ in PLANS], zip(CALLS, *columns))
     yield ""
     yield from table(["Message, a plan of two phases running", "Octets in", "All its octets and its reply", "Its last octet"], of_messages())
     yield ""
-    yield from table(["Call", "Stack, with the red zone of 128", "By way of"], of_stack())
+    yield from table(["Call", "Limit", "Stack, with the red zone of 128", "By way of"], of_stack())

@@ -1,6 +1,7 @@
 // A host for measuring: it makes the calls that its input names, and nothing else. An event is two octets: 00 and an octet from
-// the line, 01 and any for a second, 02 and any for a line-idle call. Other numbers make the same calls from a second place, so
-// that in the compiled program each call is a function of its own, and can be counted.
+// the line, 01 and any for a second, 02 and any for a line-idle call, 03 or 04 and an address for a fresh start, with the new plan 0
+// or the old. Other numbers make the same calls from a second place, so that in the compiled program they are functions of their own,
+// and can be counted.
 use controller::OUTPUT_LEN;
 use controller::State;
 use libc::STDIN_FILENO;
@@ -34,13 +35,17 @@ fn event(s: State, kind: u8, b: u8, book: &mut [u8], out: &mut [u8]) -> State {
     match kind {
         0 => controller_calls::octet(s, book, out, b).state,
         1 => controller_calls::second(s, book).state,
-        2 => controller_calls::line_idle(s).state,
-        3 => controller_calls::octet(s, book, out, b / 2).state,
-        _ => idle_second(s, book),
+        2 | 3 | 4 => small(s, kind, b),
+        5 => controller_calls::octet(s, book, out, b / 2).state,
+        _ => controller_calls::second(small(s, b, b), book).state,
     }
 }
 
-fn idle_second(s: State, book: &[u8]) -> State {
-    let t = controller_calls::line_idle(s);
-    controller_calls::second(t.state, book).state
+// The calls that the compiler puts into whoever makes them: what they cost in stack is this function's.
+fn small(s: State, kind: u8, b: u8) -> State {
+    match kind {
+        2 => controller_calls::line_idle(s).state,
+        3 => controller_calls::fresh(b as u16).state,
+        _ => controller_calls::fresh_old(b as u16).state,
+    }
 }
