@@ -108,7 +108,7 @@ fn plan_stands(rec: &[u8]) -> bool
     let cycle = record::cycle(rec);
     let checks = [
         passes(layout::DIRECT, record::direct(rec) as u16),
-        record::count(rec) == diagram::phases(record::order(rec)),
+        record::count(rec) == diagram_calls::phases(record::order(rec)),
         greens_stand(rec, cycle),
         passes(layout::CYCLE, cycle),
         record::offset(rec) < cycle,
@@ -198,7 +198,7 @@ fn plan_fails(rec: &[u8], c: u16) -> bool
 {
     let k = record::count(rec);
     if c == 0 {
-        return k != diagram::phases(record::order(rec));
+        return k != diagram_calls::phases(record::order(rec));
     }
     if c <= k as u16 {
         return green_fails(rec, (c - 1) as u8);

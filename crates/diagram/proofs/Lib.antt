@@ -3,6 +3,5 @@ pub mod Known
 pub mod Rule
 pub mod Words
 pub mod Named
-pub mod Only
 pub mod Shown
 pub mod Crossing

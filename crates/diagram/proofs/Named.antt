@@ -3,7 +3,7 @@ use Prim.Native.Nat.{ℕ, zero, suc, _+_, _*_, _-_, _%_, _≤_, _<_}
 use mathlib.Core.Path.{_≡_, refl, sym, ap, subst, _∙_}
 use mathlib.Core.Bool.{Bool, true, false, not, _||_}
 use mathlib.Core.List.{List, [], _∷_}
-use native.Mathlib.Decide.{decLe, decLt}
+use native.Mathlib.Decide.{decLt}
 use native.Mathlib.Omega.{arith}
 use borrow.Author.Tests.{eq-eqb, ne-eqb, eqb-true, le-leb, lt-ltb, ltb-true, not-true}
 use lib.Dec.{eqb, leb, ltb}
@@ -18,7 +18,7 @@ use Rattle.diagram.specs.Known.{Step}
 use Rattle.diagram.specs.Lamps.{bit, lit, lampIn, greenManOf, redLit, yellowLit, greenLit, roundLit, straightLit, greenManLit}
 use Rattle.diagram.specs.Named.{placeOf, PlacesAsSaid, SomeApproach, VehiclesAlike, AsNamed, StepsAsNamed, Follows, StepsFollow, EndsRed, EachServed}
 use Rattle.diagram.proofs.Laws.{approachesInWord, lampsAnApproach, vehicleLamps, lastLamp, greenPlace, walkFlashPlace, redManPlace, yellowPlace, row-there}
-use Rattle.diagram.proofs.Known.{found-passes, outside-dark}
+use Rattle.diagram.proofs.Known.{found-passes}
 use Rattle.diagram.proofs.Rule.{rowIn}
 use Rattle.diagram.proofs.Words.{flashing-fits, bit-past}
 
@@ -252,15 +252,6 @@ places-as-said i j h l = omega arith
 
 pub steps-as-named : StepsAsNamed
 steps-as-named order step s = as-named order step s
-
--- at any step, there or not
-pub quiet-else : (order step : ℕ) → (step % stepsAPhase ≡ walkFlashPlace → ⊥) → flashingOf order step ≡ 0
-quiet-else order step ne = by (decLe 1 step) (decLe step (stepsIn (diagramOf order)))
-  where
-    by : Dec (1 ≤ step) → Dec (step ≤ stepsIn (diagramOf order)) → flashingOf order step ≡ 0
-    by (yes f) (yes l) = as-named order step (record { first = f; last = l }) .quiet (λ e. ne (omega (arith, e)))
-    by (yes f) (no g) = outside-dark order step (λ _ l. g l) .flashing
-    by (no z) _ = outside-dark order step (λ f _. z f) .flashing
 
 pub steps-follow : StepsFollow
 steps-follow order step a s n h = followed order step s a n h

@@ -1,7 +1,6 @@
 pub mod Row
 pub mod Rows
 pub mod Table
-pub mod Lines
 pub mod Known
 pub mod Lamps
 pub mod Named

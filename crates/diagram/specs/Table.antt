@@ -1,6 +1,5 @@
 -- 01, "Lamps and seconds": the step table, and the directory that says which of its rows are a phase order's.
 use Prim.Native.Nat.{ℕ, _+_, _*_, _-_}
-use mathlib.Core.Bool.{Bool}
 use mathlib.Core.List.{List, [], _∷_}
 use lib.Dec.{eqb, leb}
 use lib.ListN.{length, getD}
@@ -22,10 +21,6 @@ diagramOf order = find order directory
 
 abbrev pub phasesOf : ℕ → ℕ
 phasesOf order = diagramOf order .phases
-
--- one of the numbers from the least to the greatest
-abbrev pub inRange : ℕ → ℕ → ℕ → Bool
-inRange least v greatest = both (leb least v) (leb v greatest)
 
 abbrev pub approachesOf : ℕ → ℕ
 approachesOf order = diagramOf order .approaches

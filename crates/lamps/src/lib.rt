@@ -67,8 +67,8 @@ fn row_of(order: u8, step: u16, left: u16) -> Row
     Row {
         step,
         left,
-        steady: diagram::steady(order, step),
-        flashing: diagram::flashing(order, step),
+        steady: diagram_calls::steady(order, step),
+        flashing: diagram_calls::flashing(order, step),
     }
 }
 

@@ -165,7 +165,7 @@ pub fn passes(f: Field, v: u16) -> bool
             if 255 < v {
                 return false;
             }
-            1 <= diagram::phases(v as u8)
+            1 <= diagram_calls::phases(v as u8)
         }
     }
 }

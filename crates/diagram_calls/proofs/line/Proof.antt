@@ -1,12 +1,12 @@
--- `diagram::line` meets its contract: each arm's line is computed, and the last arm is the last line.
+-- `diagram_calls::line` meets its contract: each arm's line is computed, and the last arm is the last line.
 use Prim.Native.Nat.{ℕ, zero, suc, _*_, _≤_}
 use mathlib.Core.Path.{_≡_, ap}
 use native.Mathlib.Omega.{arith}
 use borrow.Author.Needs.{needs}
 use Rattle.diagram.specs.Rows.{lampRows}
-use Rattle.diagram.specs.Lines.{wordsOf, lineLen, lineWords}
-use Rattle.diagram.proofs.line.Statement.{statement}
-use Rattle.diagram.proofs.line.Tie as tie
+use Rattle.diagram_calls.specs.Lines.{wordsOf, lineLen, lineWords}
+use Rattle.diagram_calls.proofs.line.Statement.{statement}
+use Rattle.diagram_calls.proofs.line.Tie as tie
 
 is : (n : ℕ) {p : ℕ} → lineLen * p ≡ lineLen * n → n ≡ p
 is n e = omega (arith, e)

@@ -1,13 +1,13 @@
--- `diagram::flashing` meets its contract: but in the walk flash no lamp flashes, and there the code's words are those of the table.
+-- `diagram_calls::flashing` meets its contract: but in the walk flash no lamp flashes, and there the code's words are those of the table.
 use mathlib.Core.Path.{ap, sym, _∙_}
 use native.Mathlib.Omega.{arith}
 use borrow.Author.Needs.{needs}
 use Rattle.diagram.specs.Row.{LampRow}
 use Rattle.diagram.specs.Rows.{lampRows}
-use Rattle.diagram.proofs.Laws.{row-past, flashing-there}
-use Rattle.diagram.proofs.Named.{quiet-else}
-use Rattle.diagram.proofs.flashing.Statement.{statement}
-use Rattle.diagram.proofs.flashing.Tie as tie
+use Rattle.diagram.proofs.Laws.{row-past}
+use Rattle.diagram_calls.proofs.Laws.{flashing-there, quiet-else}
+use Rattle.diagram_calls.proofs.flashing.Statement.{statement}
+use Rattle.diagram_calls.proofs.flashing.Tie as tie
 
 returns : tie.Need-returns
 returns c = let a = c .before .args in sym (quiet-else (a .order) (a .step) (c .if1 .taken))

@@ -1,9 +1,9 @@
--- `diagram::first_row` meets its contract: the directory has the first rows that are due, and the tests are those of what is due.
+-- `diagram_calls::first_row` meets its contract: the directory has the first rows that are due, and the tests are those of what is due.
 use borrow.Author.Needs.{needs}
 use borrow.Author.Tests.{eq-eqb, ne-eqb, le-leb, lt-leb}
-use Rattle.diagram.proofs.Known.{firstDue, first-due}
-use Rattle.diagram.proofs.first_row.Statement.{statement}
-use Rattle.diagram.proofs.first_row.Tie as tie
+use Rattle.diagram_calls.proofs.Laws.{firstDue, first-due}
+use Rattle.diagram_calls.proofs.first_row.Statement.{statement}
+use Rattle.diagram_calls.proofs.first_row.Tie as tie
 
 returns : tie.Need-returns
 unfolding firstDue

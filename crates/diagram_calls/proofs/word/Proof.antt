@@ -1,8 +1,8 @@
--- `diagram::word` meets its contract: a word stands in its line.
+-- `diagram_calls::word` meets its contract: a word stands in its line.
 use borrow.Author.Needs.{needs}
-use Rattle.diagram.proofs.Laws.{line-at}
-use Rattle.diagram.proofs.word.Statement.{statement}
-use Rattle.diagram.proofs.word.Tie as tie
+use Rattle.diagram_calls.proofs.Laws.{line-at}
+use Rattle.diagram_calls.proofs.word.Statement.{statement}
+use Rattle.diagram_calls.proofs.word.Tie as tie
 
 returns : tie.Need-returns
 returns c = rw (c .line .ensures) (line-at (c .before .args .number))

@@ -1,8 +1,8 @@
 -- Any two results that a contract allows are equal.
 use mathlib.Core.Path.{_≡_, sym, _∙_}
-use Rattle.diagram.proofs.phases.Reads as phases
-use Rattle.diagram.proofs.steady.Reads as steady
-use Rattle.diagram.proofs.flashing.Reads as flashing
+use Rattle.diagram_calls.proofs.phases.Reads as phases
+use Rattle.diagram_calls.proofs.steady.Reads as steady
+use Rattle.diagram_calls.proofs.flashing.Reads as flashing
 
 only-phases : (κs : _) (a : _) (r s : _) (x y : _) → phases.Post κs a r x → phases.Post κs a s y → r ≡ s
 only-phases κs a r s x y p q = p ∙ sym q

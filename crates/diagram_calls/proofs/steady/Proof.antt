@@ -1,12 +1,13 @@
--- `diagram::steady` meets its contract: the code's words are those of the table, and past its end there is none.
+-- `diagram_calls::steady` meets its contract: the code's words are those of the table, and past its end there is none.
 use mathlib.Core.Path.{ap, sym, _∙_}
 use native.Mathlib.Omega.{arith}
 use borrow.Author.Needs.{needs}
 use Rattle.diagram.specs.Row.{LampRow}
 use Rattle.diagram.specs.Rows.{lampRows}
-use Rattle.diagram.proofs.Laws.{row-past, steady-there}
-use Rattle.diagram.proofs.steady.Statement.{statement}
-use Rattle.diagram.proofs.steady.Tie as tie
+use Rattle.diagram.proofs.Laws.{row-past}
+use Rattle.diagram_calls.proofs.Laws.{steady-there}
+use Rattle.diagram_calls.proofs.steady.Statement.{statement}
+use Rattle.diagram_calls.proofs.steady.Tie as tie
 
 returns : tie.Need-returns
 returns c = let a = c .before .before .before .args in c .word .ensures ∙ steady-there (a .order) (a .step) _ _ (c .before .before .row-number .ensures) (omega arith)

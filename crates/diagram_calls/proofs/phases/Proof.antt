@@ -1,10 +1,10 @@
--- `diagram::phases` meets its contract: the directory has the phases that are due, and the tests are those of what is due.
+-- `diagram_calls::phases` meets its contract: the directory has the phases that are due, and the tests are those of what is due.
 use mathlib.Core.Path.{sym, _∙_}
 use borrow.Author.Needs.{needs}
 use borrow.Author.Tests.{eq-eqb, ne-eqb}
 use Rattle.diagram.proofs.Known.{phasesDue, phases-due}
-use Rattle.diagram.proofs.phases.Statement.{statement}
-use Rattle.diagram.proofs.phases.Tie as tie
+use Rattle.diagram_calls.proofs.phases.Statement.{statement}
+use Rattle.diagram_calls.proofs.phases.Tie as tie
 
 returns : tie.Need-returns
 unfolding phasesDue

@@ -1,12 +1,12 @@
--- `diagram::row_number` meets its contract: one law for a step that is there, for step 0 and for a step past the last.
+-- `diagram_calls::row_number` meets its contract: one law for a step that is there, for step 0 and for a step past the last.
 use Prim.Native.Nat.{ℕ, _+_, _-_}
 use mathlib.Core.Path.{ap, sym, _∙_}
 use native.Mathlib.Omega.{arith}
 use borrow.Author.Needs.{needs}
 use Rattle.diagram.specs.Rows.{lampRows}
 use Rattle.diagram.proofs.Laws.{number-there, number-none, number-past}
-use Rattle.diagram.proofs.row_number.Statement.{statement}
-use Rattle.diagram.proofs.row_number.Tie as tie
+use Rattle.diagram_calls.proofs.row_number.Statement.{statement}
+use Rattle.diagram_calls.proofs.row_number.Tie as tie
 
 returns : tie.Need-returns
 unfolding lampRows
