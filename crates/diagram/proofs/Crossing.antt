@@ -5,7 +5,8 @@ use mathlib.Core.Bool.{Bool, true, not}
 use native.Mathlib.Omega.{arith}
 use borrow.Author.Tests.{not-true}
 use Rattle.octets.proofs.Every.{every, below, below-at}
-use Rattle.diagram.specs.Row.{LampRow, Diagram}
+use Rattle.diagram.specs.declared.LampRow.{LampRow}
+use Rattle.diagram.specs.Row.{Diagram}
 use Rattle.diagram.specs.Rows.{lampRows, directory}
 use Rattle.diagram.specs.Table.{diagramOf, stepsIn}
 use Rattle.diagram.specs.Lamps.{lit, greenLit}

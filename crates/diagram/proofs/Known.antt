@@ -10,7 +10,8 @@ use lib.Dec.{eqb, leb, ltb}
 use lib.ListN.{length, getD}
 use Rattle.octets.specs.Choice.{pick, both}
 use Rattle.octets.proofs.Every.{every, every-at, below, below-at, all, all-at}
-use Rattle.diagram.specs.Row.{LampRow, Diagram, diagram}
+use Rattle.diagram.specs.declared.LampRow.{LampRow}
+use Rattle.diagram.specs.Row.{Diagram, diagram}
 use Rattle.diagram.specs.Rows.{lampRows, directory}
 use Rattle.diagram.specs.Table.{unknown, find, diagramOf, phasesOf, stepsIn, stepsOf, rowNumber}
 use Rattle.diagram.specs.Known.{noLine, lineAt, Known, SupportedCodes, EachFound, KnownPhases, FiveSteps, EachUsed, AllDark, OutsideDark, Absent, UnknownDark}

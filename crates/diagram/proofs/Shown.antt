@@ -4,7 +4,8 @@ use mathlib.Core.Path.{_≡_, refl, ap, _∙_}
 use mathlib.Core.Bool.{true}
 use native.Mathlib.Omega.{arith}
 use Rattle.octets.proofs.Every.{below, below-at}
-use Rattle.diagram.specs.Row.{LampRow, Diagram, diagram}
+use Rattle.diagram.specs.declared.LampRow.{LampRow}
+use Rattle.diagram.specs.Row.{Diagram, diagram}
 use Rattle.diagram.specs.Rows.{lampRows, directory}
 use Rattle.diagram.specs.Table.{stepsAPhase, find, diagramOf, approachesOf, stepsOf}
 use Rattle.diagram.specs.Lamps.{bit}

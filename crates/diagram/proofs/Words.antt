@@ -12,7 +12,7 @@ use lib.ListN.{getD}
 use Rattle.octets.specs.Choice.{both}
 use Rattle.octets.proofs.Laws.{clash}
 use Rattle.octets.proofs.Every.{every, every-at, all, all-at, below, below-at}
-use Rattle.diagram.specs.Row.{LampRow}
+use Rattle.diagram.specs.declared.LampRow.{LampRow}
 use Rattle.diagram.specs.Rows.{lampRows}
 use Rattle.diagram.specs.Table.{darkRow, rowNumber, lampRowOf, steadyOf, flashingOf}
 use Rattle.diagram.specs.Lamps.{bit, lampIn, SteadyOrFlashing, WordsFit}

@@ -5,7 +5,7 @@ use mathlib.Core.Bool.{Bool, true, false, _||_}
 use mathlib.Core.Logic.{_⊎_}
 use mathlib.Core.List.{List, [], _∷_}
 use lib.Dec.{eqb}
-use Rattle.diagram.specs.Row.{LampRow}
+use Rattle.diagram.specs.declared.LampRow.{LampRow}
 use Rattle.diagram.specs.Table.{approachesOf, lampRowOf, steadyOf, flashingOf}
 use Rattle.diagram.specs.Known.{Step}
 

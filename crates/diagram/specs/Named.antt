@@ -2,7 +2,7 @@
 use Prim.Native.Nat.{ℕ, _+_, _*_, _-_, _%_, _≤_, _<_}
 use mathlib.Core.Path.{_≡_}
 use mathlib.Core.Bool.{Bool, true, false, _||_}
-use Rattle.diagram.specs.Row.{LampRow}
+use Rattle.diagram.specs.declared.LampRow.{LampRow}
 use Rattle.diagram.specs.Table.{stepsOf, lampRowOf, flashingOf}
 use Rattle.diagram.specs.Known.{Step}
 use Rattle.diagram.specs.Lamps.{lit, lampIn, greenManOf, redLit, yellowLit, greenLit, roundLit, straightLit, greenManLit, uses}

@@ -1,11 +1,8 @@
 -- A row of the table of lamp words, and a line of its directory.
 use Prim.Native.Nat.{ℕ}
+use Rattle.diagram.specs.declared.LampRow.{LampRow}
 
 -- "a 64-bit steady word and a flashing word"
-pub record LampRow : Type 0 where
-  pub steady : ℕ
-  pub flashing : ℕ
-
 abbrev pub row : ℕ → ℕ → LampRow
 row s f = record { steady = s; flashing = f }
 

@@ -1,7 +1,8 @@
 -- The table of lamp words and its directory, made by diagrams/make from Appendix 2 of source document 004; docs/DIAGRAMS.md
 -- lists the diagrams and every mend.
 use mathlib.Core.List.{List, [], _∷_}
-use Rattle.diagram.specs.Row.{LampRow, row, Diagram, diagram}
+use Rattle.diagram.specs.declared.LampRow.{LampRow}
+use Rattle.diagram.specs.Row.{row, Diagram, diagram}
 
 -- each step's steady and flashing word, the diagrams one after another
 unfoldable pub lampRows : List LampRow

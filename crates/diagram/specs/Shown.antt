@@ -3,7 +3,8 @@ use Prim.Native.Nat.{ℕ, _+_, _*_, _-_, _≤_, _<_}
 use mathlib.Core.Path.{_≡_}
 use mathlib.Core.Bool.{true, false}
 use lib.ListN.{length, getD}
-use Rattle.diagram.specs.Row.{LampRow, row}
+use Rattle.diagram.specs.declared.LampRow.{LampRow}
+use Rattle.diagram.specs.Row.{row}
 use Rattle.diagram.specs.Rows.{lampRows}
 use Rattle.diagram.specs.Table.{phasesOf, rowNumber, lampRowOf, steadyOf, flashingOf}
 use Rattle.diagram.specs.Known.{Step}

@@ -4,7 +4,8 @@ use mathlib.Core.List.{List, [], _∷_}
 use lib.Dec.{eqb, leb}
 use lib.ListN.{length, getD}
 use Rattle.octets.specs.Choice.{pick, both}
-use Rattle.diagram.specs.Row.{LampRow, row, Diagram, diagram}
+use Rattle.diagram.specs.declared.LampRow.{LampRow}
+use Rattle.diagram.specs.Row.{row, Diagram, diagram}
 use Rattle.diagram.specs.Rows.{lampRows, directory}
 
 -- an order that is not there has no phases and no approaches

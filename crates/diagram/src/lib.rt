@@ -4,3 +4,9 @@
 
 // The steps of a phase: green, walk flash, red man, yellow, all-red.
 pub const STEPS_A_PHASE: u16 = 5;
+
+// What a step shows: "a 64-bit steady word and a flashing word".
+pub struct LampRow {
+    pub steady: u64,
+    pub flashing: u64,
+}

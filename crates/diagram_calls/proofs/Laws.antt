@@ -1,10 +1,8 @@
--- What the functions rest on: where a word stands in the code's lines, that no lamp flashes but in a walk flash, and the first row
--- of each order.
-use Prim.Native.Nat.{ℕ, zero, suc, _+_, _*_, _-_, _/_, _%_, _≤_}
+-- What the functions rest on: where the words of a row stand in the code's lines, and the first row of each order.
+use Prim.Native.Nat.{ℕ, zero, suc, _+_, _*_, _-_, _/_, _%_, _≤_, _<_}
 use mathlib.Core.Path.{_≡_, refl, ap, _∙_}
 use mathlib.Core.Bool.{true}
 use mathlib.Core.List.{List, [], _∷_}
-use native.Mathlib.Decide.{decLe}
 use native.Mathlib.Omega.{arith}
 use borrow.Author.Tests.{eqb-true}
 use lib.Dec.{eqb, leb}
@@ -12,25 +10,19 @@ use lib.ListN.{getD, drop}
 use lib.Seq.{getD-take, getD-drop}
 use Rattle.octets.specs.Choice.{pick}
 use Rattle.octets.proofs.Every.{every, every-at}
-use Rattle.diagram.specs.Row.{LampRow}
+use Rattle.diagram.specs.declared.LampRow.{LampRow}
 use Rattle.diagram.specs.Rows.{lampRows, directory}
-use Rattle.diagram.specs.Table.{diagramOf, phasesOf, stepsAPhase, stepsOf, rowNumber, darkRow, lampRowOf, flashingOf}
+use Rattle.diagram.specs.Table.{diagramOf, phasesOf, darkRow}
 use Rattle.diagram.specs.Known.{noLine, lineAt}
-use Rattle.diagram.proofs.Laws.{walkFlashPlace}
-use Rattle.diagram.proofs.Known.{outside-dark, phases-known, each-found}
-use Rattle.diagram.proofs.Named.{steps-as-named}
-use Rattle.diagram_calls.specs.Lines.{wordsOf, words, lineLen, lineWords}
+use Rattle.diagram.proofs.Known.{phases-known, each-found}
+use Rattle.diagram_calls.specs.Lines.{wordsOf, words, rowsALine, lineLen, lineWords, pairAt}
 
 -- Words
 
 -- a word, by the line that it stands in
-pub line-at : (n : ℕ) → getD (lineWords (n / lineLen)) (n % lineLen) 0 ≡ getD words n 0
+word-in : (p at n : ℕ) → at < lineLen → lineLen * p + at ≡ n → getD (lineWords p) at 0 ≡ getD words n 0
 unfolding lineWords
-line-at n =
-    let at : lineLen * (n / lineLen) + n % lineLen ≡ n = omega arith in
-    getD-take lineLen (drop (lineLen * (n / lineLen)) words) (n % lineLen) 0 (omega arith)
-    ∙ getD-drop (lineLen * (n / lineLen)) words (n % lineLen) 0
-    ∙ ap (λ (m : ℕ). getD words m 0) at
+word-in p at n h e = getD-take lineLen (drop (lineLen * p) words) at 0 h ∙ getD-drop (lineLen * p) words at 0 ∙ ap (λ (m : ℕ). getD words m 0) e
 
 -- the two words of a row
 words-at : (rs : List LampRow) (n : ℕ) → (getD (wordsOf rs) (2 * n) 0 ≡ getD rs n darkRow .steady) × (getD (wordsOf rs) (2 * n + 1) 0 ≡ getD rs n darkRow .flashing)
@@ -42,25 +34,11 @@ words-at (r ∷ rs) (suc n) =
     let o : 2 * suc n + 1 ≡ suc (suc (2 * n + 1)) = omega arith in
     rw (o, e) (words-at rs n)
 
-module _ (order step n m : ℕ) (e : n ≡ rowNumber order step) where
-  pub steady-there : m ≡ 2 * n → getD words m 0 ≡ lampRowOf order step .steady
-  unfolding lampRowOf
-  steady-there h = rw (h, e) (words-at lampRows (rowNumber order step) .0)
-
-  pub flashing-there : m ≡ 2 * n + 1 → getD words m 0 ≡ lampRowOf order step .flashing
-  unfolding lampRowOf
-  flashing-there h = rw (h, e) (words-at lampRows (rowNumber order step) .1)
-
--- Flashing lamps
-
--- at any step, there or not
-pub quiet-else : (order step : ℕ) → (step % stepsAPhase ≡ walkFlashPlace → ⊥) → flashingOf order step ≡ 0
-quiet-else order step ne = by (decLe 1 step) (decLe step (stepsOf order))
-  where
-    by : Dec (1 ≤ step) → Dec (step ≤ stepsOf order) → flashingOf order step ≡ 0
-    by (yes f) (yes l) = steps-as-named order step (record { first = f; last = l }) .quiet (λ e. ne (omega (arith, e)))
-    by (yes f) (no g) = outside-dark order step (λ _ l. g l) .flashing
-    by (no z) _ = outside-dark order step (λ f _. z f) .flashing
+-- a row, by the line that its words stand in
+pub pair-row : (n p : ℕ) → n / rowsALine ≡ p → pairAt (lineWords p) (2 * (n % rowsALine)) ≡ getD lampRows n darkRow
+pair-row n p e =
+    let at = 2 * (n % rowsALine) in
+    rw (word-in p at (2 * n) (omega arith) (omega arith), word-in p (at + 1) (2 * n + 1) (omega arith) (omega arith), words-at lampRows n .0, words-at lampRows n .1)
 
 -- First rows
 

@@ -1,27 +1,29 @@
 // 01, "Lamps and seconds": the step table. The lamp words of all diagrams stand in one table, row by row; for each phase order
 // there are its phases and its first row.
 ghost use mathlib.Core.Path.{_≡_};
-ghost use Prim.Native.Nat.{_≤_, _<_};
+ghost use Prim.Native.Nat.{_+_, _≤_, _<_};
 ghost use lib.Dec.{leb};
 ghost use lib.ListN.{getD};
 ghost use Rattle.octets.specs.Choice.{both};
-ghost use Rattle.diagram.specs.Table.{diagramOf, phasesOf, stepsOf, rowNumber, steadyOf, flashingOf};
-ghost use Rattle.diagram_calls.specs.Lines.{words, lineWords};
+ghost use Rattle.diagram.specs.Rows.{lampRows};
+ghost use Rattle.diagram.specs.Table.{diagramOf, phasesOf, stepsOf, rowNumber, darkRow, lampRowOf};
+ghost use Rattle.diagram_calls.specs.Lines.{pairAt};
 
 mod rows;
 
 use crate::rows::LINE_LEN;
 use crate::rows::ROWS;
 use crate::rows::TABLE;
+use diagram::LampRow;
 use diagram::STEPS_A_PHASE;
 
-// The step of the walk flash in each phase.
-const WALK_FLASH: u16 = 2;
+// Where there is no row.
+const DARK: LampRow = LampRow {
+    steady: 0,
+    flashing: 0,
+};
 
-// Which of a row's two words.
-const STEADY: usize = 0;
-
-const FLASHING: usize = 1;
+const ROWS_A_LINE: usize = LINE_LEN / 2;
 
 // The phases of an order; 0 where it is unknown. Each call asks for them while a plan of the book runs, so no table is read.
 pub fn phases(order: u8) -> u8
@@ -88,73 +90,67 @@ fn row_number(order: u8, step: u16) -> usize
     first_row(order) as usize + (step - 1) as usize
 }
 
-// A line of the table. Each is named by a number of its own, so that the program holds the lines as they are and builds no table;
-// and it is told by its first word, since by numbers without a gap the compiler would put the line together from all its columns.
-fn line(p: usize) -> [u32; LINE_LEN]
-    requires { ⌜ p < 24 ⌝ }
-    ensures { λ r. ⌜ r ≡ lineWords p ⌝ }
+fn wide(word: u32) -> u64
+    ensures { λ r. ⌜ r ≡ word ⌝ }
+{
+    word as u64
+}
+
+// The two words that stand in a line from a place on.
+fn pair_at(line: [u32; LINE_LEN], at: usize) -> LampRow
+    requires { ⌜ at + 1 < 40 ⌝ }
+    ensures { λ r. ⌜ r ≡ pairAt line at ⌝ }
+{
+    LampRow {
+        steady: wide(line[at]),
+        flashing: wide(line[at + 1]),
+    }
+}
+
+// The row of this number, from 0. Each line is named by a number of its own and read where it is named, so that the program
+// builds the one line and no table.
+fn table_row(number: usize) -> LampRow
+    requires { ⌜ number < 480 ⌝ }
+    ensures { λ r. ⌜ r ≡ getD lampRows number darkRow ⌝ }
 {
     let t = TABLE;
-    let first = LINE_LEN * p;
-    match first {
-        0 => t[0],
-        40 => t[1],
-        80 => t[2],
-        120 => t[3],
-        160 => t[4],
-        200 => t[5],
-        240 => t[6],
-        280 => t[7],
-        320 => t[8],
-        360 => t[9],
-        400 => t[10],
-        440 => t[11],
-        480 => t[12],
-        520 => t[13],
-        560 => t[14],
-        600 => t[15],
-        640 => t[16],
-        680 => t[17],
-        720 => t[18],
-        760 => t[19],
-        800 => t[20],
-        840 => t[21],
-        880 => t[22],
-        _ => t[23],
+    let line = number / ROWS_A_LINE;
+    let at = 2 * (number % ROWS_A_LINE);
+    match line {
+        0 => pair_at(t[0], at),
+        1 => pair_at(t[1], at),
+        2 => pair_at(t[2], at),
+        3 => pair_at(t[3], at),
+        4 => pair_at(t[4], at),
+        5 => pair_at(t[5], at),
+        6 => pair_at(t[6], at),
+        7 => pair_at(t[7], at),
+        8 => pair_at(t[8], at),
+        9 => pair_at(t[9], at),
+        10 => pair_at(t[10], at),
+        11 => pair_at(t[11], at),
+        12 => pair_at(t[12], at),
+        13 => pair_at(t[13], at),
+        14 => pair_at(t[14], at),
+        15 => pair_at(t[15], at),
+        16 => pair_at(t[16], at),
+        17 => pair_at(t[17], at),
+        18 => pair_at(t[18], at),
+        19 => pair_at(t[19], at),
+        20 => pair_at(t[20], at),
+        21 => pair_at(t[21], at),
+        22 => pair_at(t[22], at),
+        _ => pair_at(t[23], at),
     }
 }
 
-// The word of this number, from 0.
-fn word(number: usize) -> u32
-    requires { ⌜ number < 960 ⌝ }
-    ensures { λ r. ⌜ r ≡ getD words number 0 ⌝ }
+// The lamps of a step, the first step being 1; none where there is no such step.
+pub fn lamp_row(order: u8, step: u16) -> LampRow
+    ensures { λ r. ⌜ r ≡ lampRowOf order step ⌝ }
 {
-    let words = line(number / LINE_LEN);
-    let at = number % LINE_LEN;
-    words[at]
-}
-
-// The steady lamps of a step, the first step being 1; none where there is no such step.
-pub fn steady(order: u8, step: u16) -> u64
-    ensures { λ r. ⌜ r ≡ steadyOf order step ⌝ }
-{
-    let row = row_number(order, step);
-    if row < ROWS {
-        return word(2 * row + STEADY) as u64;
+    let number = row_number(order, step);
+    if number < ROWS {
+        return table_row(number);
     }
-    0
-}
-
-// The flashing lamps of a step, the first step being 1; none where there is no such step, and none but in the walk flash.
-pub fn flashing(order: u8, step: u16) -> u64
-    ensures { λ r. ⌜ r ≡ flashingOf order step ⌝ }
-{
-    if step % STEPS_A_PHASE != WALK_FLASH {
-        return 0;
-    }
-    let row = row_number(order, step);
-    if row < ROWS {
-        return word(2 * row + FLASHING) as u64;
-    }
-    0
+    DARK
 }

@@ -64,11 +64,12 @@ fn wide(seconds: u16) -> u32
 fn row_of(order: u8, step: u16, left: u16) -> Row
     ensures { λ r. ⌜ r ≡ rowOf order step left ⌝ }
 {
+    let lamps = diagram_calls::lamp_row(order, step);
     Row {
         step,
         left,
-        steady: diagram_calls::steady(order, step),
-        flashing: diagram_calls::flashing(order, step),
+        steady: lamps.steady,
+        flashing: lamps.flashing,
     }
 }
 

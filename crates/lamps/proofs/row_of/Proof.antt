@@ -4,7 +4,7 @@ use Rattle.lamps.proofs.row_of.Statement.{statement}
 use Rattle.lamps.proofs.row_of.Tie as tie
 
 returns : tie.Need-returns
-returns c = rw (c .flashing .ensures, c .before .steady .ensures)
+returns c = rw (c .lamp-row .ensures)
 
 pub row-of-spec : {M : Type 1} → statement M
-row-of-spec = tie.close (tie.spec (λ c κs. search needs) (λ c κs. search needs) returns)
+row-of-spec = tie.close (tie.spec (λ c κs. search needs) returns)
