@@ -12,9 +12,9 @@ pub const BOOK_LEN: usize = RECORD_LEN * PLANS_MOST as usize;
 pub const HEAD_LEN: usize = 2;
 
 // The octets of a phase's times, and of its green.
-const TIMES_LEN: usize = 7;
+pub const TIMES_LEN: usize = 7;
 
-const GREEN_LEN: usize = 2;
+pub const GREEN_LEN: usize = 2;
 
 // The states of a record; octets that are none read as empty.
 pub const EMPTY: u8 = 0;
@@ -49,22 +49,22 @@ pub fn count(rec: &[u8]) -> u8
 }
 
 // Where each of a phase's times stands among them.
-const MAXIMUM: usize = 1;
+pub const MAXIMUM: usize = 1;
 
-const YELLOW: usize = 3;
+pub const YELLOW: usize = 3;
 
-const ALL_RED: usize = 4;
+pub const ALL_RED: usize = 4;
 
-const WALK_FLASH: usize = 5;
+pub const WALK_FLASH: usize = 5;
 
-const RED_MAN: usize = 6;
+pub const RED_MAN: usize = 6;
 
 // Direct and order, before the greens; the cycle's octets, between the greens and the offset.
-const ORDER: usize = 1;
+pub const ORDER: usize = 1;
 
-const DIRECT_ORDER_LEN: usize = 2;
+pub const DIRECT_ORDER_LEN: usize = 2;
 
-const CYCLE_LEN: usize = 2;
+pub const CYCLE_LEN: usize = 2;
 
 const OFFSET_LEN: usize = 2;
 
