@@ -13,19 +13,23 @@ use Rattle.lamps.specs.declared.Row.{Row}
 
 -- Seconds
 
--- "green less walk flash less red man": a difference is never below 0 here. Phases are counted from 0, as in a record.
-abbrev pub greenLess : List ℕ → ℕ → ℕ
-greenLess rec i = greenOf rec i - walkFlashOf rec i - redManOf rec i
+-- "green less walk flash less red man": a difference is never below 0 here
+abbrev pub greenLess : ℕ → ℕ → ℕ → ℕ
+greenLess green walkFlash redMan = green - walkFlash - redMan
 
--- "Step", "Seconds": the five steps of phase i
-unfoldable pub phaseTable : List ℕ → ℕ → List ℕ
-phaseTable rec i =
-    greenLess rec i  -- 1
-    ∷ walkFlashOf rec i  -- 2
-    ∷ redManOf rec i  -- 3
-    ∷ yellowOf rec i  -- 4
-    ∷ allRedOf rec i  -- 5
+-- "Step", "Seconds": the five steps of a phase with these times
+abbrev pub tableOf : ℕ → ℕ → ℕ → ℕ → ℕ → List ℕ
+tableOf green walkFlash redMan yellow allRed =
+    greenLess green walkFlash redMan  -- 1
+    ∷ walkFlash  -- 2
+    ∷ redMan  -- 3
+    ∷ yellow  -- 4
+    ∷ allRed  -- 5
     ∷ []
+
+-- those of phase i; phases are counted from 0, as in a record
+unfoldable pub phaseTable : List ℕ → ℕ → List ℕ
+phaseTable rec i = tableOf (greenOf rec i) (walkFlashOf rec i) (redManOf rec i) (yellowOf rec i) (allRedOf rec i)
 
 -- the seconds of all five
 abbrev pub tableSum : List ℕ → ℕ

@@ -1,9 +1,16 @@
 // 01, "Lamps and seconds": the seconds of a step, and what each second of a plan's cycle shows.
 ghost use mathlib.Core.Path.{_≡_};
-ghost use Prim.Native.Nat.{_-_, _<_};
-ghost use lib.ListN.{getD};
-ghost use Rattle.record.specs.Record.{kOf};
-ghost use Rattle.lamps.specs.Rows.{greenLess, phaseTable, tableSum, rowOf, phaseRows, noRow, rowAt};
+ghost use Prim.Native.Nat.{_-_, _≤_, _<_};
+ghost use lib.ListN.{length, getD};
+ghost use Rattle.record.specs.Record.{kOf, readyEnd};
+ghost use Rattle.lamps.specs.Rows.{greenLess, tableOf, phaseTable, tableSum, rowOf, phaseRows, noRow, rowAt};
+use record::ALL_RED;
+use record::GREEN_LEN;
+use record::HEAD_LEN;
+use record::RED_MAN;
+use record::TIMES_LEN;
+use record::WALK_FLASH;
+use record::YELLOW;
 
 // One second of a cycle: its step, the seconds left in the step with this one counted, and the lamps.
 pub struct Row {
@@ -27,24 +34,57 @@ fn less(a: u16, b: u8) -> u16
 }
 
 // "green less walk flash less red man", and never below 0.
-fn green_less(rec: &[u8], i: u8) -> u16
-    ensures { λ r. ⌜ r ≡ greenLess (now (rec .entry)) i ⌝ }
+fn green_less(green: u16, flash: u8, man: u8) -> u16
+    ensures { λ r. ⌜ r ≡ greenLess green flash man ⌝ }
 {
-    let green = record::green(rec, i);
-    let flash = record::walk_flash(rec, i);
-    less(less(green, flash), record::red_man(rec, i))
+    less(less(green, flash), man)
 }
 
-// The seconds of the five steps of a phase.
-fn phase_table(rec: &[u8], i: u8) -> [u16; STEPS]
+// The seconds of a phase's five steps, from its green, walk flash, red man, yellow and all-red.
+fn table_of(green: u16, flash: u8, man: u8, yellow: u8, red: u8) -> [u16; STEPS]
+    ensures { λ r. ⌜ r ≡ tableOf green flash man yellow red ⌝ }
+{
+    let before_flash = green_less(green, flash, man);
+    [
+        before_flash,
+        flash as u16,
+        man as u16,
+        yellow as u16,
+        red as u16,
+    ]
+}
+
+// Those of a phase whose octets are all there, as a running plan's are: each is read once, and none is asked for first.
+fn table_in(rec: &[u8], i: u8) -> [u16; STEPS]
+    requires { ⌜ (i < kOf (now rec)) × (readyEnd (now rec) ≤ length (now rec)) ⌝ }
     ensures { λ r. ⌜ r ≡ phaseTable (now (rec .entry)) i ⌝ }
 {
-    let before_flash = green_less(rec, i);
-    let walk_flash = record::walk_flash(rec, i) as u16;
-    let red_man = record::red_man(rec, i) as u16;
-    let yellow = record::yellow(rec, i) as u16;
-    let all_red = record::all_red(rec, i) as u16;
-    [before_flash, walk_flash, red_man, yellow, all_red]
+    let times = HEAD_LEN + TIMES_LEN * i as usize;
+    let green = record::greens_at(rec) + GREEN_LEN * i as usize;
+    table_of(
+        octets::word(rec[green], rec[green + 1]),
+        rec[times + WALK_FLASH],
+        rec[times + RED_MAN],
+        rec[times + YELLOW],
+        rec[times + ALL_RED],
+    )
+}
+
+// Those of a phase of any octets, of which some may not be there.
+fn phase_table(rec: &[u8], i: u8) -> [u16; STEPS]
+    requires { ⌜ i < kOf (now rec) ⌝ }
+    ensures { λ r. ⌜ r ≡ phaseTable (now (rec .entry)) i ⌝ }
+{
+    if record::ready_end(rec) <= rec.len() {
+        return table_in(rec, i);
+    }
+    table_of(
+        record::green(rec, i),
+        record::walk_flash(rec, i),
+        record::red_man(rec, i),
+        record::yellow(rec, i),
+        record::all_red(rec, i),
+    )
 }
 
 // Their sum, which may be past the greatest that 16 bits hold.

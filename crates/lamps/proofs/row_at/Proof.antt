@@ -1,5 +1,5 @@
 -- `lamps::row_at` meets its contract: what is left of the phases shows at what is left of the position what the whole shows there.
-use Prim.Native.Nat.{ℕ, _-_, _≤_}
+use Prim.Native.Nat.{_-_, _≤_}
 use mathlib.Core.Path.{_≡_, ap, _∙_}
 use native.Mathlib.Omega.{arith}
 use borrow.Author.Needs.{needs}
