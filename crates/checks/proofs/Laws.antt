@@ -1,38 +1,17 @@
 -- What follows from the definitions of specs/: one law for each way through.
-use Prim.Native.Nat.{ℕ, _+_, _-_, _≤_, _<_}
+use Prim.Native.Nat.{ℕ, _+_, _≤_, _<_}
 use mathlib.Core.Path.{_≡_, refl, sym, ap, _∙_}
-use mathlib.Core.Bool.{Bool, true, false, not}
+use mathlib.Core.Bool.{Bool, true, false}
 use mathlib.Core.List.{List}
-use native.Mathlib.Numerals.{add-one}
 use native.Mathlib.Decide.{decLt}
 use native.Mathlib.Omega.{arith}
 use borrow.Author.Tests.{eq-eqb, ne-eqb, le-leb, lt-leb}
-use lib.Dec.{eqb, leb}
+use lib.Dec.{leb}
 use lib.ListN.{length, drop, getD, drop-of-length-le}
-use lib.Seq.{drop-cons}
 use Rattle.octets.specs.Choice.{pick, both}
 use Rattle.octets.proofs.Laws.{drop-next}
-use Rattle.diagram.specs.Table.{phasesOf}
-use Rattle.record.specs.Record.{recordLen, empty, timesSet, ready, stateOf, kOf, timesEnd, readyEnd, orderOf, cycleOf, offsetOf, sumOf}
-use Rattle.checks.specs.Standing.{greenFails, planFails, timesStand, planStands, readyStands, allZero, every, standingOf}
-
--- The checks
-
-module _ (rec : List ℕ) (c : ℕ) {k : ℕ} (ek : k ≡ kOf rec) where
-  pub fails-count : c ≡ 0 → {n : ℕ} → n ≡ phasesOf (orderOf rec) → not (eqb k n) ≡ planFails rec c
-  fails-count z e = rw (eq-eqb c 0 z, ek, e)
-
-  pub fails-green : (c ≡ 0 → ⊥) → c ≤ k → {t : Bool} → t ≡ greenFails rec (c - 1) → t ≡ planFails rec c
-  fails-green n h e = let h′ : c ≤ kOf rec = omega arith in rw (ne-eqb c 0 n, le-leb c (kOf rec) h′) e
-
-  pub fails-cycle : c ≡ k + 1 → {a b : ℕ} → a ≡ cycleOf rec → b ≡ sumOf rec (kOf rec) → not (eqb a b) ≡ planFails rec c
-  fails-cycle e ea eb =
-      let n : c ≡ 0 → ⊥ = λ z. omega arith in
-      let l : k < c = omega arith in
-      rw (ne-eqb c 0 n, ea, eb, ← ek, lt-leb c k l, eq-eqb c (k + 1) e)
-
-  pub fails-offset : k < c → (c ≡ k + 1 → ⊥) → {a b : ℕ} → a ≡ cycleOf rec → b ≡ offsetOf rec → leb a b ≡ planFails rec c
-  fails-offset l n ea eb = let z : c ≡ 0 → ⊥ = λ z. omega arith in rw (ne-eqb c 0 z, ea, eb, ← ek, lt-leb c k l, ne-eqb c (k + 1) n)
+use Rattle.record.specs.Record.{recordLen, empty, timesSet, ready, stateOf, timesEnd, readyEnd}
+use Rattle.checks.specs.Standing.{timesStand, planStands, readyStands, allZero, standingOf}
 
 -- Every octet is looked at: what was found so far, and what the rest says
 
@@ -102,21 +81,6 @@ module _ (rec : List ℕ) (at : ℕ) where
       by : Dec (i < at) → leb end at ≡ allZero (drop at rec)
       by (yes m) = le-leb end at (omega arith) ∙ zero-ends rec at (omega arith)
       by (no m) = sym (both-all (leb end at)) ∙ (ap (both (leb end at)) (zero-ends rec i h ∙ sym (here i (omega arith))) ∙ e)
-
--- All checks
-
-module _ (bs : List Bool) (i : ℕ) where
-  pub every-stops : i < length bs → getD bs i false ≡ false → false ≡ every (drop i bs)
-  unfolding every
-  every-stops h e = rw (drop-cons bs i false h, e)
-
-  pub every-goes : i < length bs → getD bs i false ≡ true → every (drop (i + 1) bs) ≡ every (drop i bs)
-  unfolding every
-  every-goes h e = rw (add-one i, drop-cons bs i false h, e)
-
-  pub every-ends : length bs ≤ i → true ≡ every (drop i bs)
-  unfolding every
-  every-ends h = rw (drop-of-length-le bs h)
 
 -- The parts of a record
 

@@ -27,7 +27,6 @@ use Rattle.message.proofs.Values.{size-append, size-repeated}
 use Rattle.record.specs.Record.{recordLen, empty, timesSet, ready, stateOf, kOf, timesAt, timesEnd, readyEnd, greensAt, minimumOf, maximumOf, walkFlashOf, redManOf, directOf, orderOf, greenOf, cycleOf, offsetOf, sumOf, Within, AllTimesFit, ZeroFrom, GreensFit, TimesSet, Ready}
 use Rattle.checks.specs.Standing.{headLen, between, timesFail, timesChecks, timesDisagree, greenFails, planFails, planChecks, planDisagree, ranged, timesStand, planStands, readyStands, allZero, standingOf, StandsAsItIs}
 use Rattle.record.proofs.Laws.{octet-below}
-use Rattle.checks.proofs.Laws.{fails-green, fails-cycle, fails-offset}
 use Rattle.checks.proofs.Fields.{Pass, Read1, read-pass, pass-read, pass-whole, pass-part, pass-repeated, repeated-pass, phase-in, phase-out, greens-in, greens-out, at-one, within, inside}
 
 -- The agreement of the times
@@ -87,15 +86,14 @@ module _ (rec : List ℕ) where
   within-green i w = rw (le-ltb (greenOf rec i) (minimumOf rec i) (w .least), le-ltb (maximumOf rec i) (greenOf rec i) (w .most))
 
   pub check-green : (i : ℕ) → i < kOf rec → planFails rec (i + 1) ≡ greenFails rec i
-  check-green i l =
-      let e : i + 1 - 1 ≡ i = omega arith in
-      sym (fails-green rec (i + 1) refl (λ z. absurd (omega arith)) (omega arith) (ap (greenFails rec) (sym e)))
+  check-green i l = let e : i + 1 - 1 ≡ i = omega arith in rw (ne-eqb (i + 1) 0 (λ z. omega arith), le-leb (i + 1) (kOf rec) (omega arith), e)
 
   pub check-cycle : planFails rec (kOf rec + 1) ≡ not (eqb (cycleOf rec) (sumOf rec (kOf rec)))
-  check-cycle = sym (fails-cycle rec (kOf rec + 1) refl refl refl refl)
+  check-cycle = rw (ne-eqb (kOf rec + 1) 0 (λ z. omega arith), lt-leb (kOf rec + 1) (kOf rec) (omega arith), eq-eqb (kOf rec + 1) (kOf rec + 1) refl)
 
   pub check-offset : planFails rec (kOf rec + 2) ≡ leb (cycleOf rec) (offsetOf rec)
-  check-offset = sym (fails-offset rec (kOf rec + 2) refl (omega arith) (λ z. absurd (omega arith)) refl refl)
+  check-offset =
+      rw (ne-eqb (kOf rec + 2) 0 (λ z. omega arith), lt-leb (kOf rec + 2) (kOf rec) (omega arith), ne-eqb (kOf rec + 2) (kOf rec + 1) (λ z. omega arith))
 
   pub record PlanAgrees : Type 0 where
     pub count : kOf rec ≡ phasesOf (orderOf rec)

@@ -76,10 +76,6 @@ unfoldable pub readyStands : List ℕ → Bool
 readyStands rec = both (planStands rec) (allZero (drop (readyEnd rec) rec))
 
 -- The code judges check by check instead of reading the parts: it is told by a test whether what is said of the record holds.
-unfoldable pub every : List Bool → Bool
-every [] = true
-every (b ∷ bs) = both b (every bs)
-
 pub record Tells (t : Bool) (P : Type 0) : Type 0 where
   pub holds : t ≡ true → P
   pub told : P → t ≡ true

@@ -1,25 +1,41 @@
 // 01, "Plan book": how a record stands. "Octets that are not such a record, checks included, read as empty."
 ghost use mathlib.Core.Path.{_≡_};
-ghost use Prim.Native.Nat.{_≤_, _<_};
+ghost use mathlib.Core.Bool.{true};
+ghost use Prim.Native.Nat.{_+_, _≤_, _<_};
+ghost use lib.Dec.{leb, ltb};
 ghost use lib.ListN.{length, drop};
 ghost use Rattle.octets.specs.Choice.{pick};
-ghost use Rattle.octets.specs.First.{firstOf};
-ghost use Rattle.record.specs.Record.{recordLen, kOf, sumOf, phaseSeconds, empty, TimesFit, AllTimesFit, GreensWithin};
-ghost use Rattle.checks.specs.Standing.{timesFail, timesDisagree, greenFails, planFails, planDisagree, timesStand, planStands, readyStands, allZero, every, Tells, standingOf};
+ghost use Rattle.message.specs.Fields.{passes};
+ghost use Rattle.record.specs.Record.{recordLen, wordAt, empty, TimesFit, AllTimesFit};
+ghost use Rattle.checks.specs.Standing.{timesDisagree, planDisagree, timesStand, planStands, readyStands, allZero, Tells, standingOf};
 use message::layout;
+use message::layout::Field;
+use message::layout::K_MOST;
 use message_calls::layout::passes;
+use record::ALL_RED;
+use record::CYCLE_LEN;
+use record::DIRECT_ORDER_LEN;
+use record::GREEN_LEN;
+use record::HEAD_LEN;
+use record::MAXIMUM;
+use record::ORDER;
+use record::RECORD_LEN;
+use record::RED_MAN;
+use record::TIMES_LEN;
+use record::WALK_FLASH;
+use record::YELLOW;
 
 // How the octets stand: empty, times set or ready.
 pub fn standing(rec: &[u8]) -> u8
     ensures { λ r. ⌜ r ≡ standingOf (now (rec .entry)) ⌝ }
 {
-    if rec.len() != record::RECORD_LEN {
+    if rec.len() != RECORD_LEN {
         return record::EMPTY;
     }
     if !times_stand(rec) {
         return record::EMPTY;
     }
-    let state = record::octet_at(rec, 0);
+    let state = rec[record::STATE];
     if state == record::TIMES_SET {
         return stands_if(zero_from(rec, record::times_end(rec)), record::TIMES_SET);
     }
@@ -52,7 +68,7 @@ fn zero_from(rec: &[u8], at: usize) -> bool
     requires { ⌜ length (now rec) ≡ recordLen ⌝ }
     ensures { λ r. ⌜ r ≡ allZero (drop at (now (rec .entry))) ⌝ }
 {
-    let n = record::RECORD_LEN as u8;
+    let n = RECORD_LEN as u8;
     let mut end: u8 = 0;
     for i in 0..n {
         if rec[i as usize] != 0 {
@@ -68,7 +84,7 @@ fn times_stand(rec: &[u8]) -> bool
     ensures { λ r. ⌜ r ≡ timesStand (now (rec .entry)) ⌝ }
 {
     let k = record::count(rec);
-    if !passes(layout::COUNT, k as u16) {
+    if !fits(layout::COUNT, k) {
         return false;
     }
     for i in 0..k {
@@ -79,24 +95,52 @@ fn times_stand(rec: &[u8]) -> bool
     true
 }
 
+// A phase's times. Every check is made, so that the code has no branch for each.
 fn phase_stands(rec: &[u8], i: u8) -> bool
+    requires { ⌜ (length (now rec) ≡ recordLen) × (i < 8) ⌝ }
     ensures { λ r. ⌜ Tells r (TimesFit (now (rec .entry)) i) ⌝ }
 {
-    let minimum = record::minimum(rec, i) as u16;
-    let maximum = record::maximum(rec, i);
-    let flash = record::walk_flash(rec, i) as u16;
-    let man = record::red_man(rec, i) as u16;
-    let checks = [
-        passes(layout::MINIMUM, minimum),
-        passes(layout::MAXIMUM, maximum),
-        passes(layout::YELLOW, record::yellow(rec, i) as u16),
-        passes(layout::ALL_RED, record::all_red(rec, i) as u16),
-        passes(layout::WALK_FLASH, flash),
-        passes(layout::RED_MAN, man),
-        minimum <= maximum,
-        flash + man < minimum,
-    ];
-    every(&checks)
+    let at = HEAD_LEN + TIMES_LEN * i as usize;
+    let minimum = rec[at];
+    let maximum = word(rec, at + MAXIMUM);
+    let flash = rec[at + WALK_FLASH];
+    let man = rec[at + RED_MAN];
+    fits(layout::MINIMUM, minimum)
+        & passes(layout::MAXIMUM, maximum)
+        & fits(layout::YELLOW, rec[at + YELLOW])
+        & fits(layout::ALL_RED, rec[at + ALL_RED])
+        & fits(layout::WALK_FLASH, flash)
+        & fits(layout::RED_MAN, man)
+        & (phase_disagrees(minimum, maximum, flash, man) == 0)
+}
+
+// Is the octet in its field's range?
+fn fits(f: Field, v: u8) -> bool
+    ensures { λ r. ⌜ r ≡ passes f v ⌝ }
+{
+    passes(f, v as u16)
+}
+
+// "Agreement, 5F 14, phase by phase": 1 where "maximum at least minimum" fails, 2 where "walk flash plus red man less than minimum"
+// is the first that does, 0 where none does.
+fn phase_disagrees(minimum: u8, maximum: u16, flash: u8, man: u8) -> u16
+    ensures { λ r. ⌜ (r ≡ pick (ltb maximum minimum) 1 (pick (leb minimum (flash + man)) 2 0)) × (r ≤ 2) ⌝ }
+{
+    if maximum < minimum as u16 {
+        return 1;
+    }
+    if minimum as u16 <= flash as u16 + man as u16 {
+        return 2;
+    }
+    0
+}
+
+// The number in two octets that are there.
+fn word(rec: &[u8], at: usize) -> u16
+    requires { ⌜ at + 1 < length (now rec) ⌝ }
+    ensures { λ r. ⌜ r ≡ wordAt (now (rec .entry)) at ⌝ }
+{
+    octets::word(rec[at], rec[at + 1])
 }
 
 // "direct, order, 2k green octets, cycle, offset": in their ranges, and in agreement. The order has phases, a green is within its
@@ -105,134 +149,99 @@ fn plan_stands(rec: &[u8]) -> bool
     requires { ⌜ (length (now rec) ≡ recordLen) × AllTimesFit (now rec) ⌝ }
     ensures { λ r. ⌜ r ≡ planStands (now (rec .entry)) ⌝ }
 {
-    let cycle = record::cycle(rec);
-    let checks = [
-        passes(layout::DIRECT, record::direct(rec) as u16),
-        record::count(rec) == diagram_calls::phases(record::order(rec)),
-        greens_stand(rec, cycle),
-        passes(layout::CYCLE, cycle),
-        record::offset(rec) < cycle,
-    ];
-    every(&checks)
-}
-
-// "each green within its phase's bounds; cycle equal to the sum of green, yellow and all-red", in one pass over the phases
-fn greens_stand(rec: &[u8], cycle: u16) -> bool
-    ensures { λ r. ⌜ Tells r (GreensWithin (now (rec .entry)) × (cycle ≡ sumOf (now (rec .entry)) (kOf (now (rec .entry))))) ⌝ }
-{
-    let k = record::count(rec);
-    let mut s: u32 = 0;
-    for i in 0..k {
-        if green_fails(rec, i) {
-            return false;
-        }
-        s += phase_seconds(rec, i);
+    let k = rec[record::COUNT] as usize;
+    let at = HEAD_LEN + TIMES_LEN * k;
+    if !fits(layout::DIRECT, rec[at]) {
+        return false;
     }
-    cycle as u32 == s
-}
-
-fn every(checks: &[bool]) -> bool
-    ensures { λ r. ⌜ r ≡ every (now (checks .entry)) ⌝ }
-{
-    for i in 0..checks.len() {
-        if !checks[i] {
-            return false;
-        }
+    if !passes(
+        layout::CYCLE,
+        word(rec, at + DIRECT_ORDER_LEN + GREEN_LEN * k),
+    ) {
+        return false;
     }
-    true
+    first_disagreement(rec) == 0
 }
 
-// The first check of the times that fails, from 1; 0 where none does.
+// "count equal .. to the diagram's ..; each green within its phase's bounds; cycle equal to the sum of green, yellow and all-red; offset
+// below cycle": the first that fails, from 1; 0 where none does.
+fn first_disagreement(rec: &[u8]) -> u16
+    requires { ⌜ recordLen ≤ length (now rec) ⌝ }
+    ensures { λ r. ⌜ r ≡ planDisagree (now (rec .entry)) ⌝ }
+{
+    let k = rec[record::COUNT];
+    // no diagram has more phases, and of so many every octet is there
+    if (K_MOST as u8) < k {
+        return 1;
+    }
+    let at = HEAD_LEN + TIMES_LEN * k as usize;
+    let phases = diagram::phases(rec[at + ORDER]);
+    if k != phases {
+        return 1;
+    }
+    let mut sum: u32 = 0;
+    for i in 0..phases {
+        let times = HEAD_LEN + TIMES_LEN * i as usize;
+        let green = word(rec, at + DIRECT_ORDER_LEN + GREEN_LEN * i as usize);
+        if green_fails(green, rec[times], word(rec, times + MAXIMUM)) {
+            return i as u16 + 2;
+        }
+        sum += phase_seconds(green, rec[times + YELLOW], rec[times + ALL_RED]);
+    }
+    let last = at + DIRECT_ORDER_LEN + GREEN_LEN * k as usize;
+    let cycle = word(rec, last);
+    if cycle as u32 != sum {
+        return k as u16 + 2;
+    }
+    if cycle <= word(rec, last + CYCLE_LEN) {
+        return k as u16 + 3;
+    }
+    0
+}
+
+fn green_fails(green: u16, minimum: u8, maximum: u16) -> bool
+    ensures { λ r. ⌜ r ≡ pick (ltb green minimum) true (ltb maximum green) ⌝ }
+{
+    if green < minimum as u16 {
+        return true;
+    }
+    maximum < green
+}
+
+// "the sum of green, yellow and all-red", of one phase
+fn phase_seconds(green: u16, yellow: u8, all_red: u8) -> u32
+    ensures { λ r. ⌜ (r ≡ green + yellow + «all_red») × (r < 66046) ⌝ }
+{
+    green as u32 + yellow as u32 + all_red as u32
+}
+
+// The first check of the times that fails, from 1; 0 where none does. There may be any octets here: those that are missing are 0.
 pub fn times_disagree(rec: &[u8]) -> u16
     ensures { λ r. ⌜ r ≡ timesDisagree (now (rec .entry)) ⌝ }
 {
-    first_failed(rec, true, 2 * record::count(rec) as u16)
-}
-
-// The first check of the rest that fails, from 1; 0 where none does.
-pub fn plan_disagree(rec: &[u8]) -> u16
-    ensures { λ r. ⌜ r ≡ planDisagree (now (rec .entry)) ⌝ }
-{
-    first_failed(rec, false, record::count(rec) as u16 + 3)
-}
-
-// The same, of n checks, those of the times or else those of the rest.
-fn first_failed(rec: &[u8], times: bool, n: u16) -> u16
-    requires { ⌜ n ≤ 512 ⌝ }
-    ensures { λ r. ⌜ r ≡ firstOf (pick times timesFail planFails (now (rec .entry))) 0 n ⌝ }
-{
-    for c in 0..n {
-        if fails(rec, times, c) {
-            return c + 1;
+    let k = record::count(rec);
+    for i in 0..k {
+        let n = phase_disagrees(
+            record::minimum(rec, i),
+            record::maximum(rec, i),
+            record::walk_flash(rec, i),
+            record::red_man(rec, i),
+        );
+        if n != 0 {
+            return 2 * i as u16 + n;
         }
     }
     0
 }
 
-fn fails(rec: &[u8], times: bool, c: u16) -> bool
-    requires { ⌜ c < 512 ⌝ }
-    ensures { λ r. ⌜ r ≡ pick times timesFail planFails (now (rec .entry)) c ⌝ }
+// The first check of the rest that fails, from 1; 0 where none does. Octets that are missing are 0.
+pub fn plan_disagree(rec: &[u8]) -> u16
+    ensures { λ r. ⌜ r ≡ planDisagree (now (rec .entry)) ⌝ }
 {
-    if times {
-        return times_fail(rec, c);
+    if RECORD_LEN <= rec.len() {
+        return first_disagreement(rec);
     }
-    plan_fails(rec, c)
-}
-
-// Of phase i, check 2i is "maximum at least minimum", check 2i + 1 "walk flash plus red man less than minimum".
-fn times_fail(rec: &[u8], c: u16) -> bool
-    requires { ⌜ c < 512 ⌝ }
-    ensures { λ r. ⌜ r ≡ timesFail (now (rec .entry)) c ⌝ }
-{
-    let i = (c / 2) as u8;
-    let least = record::minimum(rec, i) as u16;
-    if c % 2 == 0 {
-        return record::maximum(rec, i) < least;
-    }
-    least <= record::walk_flash(rec, i) as u16 + record::red_man(rec, i) as u16
-}
-
-// Check 0 is the count's, the next k are the greens', then come the cycle's and the offset's.
-fn plan_fails(rec: &[u8], c: u16) -> bool
-    ensures { λ r. ⌜ r ≡ planFails (now (rec .entry)) c ⌝ }
-{
-    let k = record::count(rec);
-    if c == 0 {
-        return k != diagram_calls::phases(record::order(rec));
-    }
-    if c <= k as u16 {
-        return green_fails(rec, (c - 1) as u8);
-    }
-    if c == k as u16 + 1 {
-        return record::cycle(rec) as u32 != sum(rec);
-    }
-    record::cycle(rec) <= record::offset(rec)
-}
-
-fn green_fails(rec: &[u8], i: u8) -> bool
-    ensures { λ r. ⌜ r ≡ greenFails (now (rec .entry)) i ⌝ }
-{
-    let green = record::green(rec, i);
-    if green < record::minimum(rec, i) as u16 {
-        return true;
-    }
-    record::maximum(rec, i) < green
-}
-
-// "the sum of green, yellow and all-red"
-fn sum(rec: &[u8]) -> u32
-    ensures { λ r. ⌜ r ≡ sumOf (now (rec .entry)) (kOf (now (rec .entry))) ⌝ }
-{
-    let k = record::count(rec);
-    let mut s: u32 = 0;
-    for i in 0..k {
-        s += phase_seconds(rec, i);
-    }
-    s
-}
-
-fn phase_seconds(rec: &[u8], i: u8) -> u32
-    ensures { λ r. ⌜ (r ≡ phaseSeconds (now (rec .entry)) i) × (r < 66046) ⌝ }
-{
-    record::green(rec, i) as u32 + record::yellow(rec, i) as u32 + record::all_red(rec, i) as u32
+    let mut whole = [0u8; RECORD_LEN];
+    octets::put(rec, &mut whole, 0);
+    first_disagreement(&whole)
 }

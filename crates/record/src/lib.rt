@@ -9,6 +9,10 @@ pub const PLANS_MOST: u8 = 48;
 pub const BOOK_LEN: usize = RECORD_LEN * PLANS_MOST as usize;
 
 // State, and k.
+pub const STATE: usize = 0;
+
+pub const COUNT: usize = 1;
+
 pub const HEAD_LEN: usize = 2;
 
 // The octets of a phase's times, and of its green.
@@ -45,7 +49,7 @@ pub fn word_at(rec: &[u8], at: usize) -> u16
 pub fn count(rec: &[u8]) -> u8
     ensures { λ r. ⌜ r ≡ kOf (now (rec .entry)) ⌝ }
 {
-    octet_at(rec, 1)
+    octet_at(rec, COUNT)
 }
 
 // Where each of a phase's times stands among them.

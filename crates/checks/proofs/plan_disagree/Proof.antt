@@ -1,12 +1,23 @@
--- `checks::plan_disagree` meets its contract: the checks of the rest are the count's, each phase's green, the cycle's and the offset's.
+-- `checks::plan_disagree` meets its contract: with zeros behind them the octets have every octet that they had.
+use mathlib.Core.Path.{_∙_}
 use borrow.Author.Needs.{needs}
-use Rattle.checks.specs.Standing.{planDisagree}
+use Rattle.checks.proofs.Judging.{padded-plan}
 use Rattle.checks.proofs.plan_disagree.Statement.{statement}
 use Rattle.checks.proofs.plan_disagree.Tie as tie
 
-returns : tie.Need-returns
-unfolding planDisagree
-returns c = rw (← c .before .count .ensures) (c .first-failed .ensures)
+returns-2 : tie.Need-returns-2
+returns-2 c =
+    let d = c .before .before .before .before .before in
+    c .first-disagreement2 .ensures ∙ padded-plan (d .before .before .args .rec .now) (d .if1 .left) (c .before .before .before .put .ensures)
 
 pub plan-disagree-spec : {M : Type 1} → statement M
-plan-disagree-spec = tie.close (tie.spec (λ c κs. search needs) (λ c. search needs) (λ c. search needs) (λ c κs. search needs) returns)
+plan-disagree-spec =
+    tie.close
+    (tie.spec
+    (λ c κs. search needs)
+    (λ c. search needs)
+    (λ c. search needs)
+    (λ c κs. search needs)
+    (λ c. search needs)
+    (λ c κs. search needs)
+    returns-2)

@@ -1,46 +1,55 @@
--- `checks::plan_stands` meets its contract: each check of the list tells of one part of the greens that fit.
-use mathlib.Core.Path.{ap, _∙_}
+-- `checks::plan_stands` meets its contract: each check tells of one part of the greens that fit, and there is no other.
+use Prim.Native.Nat.{_+_}
+use mathlib.Core.Path.{refl}
 use native.Mathlib.Omega.{arith}
 use borrow.Author.Needs.{needs}
-use Rattle.diagram.specs.Table.{phasesOf}
-use Rattle.checks.proofs.Judging.{told-within, told-eq, told-lt, told-greens, plan-told}
+use borrow.Author.Tests.{not-true, not-false}
+use Rattle.record.specs.Record.{timesEnd}
+use Rattle.checks.proofs.Judging.{told-within, plan-fails, plan-told}
 use Rattle.checks.proofs.plan_stands.Statement.{statement}
 use Rattle.checks.proofs.plan_stands.Tie as tie
 
 returns : tie.Need-returns
 returns c =
-    let offset = c .before .before in
-    let p2 = offset .before in
-    let greens = p2 .before in
-    let phases = greens .before in
-    let order = phases .before in
-    let count = order .before in
-    let p1 = count .before in
-    let cycle = p1 .before .before in
-    let s = cycle .before .before in
+    let d = c .before in
+    let s = d .before .before .before .before in
+    plan-fails (s .args .rec .now) (s .pre .0) (told-within refl (d .fits2 .ensures)) (not-true (d .fits2 .result) (c .if1 .taken)) (λ f. f .direct)
+
+returns-2 : tie.Need-returns-2
+returns-2 c =
+    let p = c .before in
+    let s = p .before .before .before .before .before .before .before in
+    plan-fails (s .args .rec .now) (s .pre .0) (told-within (p .before .word .ensures) (p .passes .ensures)) (not-true (p .passes .result) (c .if2 .taken))
+    (λ f. record { least = omega (arith, f .offset); most = f .most })
+
+returns-3 : tie.Need-returns-3
+returns-3 c =
+    let p = c .before .before in
+    let d = p .before .before .before in
+    let known = d .before .before in
+    let s = known .before .before in
     let rec = s .args .rec .now in
-    plan-told rec (s .pre .0) (omega (arith, order .order .ensures)) (s .pre .1)
-    (told-greens rec (told-within (p1 .before .direct .ensures) (p1 .passes .ensures))
-    (told-eq (count .count .ensures) (phases .phases .ensures ∙ ap phasesOf (order .order .ensures)))
-    (rw (← (cycle .cycle .ensures)) (greens .greens-stand .ensures))
-    (told-within (cycle .cycle .ensures) (p2 .passes2 .ensures))
-    (told-lt (offset .offset .ensures) (cycle .cycle .ensures))
-    (c .every .ensures))
+    plan-told rec (s .pre .0) (omega (arith, known .shared-slice-known2 .given (timesEnd rec + 1))) (s .pre .1)
+    (told-within refl (d .fits2 .ensures) .holds (not-false (d .fits2 .result) (p .before .before .if1 .left)))
+    (told-within (p .before .word .ensures) (p .passes .ensures) .holds (not-false (p .passes .result) (c .before .if2 .left)))
+    (c .first-disagreement .ensures)
 
 pub plan-stands-spec : {M : Type 1} → statement M
 plan-stands-spec =
     tie.close
     (tie.spec
+    (λ c. search needs)
+    (λ c. search needs)
+    (λ c. search needs)
+    (λ c. search needs)
+    (λ c. search needs)
     (λ c κs. search needs)
-    (λ c κs. search needs)
+    returns
+    (λ c. search needs)
+    (λ c. search needs)
     (λ c. search needs)
     (λ c κs. search needs)
     (λ c κs. search needs)
+    returns-2
     (λ c κs. search needs)
-    (λ c κs. search needs)
-    (λ c κs. search needs)
-    (λ c κs. search needs)
-    (λ c κs. search needs)
-    (λ c. search needs)
-    (λ c κs. search needs)
-    returns)
+    returns-3)

@@ -1,5 +1,5 @@
 -- `checks::standing` meets its contract: one law for each way.
-use mathlib.Core.Path.{sym, _∙_}
+use mathlib.Core.Path.{refl, sym, _∙_}
 use borrow.Author.Needs.{needs}
 use borrow.Author.Tests.{not-true, not-false}
 use Rattle.checks.proofs.Laws.{stands-long, stands-not, stands-times, stands-ready, stands-else}
@@ -21,7 +21,7 @@ returns-3 c =
     let d = o .before .before in
     c .stands-if .ensures
     ∙ stands-times (d .before .before .before .args .rec .now) (d .before .if1 .left) (d .times-stand .ensures) (not-false (d .times-stand .result) (o .before .if2 .left))
-    (o .octet-at .ensures)
+    refl
     (c .before .before .before .if3 .taken)
     (c .before .before .times-end .ensures)
     (c .before .zero-from .ensures)
@@ -40,7 +40,7 @@ returns-4 c =
     let d = o .before .before in
     c .stands-if2 .ensures
     ∙ stands-ready (d .before .before .before .args .rec .now) (d .before .if1 .left) (d .times-stand .ensures) (not-false (d .times-stand .result) (o .before .if2 .left))
-    (o .octet-at .ensures)
+    refl
     (c .before .before .if4 .taken)
     (c .before .ready-stands .ensures)
 
@@ -49,7 +49,7 @@ returns-5 c =
     let o = c .before .before in
     let d = o .before .before in
     stands-else (d .before .before .before .args .rec .now) (d .before .if1 .left) (d .times-stand .ensures) (not-false (d .times-stand .result) (o .before .if2 .left))
-    (o .octet-at .ensures)
+    refl
     (c .before .if3 .left)
     (c .if4 .left)
 
@@ -60,7 +60,7 @@ standing-spec =
     returns
     (λ c κs. search needs)
     returns-2
-    (λ c κs. search needs)
+    (λ c. search needs)
     (λ c κs. search needs)
     (λ c κs. search needs)
     (λ c κs. search needs)

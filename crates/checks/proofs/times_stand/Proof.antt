@@ -21,8 +21,16 @@ returns : tie.Need-returns Inv-loop μ-loop
 returns c =
     let p = c .before in
     let s = p .before .before .before in
-    times-fails (s .args .rec .now) (s .pre) (told-within (p .before .count .ensures) (p .passes .ensures)) (not-true (p .passes .result) (c .if1 .taken))
+    times-fails (s .args .rec .now) (s .pre) (told-within (p .before .count .ensures) (p .fits2 .ensures)) (not-true (p .fits2 .result) (c .if1 .taken))
     (λ f. f .count)
+
+phase-stands-requires : tie.Need-phase-stands-requires Inv-loop μ-loop
+phase-stands-requires c κs =
+    let v = c .before in
+    let p = v .before .before in
+    let k = p .before in
+    let m = told-within (k .count .ensures) (p .fits2 .ensures) .holds (not-false (p .fits2 .result) (v .before .if1 .left)) .most in
+    (k .before .before .pre, omega (arith, k .count .ensures))
 
 returns-2 : tie.Need-returns-2 Inv-loop μ-loop
 returns-2 c =
@@ -48,7 +56,7 @@ returns-3 c =
     sym
     (fit-times (s .args .rec .now) (s .pre)
     (record {
-      count = told-within (k .count .ensures) (p .passes .ensures) .holds (not-false (p .passes .result) (v .before .if1 .left));
+      count = told-within (k .count .ensures) (p .fits2 .ensures) .holds (not-false (p .fits2 .result) (v .before .if1 .left));
       phases = λ j l. v .loop .inv .1 j (omega (arith, k .count .ensures));
     }))
 
@@ -59,11 +67,10 @@ times-stand-spec =
     Inv-loop
     μ-loop
     (λ c κs. search needs)
-    (λ c. search needs)
     (λ c κs. search needs)
     returns
     (λ c. (search needs, λ j l. absurd (omega arith)))
-    (λ c κs. search needs)
+    phase-stands-requires
     returns-2
     (λ c. search needs)
     (λ c. search needs)
