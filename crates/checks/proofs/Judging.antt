@@ -15,7 +15,7 @@ use Rattle.octets.specs.Put.{Put}
 use Rattle.octets.proofs.Laws.{both-left, both-right, clash, getD-past, put-stored}
 use Rattle.octets.proofs.Search.{search-ends, search-stops, search-goes}
 use Rattle.diagram.specs.Table.{phasesOf}
-use Rattle.record.specs.Record.{recordLen, octetAt, kOf, minimumOf, maximumOf, yellowOf, allRedOf, walkFlashOf, redManOf, directOf, orderOf, cycleOf, offsetOf, sumOf, Within, TimesFit, AllTimesFit, GreensFit}
+use Rattle.record.specs.Record.{recordLen, octetAt, wordAt, kOf, greensAt, minimumOf, maximumOf, yellowOf, allRedOf, walkFlashOf, redManOf, directOf, orderOf, cycleOf, offsetOf, sumOf, Within, TimesFit, AllTimesFit, GreensFit}
 use Rattle.checks.specs.Standing.{Tells, timesFail, greenFails, planFails, planChecks, planDisagree, timesStand, planStands}
 use Rattle.checks.proofs.Stands.{both-true, check-maximum, check-redman, check-green, check-cycle, check-offset, plan-agrees, agrees-plan, times-fit, fit-times, plan-fits, fits-plan}
 
@@ -129,22 +129,29 @@ module _ (rec : List ℕ) where
     pub green-goes : greenFails rec i ≡ false → leftFrom (i + 1 + 1) ≡ leftFrom (i + 1)
     green-goes e = sym (search-goes (planFails rec) (planChecks rec) (i + 1) (omega arith) (check-green rec i l ∙ e))
 
-  -- when all greens are within their bounds
-  module _ {i s c : ℕ} (ei : i ≡ kOf rec) (es : s ≡ sumOf rec i) (ec : c ≡ cycleOf rec) (left : leftFrom (i + 1) ≡ planDisagree rec) where
+  -- when all greens of the n phases are within their bounds
+  module _ {i n s c : ℕ} (en : kOf rec ≡ n) (ei : i ≡ n) (es : s ≡ sumOf rec i) (ec : c ≡ wordAt rec (greensAt rec + 2 * n))
+      (left : leftFrom (i + 1) ≡ planDisagree rec) where
+    cycle-is : c ≡ cycleOf rec
+    cycle-is = ec ∙ ap (λ (m : ℕ). wordAt rec (greensAt rec + 2 * m)) (sym en)
+
     cycle-at : {t : Bool} → eqb c s ≡ t → planFails rec (i + 1) ≡ not t
-    cycle-at f = rw ei (check-cycle rec ∙ rw (← ec, ← ei, ← es, f))
+    cycle-at f = let e = ei ∙ sym en in rw e (check-cycle rec ∙ rw (← cycle-is, ← e, ← es, f))
 
-    pub cycle-stops : (c ≡ s → ⊥) → kOf rec + 2 ≡ planDisagree rec
-    cycle-stops n = omega (arith, search-stops (planFails rec) (planChecks rec) (i + 1) (omega arith) (cycle-at (ne-eqb c s n)), left)
+    pub cycle-stops : (c ≡ s → ⊥) → n + 2 ≡ planDisagree rec
+    cycle-stops d = omega (arith, search-stops (planFails rec) (planChecks rec) (i + 1) (omega arith) (cycle-at (ne-eqb c s d)), left)
 
-    module _ (e : c ≡ s) {o : ℕ} (eo : o ≡ offsetOf rec) where
+    module _ (e : c ≡ s) {o : ℕ} (eo : o ≡ wordAt rec (greensAt rec + 2 * n + 2)) where
       left-offset : leftFrom (i + 1 + 1) ≡ planDisagree rec
       left-offset = sym (search-goes (planFails rec) (planChecks rec) (i + 1) (omega arith) (cycle-at (eq-eqb c s e))) ∙ left
 
       offset-at : {t : Bool} → leb c o ≡ t → planFails rec (i + 1 + 1) ≡ t
-      offset-at f = let n : i + 1 + 1 ≡ kOf rec + 2 = omega arith in rw n (check-offset rec ∙ rw (← ec, ← eo, f))
+      offset-at f =
+          let m : i + 1 + 1 ≡ kOf rec + 2 = omega arith in
+          let offset-is = eo ∙ ap (λ (m : ℕ). wordAt rec (greensAt rec + 2 * m + 2)) (sym en) in
+          rw m (check-offset rec ∙ rw (← cycle-is, ← offset-is, f))
 
-      pub offset-stops : c ≤ o → kOf rec + 3 ≡ planDisagree rec
+      pub offset-stops : c ≤ o → n + 3 ≡ planDisagree rec
       offset-stops h = omega (arith, search-stops (planFails rec) (planChecks rec) (i + 1 + 1) (omega arith) (offset-at (le-leb c o h)), left-offset)
 
       pub none-fails : o < c → 0 ≡ planDisagree rec

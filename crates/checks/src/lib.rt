@@ -62,8 +62,8 @@ fn ready_stands(rec: &[u8]) -> bool
     zero_from(rec, record::ready_end(rec))
 }
 
-// "the rest zero": the last octet that is not 0 stands before it. Every octet is looked at, and counted in one octet, so that
-// the compiler looks at many at once.
+// "the rest zero": the last octet that is not 0 stands before it. Every octet is looked at, and the greatest place after one that is
+// not 0 is kept in one octet, so that the compiler looks at many at once.
 fn zero_from(rec: &[u8], at: usize) -> bool
     requires { ⌜ length (now rec) ≡ recordLen ⌝ }
     ensures { λ r. ⌜ r ≡ allZero (drop at (now (rec .entry))) ⌝ }
@@ -71,8 +71,9 @@ fn zero_from(rec: &[u8], at: usize) -> bool
     let n = RECORD_LEN as u8;
     let mut end: u8 = 0;
     for i in 0..n {
-        if rec[i as usize] != 0 {
-            end = i + 1;
+        let next = if rec[i as usize] != 0 { i + 1 } else { 0 };
+        if end < next {
+            end = next;
         }
     }
     end as usize <= at
@@ -188,13 +189,13 @@ fn first_disagreement(rec: &[u8]) -> u16
         }
         sum += phase_seconds(green, rec[times + YELLOW], rec[times + ALL_RED]);
     }
-    let last = at + DIRECT_ORDER_LEN + GREEN_LEN * k as usize;
+    let last = at + DIRECT_ORDER_LEN + GREEN_LEN * phases as usize;
     let cycle = word(rec, last);
     if cycle as u32 != sum {
-        return k as u16 + 2;
+        return phases as u16 + 2;
     }
     if cycle <= word(rec, last + CYCLE_LEN) {
-        return k as u16 + 3;
+        return phases as u16 + 3;
     }
     0
 }

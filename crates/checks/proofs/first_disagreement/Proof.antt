@@ -58,7 +58,7 @@ returns-4 c =
     let w = c .before in
     let v = w .before .before in
     let rec = v .before .before .before .before .before .before .before .args .rec .now in
-    cycle-stops rec (omega (arith, v .before .if2 .left)) (v .loop .inv .2) (w .word3 .ensures) (v .loop .inv .1) (c .if4 .taken)
+    cycle-stops rec (v .before .if2 .left) (omega (arith, v .before .if2 .left)) (v .loop .inv .2) (w .word3 .ensures) (v .loop .inv .1) (c .if4 .taken)
 
 returns-5 : tie.Need-returns-5 Inv-loop μ-loop
 returns-5 c =
@@ -66,7 +66,7 @@ returns-5 c =
     let w = o .before .before in
     let v = w .before .before in
     let rec = v .before .before .before .before .before .before .before .args .rec .now in
-    offset-stops rec (omega (arith, v .before .if2 .left)) (v .loop .inv .2) (w .word3 .ensures) (v .loop .inv .1) (o .before .if4 .left) (o .word4 .ensures) (c .if5 .taken)
+    offset-stops rec (v .before .if2 .left) (omega (arith, v .before .if2 .left)) (v .loop .inv .2) (w .word3 .ensures) (v .loop .inv .1) (o .before .if4 .left) (o .word4 .ensures) (c .if5 .taken)
 
 returns-6 : tie.Need-returns-6 Inv-loop μ-loop
 returns-6 c =
@@ -74,7 +74,7 @@ returns-6 c =
     let w = o .before .before in
     let v = w .before .before in
     let rec = v .before .before .before .before .before .before .before .args .rec .now in
-    none-fails rec (omega (arith, v .before .if2 .left)) (v .loop .inv .2) (w .word3 .ensures) (v .loop .inv .1) (o .before .if4 .left) (o .word4 .ensures) (c .if5 .left)
+    none-fails rec (v .before .if2 .left) (omega (arith, v .before .if2 .left)) (v .loop .inv .2) (w .word3 .ensures) (v .loop .inv .1) (o .before .if4 .left) (o .word4 .ensures) (c .if5 .left)
 
 pub first-disagreement-spec : {M : Type 1} → statement M
 first-disagreement-spec =

@@ -1,7 +1,8 @@
 -- `checks::zero_from` meets its contract: the last octet so far that is not 0 and what is left say the same as the whole.
 use Prim.Native.Nat.{_≤_, _-_}
-use mathlib.Core.Path.{_≡_}
+use mathlib.Core.Path.{_≡_, _∙_}
 use mathlib.Core.Logic.{⊎-elim}
+use native.Mathlib.Omega.{arith}
 use borrow.Author.Needs.{needs}
 use lib.Dec.{leb}
 use lib.ListN.{length, drop}
@@ -22,16 +23,19 @@ loop-holds c = (search needs, search needs, last-none (c .args .rec .now) (c .ar
 
 loop-again : tie.Need-loop-again Inv-loop μ-loop
 loop-again c =
-    let d = c .before .before .before in
+    let d = c .before .before .before .before in
     let v = d .loop in
     let a = d .before .args in
-    let l = v .inv .2 in (
-      search needs,
-      ⊎-elim (λ w. rw (w .1) (search needs)) (λ w. rw (w .1) (search needs)) (c .if1 .came),
-      ⊎-elim (λ w. rw (w .1) (last-is (a .rec .now) (a .at) (v .end) (v .i) (search needs) l (w .0 .taken)))
-          (λ w. rw (w .1) (last-stays (a .rec .now) (a .at) (v .end) (v .i) (search needs) l (v .inv .1) (w .0 .left)))
-          (c .if1 .came),
-    )
+    ⊎-elim
+    (λ w.
+    ⊎-elim (λ x. rw (x .1 ∙ w .1) (search needs, search needs, last-is (a .rec .now) (a .at) (v .end) (v .i) (search needs) (v .inv .2) (w .0 .taken)))
+    (λ x. absurd (omega (arith, x .0 .left, w .1, v .inv .1)))
+    (c .if2 .came))
+    (λ w.
+    ⊎-elim (λ x. absurd (omega (arith, x .0 .taken, w .1)))
+    (λ x. rw (x .1) (search needs, search needs, last-stays (a .rec .now) (a .at) (v .end) (v .i) (search needs) (v .inv .2) (v .inv .1) (w .0 .left)))
+    (c .if2 .came))
+    (c .before .if1 .came)
 
 returns : tie.Need-returns Inv-loop μ-loop
 returns c =
