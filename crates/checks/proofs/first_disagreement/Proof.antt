@@ -8,7 +8,7 @@ use borrow.Author.Needs.{needs}
 use Rattle.diagram.proofs.Known.{phases-most}
 use Rattle.record.specs.Record.{orderOf, sumOf}
 use Rattle.checks.specs.Standing.{planDisagree}
-use Rattle.checks.proofs.Judging.{leftFrom, count-fails, count-holds, green-stops, green-goes, cycle-stops, offset-stops, none-fails}
+use Rattle.checks.proofs.Walk.{leftFrom, count-fails, count-holds, green-stops, green-goes, cycle-stops, offset-stops, none-fails}
 use Rattle.checks.proofs.first_disagreement.Statement.{statement}
 use Rattle.checks.proofs.first_disagreement.Tie as tie
 

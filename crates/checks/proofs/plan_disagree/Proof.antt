@@ -1,7 +1,7 @@
 -- `checks::plan_disagree` meets its contract: with zeros behind them the octets have every octet that they had.
 use mathlib.Core.Path.{_∙_}
 use borrow.Author.Needs.{needs}
-use Rattle.checks.proofs.Judging.{padded-plan}
+use Rattle.checks.proofs.Walk.{padded-plan}
 use Rattle.checks.proofs.plan_disagree.Statement.{statement}
 use Rattle.checks.proofs.plan_disagree.Tie as tie
 

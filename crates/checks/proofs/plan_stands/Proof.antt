@@ -5,7 +5,8 @@ use native.Mathlib.Omega.{arith}
 use borrow.Author.Needs.{needs}
 use borrow.Author.Tests.{not-true, not-false}
 use Rattle.record.specs.Record.{timesEnd}
-use Rattle.checks.proofs.Judging.{told-within, plan-fails, plan-told}
+use Rattle.checks.proofs.Stands.{plan-fits}
+use Rattle.checks.proofs.Judging.{told-within, told-not, plan-told}
 use Rattle.checks.proofs.plan_stands.Statement.{statement}
 use Rattle.checks.proofs.plan_stands.Tie as tie
 
@@ -13,14 +14,14 @@ returns : tie.Need-returns
 returns c =
     let d = c .before in
     let s = d .before .before .before .before in
-    plan-fails (s .args .rec .now) (s .pre .0) (told-within refl (d .fits2 .ensures)) (not-true (d .fits2 .result) (c .if1 .taken)) (λ f. f .direct)
+    told-not (told-within refl (d .fits2 .ensures)) (not-true (d .fits2 .result) (c .if1 .taken)) (λ t. plan-fits (s .args .rec .now) t .direct)
 
 returns-2 : tie.Need-returns-2
 returns-2 c =
     let p = c .before in
     let s = p .before .before .before .before .before .before .before in
-    plan-fails (s .args .rec .now) (s .pre .0) (told-within (p .before .word .ensures) (p .passes .ensures)) (not-true (p .passes .result) (c .if2 .taken))
-    (λ f. record { least = omega (arith, f .offset); most = f .most })
+    told-not (told-within (p .before .word .ensures) (p .passes .ensures)) (not-true (p .passes .result) (c .if2 .taken))
+    (λ t. let f = plan-fits (s .args .rec .now) t in record { least = omega (arith, f .offset); most = f .most })
 
 returns-3 : tie.Need-returns-3
 returns-3 c =

@@ -7,7 +7,7 @@ use borrow.Author.Needs.{needs}
 use Rattle.octets.specs.First.{firstOf}
 use Rattle.octets.proofs.Search.{search-ends}
 use Rattle.checks.specs.Standing.{timesFail, timesDisagree}
-use Rattle.checks.proofs.Judging.{phase-stops, phase-goes}
+use Rattle.checks.proofs.Walk.{phase-stops, phase-goes}
 use Rattle.checks.proofs.times_disagree.Statement.{statement}
 use Rattle.checks.proofs.times_disagree.Tie as tie
 

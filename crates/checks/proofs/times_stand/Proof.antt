@@ -6,8 +6,8 @@ use borrow.Author.Count.{below-more}
 use borrow.Author.Needs.{needs}
 use borrow.Author.Tests.{not-true, not-false}
 use Rattle.record.specs.Record.{kOf, TimesFit}
-use Rattle.checks.proofs.Stands.{fit-times}
-use Rattle.checks.proofs.Judging.{told-within, times-fails}
+use Rattle.checks.proofs.Stands.{times-fit, fit-times}
+use Rattle.checks.proofs.Judging.{told-within, told-not}
 use Rattle.checks.proofs.times_stand.Statement.{statement}
 use Rattle.checks.proofs.times_stand.Tie as tie
 
@@ -20,9 +20,9 @@ abbrev μ-loop : tie.MeasureT-loop
 returns : tie.Need-returns Inv-loop μ-loop
 returns c =
     let p = c .before in
-    let s = p .before .before .before in
-    times-fails (s .args .rec .now) (s .pre) (told-within (p .before .count .ensures) (p .fits2 .ensures)) (not-true (p .fits2 .result) (c .if1 .taken))
-    (λ f. f .count)
+    let k = p .before in
+    told-not (told-within (k .count .ensures) (p .fits2 .ensures)) (not-true (p .fits2 .result) (c .if1 .taken))
+    (λ t. times-fit (k .before .before .args .rec .now) t .count)
 
 phase-stands-requires : tie.Need-phase-stands-requires Inv-loop μ-loop
 phase-stands-requires c κs =
@@ -37,10 +37,9 @@ returns-2 c =
     let p = c .before in
     let v = p .before .before in
     let k = v .before .before .before in
-    let s = k .before .before in
-    let rec = s .args .rec .now in
+    let rec = k .before .before .args .rec .now in
     let l : v .loop .i < kOf rec = omega (arith, k .count .ensures) in
-    times-fails rec (s .pre) (p .phase-stands .ensures) (not-true (p .phase-stands .result) (c .if2 .taken)) (λ f. f .phases (v .loop .i) l)
+    told-not (p .phase-stands .ensures) (not-true (p .phase-stands .result) (c .if2 .taken)) (λ t. times-fit rec t .phases (v .loop .i) l)
 
 loop-again : tie.Need-loop-again Inv-loop μ-loop
 loop-again c =
