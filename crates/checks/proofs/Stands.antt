@@ -1,14 +1,15 @@
 -- What stands as times set or as ready is exactly such a record: each computed test says what its check says.
 use Prim.Native.Nat.{ℕ, zero, suc, _+_, _*_, _-_, _/_, _%_, _≤_, _<_}
-use mathlib.Core.Path.{_≡_, refl, sym, ap, subst, _∙_}
+use mathlib.Core.Path.{_≡_, refl, sym, ap, _∙_}
 use mathlib.Core.Bool.{Bool, true, false, not}
+use mathlib.Core.Logic.{_↔_}
 use mathlib.Core.List.{List, [], _∷_, _++_}
 use native.Mathlib.Decide.{decLt, ℕ-discrete}
 use native.Mathlib.Omega.{arith}
-use borrow.Author.Tests.{eq-eqb, ne-eqb, le-leb, lt-leb, le-ltb, eqb-true, leb-false, ltb-false, not-false}
+use borrow.Author.Tests.{eq-eqb, ne-eqb, le-leb, lt-leb, le-ltb, eqb-true, leb-true, leb-false, ltb-false, not-false}
 use lib.Dec.{eqb, leb, ltb}
 use lib.ListN.{length, drop, replicate, length-drop}
-use lib.Seq.{length-take-le, drop-drop}
+use lib.Seq.{length-take-le, getD-take, getD-drop}
 use Rattle.octets.specs.Choice.{pick, both}
 use Rattle.octets.specs.First.{First}
 use Rattle.octets.specs.Octet.{Octets}
@@ -16,18 +17,16 @@ use Rattle.octets.specs.Refusal as refusal
 use Rattle.octets.proofs.Laws.{both-left, both-right, clash, first-none, first-one}
 use Rattle.octets.proofs.Search.{search-first}
 use Rattle.diagram.specs.Table.{phasesOf}
-use Rattle.message.specs.declared.layout.Field.{Field}
 use Rattle.message.specs.Fields as field
-use Rattle.message.specs.Fields.{valueOf}
 use Rattle.message.specs.Layouts.{layouts, layoutAt, rowsAt, layoutRows, repeated, times, greens, cycleOffset, storedTimes, storedPlan}
 use Rattle.message.specs.Values.{sizeOf}
 use Rattle.message.specs.Reader.{readPartOf}
-use Rattle.message.specs.Promises.{HasLayout, InRange}
-use Rattle.message.proofs.Values.{size-append, size-repeated}
-use Rattle.record.specs.Record.{recordLen, empty, timesSet, ready, stateOf, kOf, timesAt, timesEnd, readyEnd, greensAt, minimumOf, maximumOf, walkFlashOf, redManOf, directOf, orderOf, greenOf, cycleOf, offsetOf, sumOf, Within, AllTimesFit, ZeroFrom, GreensFit, TimesSet, Ready}
+use Rattle.message.specs.Promises.{HasLayout, RightLength}
+use Rattle.message.proofs.Numbers.{stored-parts}
+use Rattle.record.specs.Record.{recordLen, empty, timesSet, ready, stateOf, kOf, timesEnd, readyEnd, greensAt, minimumOf, maximumOf, walkFlashOf, redManOf, directOf, orderOf, greenOf, cycleOf, offsetOf, sumOf, Within, AllTimesFit, ZeroFrom, GreensFit, TimesSet, Ready}
 use Rattle.checks.specs.Standing.{headLen, between, timesFail, timesChecks, timesDisagree, greenFails, planFails, planChecks, planDisagree, ranged, timesStand, planStands, readyStands, allZero, standingOf, StandsAsItIs}
 use Rattle.record.proofs.Laws.{octet-below}
-use Rattle.checks.proofs.Fields.{Pass, Read1, read-pass, pass-read, pass-whole, pass-part, pass-repeated, repeated-pass, phase-in, phase-out, greens-in, greens-out, at-one, within, inside}
+use Rattle.checks.proofs.Fields.{StandIn, Ranged, ranged-repeated, part-reads, phase-in, phase-out}
 
 -- The agreement of the times
 
@@ -132,129 +131,91 @@ both-true e f = rw (e, f)
 pub part-long : (from end : ℕ) (rec : List ℕ) → from ≤ end → end ≤ length rec → length (between from end rec) ≡ end - from
 part-long from end rec h l = length-take-le (end - from) (drop from rec) (simp length-drop (omega arith))
 
-module _ (layout from end : ℕ) (rec : List ℕ) where
-  part-read : ranged layout from end rec ≡ true → Read1 layout (kOf rec) (between from end rec)
-  unfolding ranged
-  part-read h =
-      let n = readPartOf layout (kOf rec) (between from end rec) .refusal in
-      read-pass layout (kOf rec) (between from end rec) (eqb-true n refusal.none (both-right (leb end (length rec)) (eqb n refusal.none) h))
+-- a part of a record: all there, and each field of it in its range at its place in the record
+module _ (l from end : ℕ) (rec : List ℕ) (kn : HasLayout l) (h : from ≤ end) (es : sizeOf (rowsAt l (kOf rec)) ≡ end - from) where
+  stand-in : StandIn (between from end rec) rec from (sizeOf (rowsAt l (kOf rec)))
+  stand-in j m = getD-take (end - from) (drop from rec) j 0 (omega arith) ∙ getD-drop from rec j 0
 
-  read-part : HasLayout layout → end ≤ length rec → Read1 layout (kOf rec) (between from end rec) → ranged layout from end rec ≡ true
+  part-ranged : layoutAt l .fewest ≡ 1 → layoutAt l .most ≡ 8 → (ranged l from end rec ≡ true) ↔ (end ≤ length rec) × (Within 1 (kOf rec) 8) × Ranged (rowsAt l (kOf rec)) rec from
   unfolding ranged
-  read-part kn l h =
-      let n = readPartOf layout (kOf rec) (between from end rec) .refusal in
-      both-true (le-leb end (length rec) l) (eq-eqb n refusal.none (pass-read kn h))
+  part-ranged ef em =
+      let n = readPartOf l (kOf rec) (between from end rec) .refusal in
+      let reads = part-reads {k = kOf rec} kn stand-in in (
+        λ t.
+            let r = reads .0 (eqb-true n refusal.none (both-right (leb end (length rec)) (eqb n refusal.none) t)) in
+            (leb-true end (length rec) (both-left (leb end (length rec)) (eqb n refusal.none) t), record { least = rw ef at (r .right .fewest); most = rw em at (r .right .most) }, r .ranges),
+        λ p.
+            let right : RightLength l (kOf rec) (between from end rec) = record { fewest = rw ef (p .1 .least); most = rw em (p .1 .most); octets = part-long from end rec h (p .0) ∙ sym es } in
+            both-true (le-leb end (length rec) (p .0)) (eq-eqb n refusal.none (reads .1 (record { right = right; ranges = p .2 }))),
+      )
 
 module _ (rec : List ℕ) where
   abbrev k : ℕ
   k = kOf rec
 
-  pub phases-at : (i : ℕ) → drop (i * 7) (drop headLen rec) ≡ drop (timesAt i) rec
-  phases-at i = let e : 2 + i * 7 ≡ timesAt i = omega arith in drop-drop (i * 7) 2 rec ∙ ap (λ (n : ℕ). drop n rec) e
-
-  times-size : sizeOf (rowsAt storedTimes k) ≡ 7 * k
+  times-ranged : (ranged storedTimes headLen (timesEnd rec) rec ≡ true) ↔ (timesEnd rec ≤ length rec) × (Within 1 k 8) × Ranged (repeated k times ++ []) rec headLen
   unfolding rowsAt layoutRows layoutAt layouts
-  times-size = omega (arith, size-append (repeated k times) [], size-repeated times k)
-
-  times-read : timesStand rec ≡ true → Read1 storedTimes k (between headLen (timesEnd rec) rec)
-  unfolding timesStand
-  times-read h = part-read storedTimes headLen (timesEnd rec) rec (both-left (ranged storedTimes headLen (timesEnd rec) rec) (eqb (timesDisagree rec) 0) h)
-
-  -- each field passes in the record itself
-  pub times-pass : timesStand rec ≡ true → Pass (repeated k times ++ []) (drop 2 rec)
-  unfolding rowsAt layoutRows layoutAt layouts
-  times-pass h = pass-whole (repeated k times ++ []) (timesEnd rec - 2) (drop 2 rec) (omega (arith, times-size)) (times-read h .pass)
+  times-ranged =
+      part-ranged storedTimes headLen (timesEnd rec) rec (record { first = omega arith; last = omega arith }) (omega arith) (omega (arith, stored-parts k .timesSize)) refl refl
 
   pub times-fit : timesStand rec ≡ true → AllTimesFit rec
-  unfolding timesStand layoutAt layouts
+  unfolding timesStand
   times-fit h =
       let d = eqb-true (timesDisagree rec) 0 (both-right (ranged storedTimes headLen (timesEnd rec) rec) (eqb (timesDisagree rec) 0) h) in
-      let p = pass-repeated times [] k (drop 2 rec) (times-pass h) .0 in
-      record {
-        count = record { least = times-read h .right .fewest; most = times-read h .right .most };
-        phases = λ i l. phase-in rec i (subst (Pass times) (phases-at i) (p i l)) (times-ordered rec d i l) (times-walk rec d i l);
-      }
+      let p = times-ranged .0 (both-left (ranged storedTimes headLen (timesEnd rec) rec) (eqb (timesDisagree rec) 0) h) in
+      let q = ranged-repeated rec times [] k headLen .0 (p .2) in
+      record { count = p .1; phases = λ i l. phase-in rec i (q .0 i l) (times-ordered rec d i l) (times-walk rec d i l) }
+
+  pub fit-ranged : AllTimesFit rec → Ranged (repeated k times ++ []) rec headLen
+  fit-ranged f = ranged-repeated rec times [] k headLen .1 (λ i l. phase-out rec i (f .phases i l), tt)
 
   pub fit-times : length rec ≡ recordLen → AllTimesFit rec → timesStand rec ≡ true
-  unfolding timesStand rowsAt layoutRows layoutAt layouts
+  unfolding timesStand
   fit-times e f =
-      let l : timesEnd rec ≤ length rec = omega (arith, f .count .most) in
-      let p : Pass (repeated k times ++ []) (drop 2 rec) =
-      repeated-pass times [] k (drop 2 rec) (λ i h. subst (Pass times) (sym (phases-at i)) (phase-out rec i (f .phases i h))) tt in
-      both-true
-      (read-part storedTimes headLen (timesEnd rec) rec (record { first = omega arith; last = omega arith }) l
-      (record {
-        right = record { fewest = f .count .least; most = f .count .most; octets = part-long headLen (timesEnd rec) rec (omega arith) l ∙ omega (arith, times-size) };
-        pass = pass-part (repeated k times ++ []) (timesEnd rec - 2) (drop 2 rec) (omega (arith, times-size)) p;
-      }))
+      both-true (times-ranged .1 (omega (arith, f .count .most), f .count, fit-ranged f))
       (eq-eqb (timesDisagree rec) 0 (agree-times rec (λ i h. f .phases i h .ordered) (λ i h. f .phases i h .walk)))
 
-  abbrev planRows : List Field
-  planRows = field.direct ∷ field.order ∷ (repeated k greens ++ cycleOffset)
+  plan-ranged : (ranged storedPlan (timesEnd rec) (readyEnd rec) rec ≡ true)
+      ↔ (readyEnd rec ≤ length rec) × (Within 1 k 8) × Ranged (field.direct ∷ field.order ∷ (repeated k greens ++ cycleOffset)) rec (timesEnd rec)
+  unfolding rowsAt layoutRows layoutAt layouts
+  plan-ranged =
+      part-ranged storedPlan (timesEnd rec) (readyEnd rec) rec (record { first = omega arith; last = omega arith }) (omega arith) (omega (arith, stored-parts k .planSize)) refl refl
 
-  plan-size : sizeOf planRows ≡ 2 * k + 6
-  plan-size = omega (arith, size-append (repeated k greens) cycleOffset, size-repeated greens k)
-
-  direct-at : valueOf false (drop (timesEnd rec) rec) ≡ directOf rec
-  direct-at = at-one rec (timesEnd rec) refl
-
-  order-at : valueOf false (drop 1 (drop (timesEnd rec) rec)) ≡ orderOf rec
-  order-at = at-one rec (timesEnd rec + 1) (drop-drop 1 (timesEnd rec) rec)
-
-  greens-at : drop 1 (drop 1 (drop (timesEnd rec) rec)) ≡ drop (greensAt rec) rec
-  greens-at =
+  -- each field of a plan that stands is in its range at its place
+  pub plan-places : planStands rec ≡ true
+      → (Within 0 (directOf rec) 7) × ((orderOf rec ≤ 255) × (1 ≤ phasesOf (orderOf rec))) × Ranged (repeated k greens ++ cycleOffset) rec (greensAt rec)
+  unfolding planStands
+  plan-places h =
       let e : timesEnd rec + 1 + 1 ≡ greensAt rec = omega arith in
-      ap (drop 1) (drop-drop 1 (timesEnd rec) rec) ∙ (drop-drop 1 (timesEnd rec + 1) rec ∙ ap (λ (n : ℕ). drop n rec) e)
-
-  -- each field passes at its place in the record
-  pub plan-pass : planStands rec ≡ true
-      → InRange field.direct (directOf rec) × InRange field.order (orderOf rec) × Pass (repeated k greens ++ cycleOffset) (drop (greensAt rec) rec)
-  unfolding planStands rowsAt layoutRows layoutAt layouts
-  plan-pass h =
-      let r = part-read storedPlan (timesEnd rec) (readyEnd rec) rec (both-left (ranged storedPlan (timesEnd rec) (readyEnd rec) rec) (eqb (planDisagree rec) 0) h) in
-      let p = pass-whole planRows (readyEnd rec - timesEnd rec) (drop (timesEnd rec) rec) (omega (arith, plan-size)) (r .pass) in
-      (subst (InRange field.direct) direct-at (p .0), subst (InRange field.order) order-at (p .1 .0), subst (Pass (repeated k greens ++ cycleOffset)) greens-at (p .1 .1))
+      let p = plan-ranged .0 (both-left (ranged storedPlan (timesEnd rec) (readyEnd rec) rec) (eqb (planDisagree rec) 0) h) .2 in
+      (p .0, p .1 .0, rw e at (p .1 .1))
 
   pub plan-fits : planStands rec ≡ true → GreensFit rec
   unfolding planStands
   plan-fits h =
       let d = plan-agrees rec (eqb-true (planDisagree rec) 0 (both-right (ranged storedPlan (timesEnd rec) (readyEnd rec) rec) (eqb (planDisagree rec) 0) h)) in
-      let p = plan-pass h in
-      let g = greens-in rec (greensAt rec) k (p .2) in
+      let p = plan-places h in
+      let g = ranged-repeated rec greens cycleOffset k (greensAt rec) .0 (p .2) in
       record {
-        direct = within refl (p .0);
+        direct = p .0;
         count = d .count;
         green = d .green;
         cycle = d .cycle;
-        most = g .1 .most;
+        most = g .1 .0 .most;
         offset = d .offset;
       }
 
   pub fits-plan : length rec ≡ recordLen → orderOf rec < 256 → AllTimesFit rec → GreensFit rec → planStands rec ≡ true
-  unfolding planStands rowsAt layoutRows layoutAt layouts
+  unfolding planStands
   fits-plan e at-order t f =
-      let l : readyEnd rec ≤ length rec = omega (arith, t .count .most) in
-      let some : 1 ≤ phasesOf (orderOf rec) = omega (arith, t .count .least, f .count) in
-      let p : Pass planRows (drop (timesEnd rec) rec) = (
-        inside direct-at (f .direct),
-        (
-          (omega (arith, order-at), subst (λ (v : ℕ). 1 ≤ phasesOf v) (sym order-at) some),
-          subst (Pass (repeated k greens ++ cycleOffset)) (sym greens-at)
-              (greens-out rec (greensAt rec) k
-              (λ i h. record {
-                least = omega (arith, f .green i h .least, t .phases i h .minimum .least);
-                most = omega (arith, f .green i h .most, t .phases i h .maximum .most);
-              })
-              (record { least = omega (arith, f .offset); most = f .most })
-              (record { least = omega arith; most = omega (arith, f .offset, f .most) })),
-        ),
-      ) in
-      both-true
-      (read-part storedPlan (timesEnd rec) (readyEnd rec) rec (record { first = omega arith; last = omega arith }) l
-      (record {
-        right = record { fewest = t .count .least; most = t .count .most; octets = part-long (timesEnd rec) (readyEnd rec) rec (omega arith) l ∙ omega (arith, plan-size) };
-        pass = pass-part planRows (readyEnd rec - timesEnd rec) (drop (timesEnd rec) rec) (omega (arith, plan-size)) p;
-      }))
+      let at : timesEnd rec + 1 + 1 ≡ greensAt rec = omega arith in
+      let green : (i : ℕ) → i < k → Within 1 (greenOf rec i) 900 =
+      λ i l. record { least = omega (arith, f .green i l .least, t .phases i l .minimum .least); most = omega (arith, f .green i l .most, t .phases i l .maximum .most) } in
+      let cycle : Within 1 (cycleOf rec) 900 = record { least = omega (arith, f .offset); most = f .most } in
+      let offset : Within 0 (offsetOf rec) 899 = record { least = omega arith; most = omega (arith, f .offset, f .most) } in
+      let g = ranged-repeated rec greens cycleOffset k (greensAt rec) .1 (λ i l. (green i l, tt), (cycle, (offset, tt))) in
+      let order : (orderOf rec ≤ 255) × (1 ≤ phasesOf (orderOf rec)) = (omega arith, omega (arith, t .count .least, f .count)) in
+      both-true (plan-ranged .1 (omega (arith, t .count .most), t .count, (f .direct, (order, rw at g))))
       (eq-eqb (planDisagree rec) 0 (agrees-plan rec (record { count = f .count; green = f .green; cycle = f .cycle; offset = f .offset })))
 
 -- The rest

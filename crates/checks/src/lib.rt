@@ -176,7 +176,7 @@ fn first_disagreement(rec: &[u8]) -> u16
         return 1;
     }
     let at = HEAD_LEN + TIMES_LEN * k as usize;
-    let phases = diagram::phases(rec[at + ORDER]);
+    let phases = diagram_calls::phases(rec[at + ORDER]);
     if k != phases {
         return 1;
     }
