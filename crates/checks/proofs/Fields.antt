@@ -1,6 +1,6 @@
 -- One law of fields: what the reader finds at a field's place is in its range exactly when the octets that stand there are.
 use Prim.Native.Nat.{ℕ, zero, suc, _+_, _*_, _≤_, _<_}
-use mathlib.Core.Path.{_≡_, refl, sym, ap}
+use mathlib.Core.Path.{_≡_, refl, sym, ap, _∙_}
 use mathlib.Core.Logic.{_↔_, Iff·rfl, Iff·and, Iff·trans}
 use mathlib.Core.List.{List, [], _∷_, _++_, append-assoc}
 use native.Mathlib.Nat.{add-zero, add-assoc, mul-zero, mul-suc}
@@ -62,6 +62,11 @@ fields-right (f ∷ fs) ps os at h =
     Iff·trans (all-cons (RightAt (f ∷ fs) (valuesOf (f ∷ fs) ps)) (length fs))
     (Iff·and (rw e (in-range f (valueThere f os at)))
     (fields-right fs (drop w ps) os (at + w) (λ j l. rw (getD-drop, add-assoc) (h (w + j) (omega arith)))))
+
+-- where the same octets stand, the same fields are in their ranges
+pub ranged-same : (fs : List Field) (os ps : List ℕ) (at bt : ℕ) → ((j : ℕ) → j < sizeOf fs → octetAt os (at + j) ≡ octetAt ps (bt + j)) → Ranged fs os at → Ranged fs ps bt
+ranged-same fs os ps at bt h p =
+    fields-right fs (drop at os) ps bt (λ j l. getD-drop at os j 0 ∙ h j l) .0 (fields-right fs (drop at os) os at (λ j l. getD-drop at os j 0) .1 p)
 
 -- one after another, and so many times
 module _ (os : List ℕ) where

@@ -12,7 +12,6 @@ use lib.ListN.{length, drop, replicate, length-drop}
 use lib.Seq.{length-take-le, getD-take, getD-drop}
 use Rattle.octets.specs.Choice.{pick, both}
 use Rattle.octets.specs.First.{First}
-use Rattle.octets.specs.Octet.{Octets}
 use Rattle.octets.specs.Refusal as refusal
 use Rattle.octets.proofs.Laws.{both-left, both-right, clash, first-none, first-one}
 use Rattle.octets.proofs.Search.{search-first}
@@ -329,7 +328,7 @@ module _ (rec : List ℕ) where
         rest = rest-zero rec (readyEnd rec) (long (s .0)) (both-right (planStands rec) (allZero (drop (readyEnd rec) rec)) (s .2));
       }
 
-  ready-to : Octets rec → Ready rec → standingOf rec ≡ ready
+  pub ready-to : orderOf rec < 256 → Ready rec → standingOf rec ≡ ready
   unfolding standingOf readyStands
   ready-to o r =
       let n : stateOf rec ≡ timesSet → ⊥ = λ z. absurd (omega (arith, r .state)) in
@@ -337,7 +336,7 @@ module _ (rec : List ℕ) where
         is (r .long) (r .times),
         ne-eqb (stateOf rec) timesSet n,
         eq-eqb (stateOf rec) ready (r .state),
-        fits-plan rec (r .long) (octet-below rec (timesEnd rec + 1) o) (r .times) (r .greens),
+        fits-plan rec (r .long) o (r .times) (r .greens),
         zero-rest rec (readyEnd rec) (r .rest),
       )
 
@@ -352,7 +351,7 @@ module _ (rec : List ℕ) where
         rest = rest-zero rec (timesEnd rec) (long (s .0)) (s .2);
       }
 
-  times-to : TimesSet rec → standingOf rec ≡ timesSet
+  pub times-to : TimesSet rec → standingOf rec ≡ timesSet
   unfolding standingOf
   times-to r = rw (is (r .long) (r .times), eq-eqb (stateOf rec) timesSet (r .state), zero-rest rec (timesEnd rec) (r .rest))
 
@@ -370,4 +369,4 @@ module _ (rec : List ℕ) where
 
 pub stands-as-it-is : StandsAsItIs
 stands-as-it-is rec o =
-    record { readyFrom = ready-from rec; readyTo = ready-to rec o; timesFrom = times-from rec; timesTo = times-to rec; most = most rec }
+    record { readyFrom = ready-from rec; readyTo = ready-to rec (octet-below rec (timesEnd rec + 1) o); timesFrom = times-from rec; timesTo = times-to rec; most = most rec }

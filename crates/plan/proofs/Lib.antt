@@ -1,4 +1,5 @@
 pub mod Laws
+pub mod Ranges
 pub mod Sets
 pub mod Storing
 pub mod Readying

@@ -1,23 +1,22 @@
 -- A 5F 15 is stored exactly when its checks pass.
 use Prim.Native.Nat.{ℕ, zero, suc, _+_, _*_, _-_, _≤_, _<_}
 use mathlib.Core.Path.{_≡_, refl, sym, ap, subst, _∙_}
-use mathlib.Core.Logic.{inl, inr}
+use mathlib.Core.Logic.{_↔_, inl, inr}
 use mathlib.Core.List.{List, _∷_, _++_, append-assoc}
 use native.Mathlib.Decide.{decLt, ℕ-discrete}
 use native.Mathlib.Omega.{arith}
 use borrow.Author.Tests.{eq-eqb, ne-eqb, eqb-true, eqb-false, leb-true, not-true, not-false}
 use lib.Dec.{eqb}
 use lib.ListN.{length, take, drop, replicate, length-drop, length-append}
-use lib.Seq.{sets, drop-drop, getD-drop, length-take-le}
+use lib.Seq.{sets, length-take-le}
 use Rattle.octets.specs.First.{First, firstOf}
 use Rattle.octets.specs.Octet.{Octets}
 use Rattle.octets.specs.Refusal as refusal
 use Rattle.octets.proofs.Laws.{clash, octets-part}
 use Rattle.diagram.specs.Table.{phasesOf}
-use Rattle.message.specs.Layouts.{layouts, layoutAt, numberOf, rowsAt, layoutRows, repeated, greens, cycleOffset}
+use Rattle.message.specs.Layouts.{layouts, layoutAt, numberOf, rowsAt, layoutRows, greens, cycleOffset}
 use Rattle.message.specs.Names.{planAt, planCountAt}
-use Rattle.message.specs.Reader.{kIn, codeIn, bodyIn, readOf}
-use Rattle.message.proofs.Values.{size-append, size-repeated}
+use Rattle.message.specs.Reader.{codeIn, bodyIn, readOf}
 use Rattle.plan.specs.declared.setting.NewRecord.{NewRecord}
 use Rattle.record.specs.Record.{recordLen, bookLen, empty, timesSet, ready, octetAt, wordAt, kOf, timesAt, timesEnd, greensAt, readyEnd, minimumOf, maximumOf, directOf, orderOf, greenOf, cycleOf, offsetOf, sumOf, Within, AllTimesFit, Ready}
 use Rattle.checks.specs.Standing.{between, planFails, planChecks, planDisagree, standingOf, Stands}
@@ -25,10 +24,11 @@ use Rattle.plan.specs.BuiltIn.{padded}
 use Rattle.plan.specs.Reading.{recordStart, recordAt}
 use Rattle.plan.specs.Setting.{planIn, countIn, Setting, answered, readyRecord, planField, readyMade, setPlanCode, setPlanOf}
 use Rattle.plan.specs.Promises.{directIn, orderIn, greenIn, cycleIn, offsetIn, sumIn, Ranges15, HasTimes, CountAgrees, GreenAgrees, Fit15, Disagrees15, count, green, cycle, offset, RecordStored, SameTimes, Holds15, PlanJudged, PlanStoredExactlyWhen}
-use Rattle.checks.proofs.Fields.{at-one, within, inside, Pass, Read1, greens-in, greens-out}
+use Rattle.checks.proofs.Fields.{ranged-repeated}
 use Rattle.checks.proofs.Stands.{PlanAgrees, plan-first, plan-agrees, agrees-plan, green-within, within-green, check-green, check-cycle, check-offset, stands-as-it-is}
-use Rattle.plan.proofs.Sets.{read-plan, plan-body, padded-at, padded-long, padded-rest, ready-times, ready-two, ready-rest, ready-k}
-use Rattle.plan.proofs.Storing.{stored-here, set-read, set-unread, kept-made, kept-not-made, is-read, long-enough, same-times, same-fit}
+use Rattle.plan.proofs.Ranges.{InRanges, set-plan, read-ranges}
+use Rattle.plan.proofs.Sets.{read-plan, padded-at, padded-long, padded-rest, ready-times, ready-two, ready-rest, ready-k}
+use Rattle.plan.proofs.Storing.{stored-here, set-read, set-unread, kept-made, kept-not-made, same-times, same-fit}
 
 one-run : (x : ℕ) (xs ys zs ws : List ℕ) → (x ∷ (xs ++ (ys ++ zs))) ++ ws ≡ x ∷ (xs ++ (ys ++ (zs ++ ws)))
 one-run x xs ys zs ws = ap (λ (l : List ℕ). x ∷ l) (append-assoc xs (ys ++ zs) ws ∙ ap (λ (l : List ℕ). xs ++ l) (append-assoc ys zs ws))
@@ -36,60 +36,30 @@ one-run x xs ys zs ws = ap (λ (l : List ℕ). x ∷ l) (append-assoc xs (ys ++ 
 -- The ranges
 
 module _ (body : List ℕ) where
-  e2 : drop 1 (drop 1 body) ≡ drop 2 body
-  e2 = drop-drop 1 1 body
-
-  e3 : drop 1 (drop 1 (drop 1 body)) ≡ drop 3 body
-  e3 = ap (drop 1) e2 ∙ drop-drop 1 2 body
-
-  e4 : drop 1 (drop 1 (drop 1 (drop 1 body))) ≡ drop 4 body
-  e4 = ap (drop 1) e3 ∙ drop-drop 1 3 body
-
-  ranges-from : Read1 5 (countIn body) body → Ranges15 body
-  unfolding rowsAt layoutRows layoutAt layouts
-  ranges-from r =
-      let k = countIn body in
-      let b = plan-body body r in
-      let p = r .pass in
-      let o = at-one body 2 e2 in
-      let g = greens-in body 4 k (subst (Pass (repeated k greens ++ cycleOffset)) e4 (p .1 .1 .1 .1)) in
-      record {
-        long = b .long;
-        plan = b .plan;
-        direct = within (at-one body 1 refl) (p .1 .0);
-        order = (omega (arith, p .1 .1 .0 .0), subst (λ (v : ℕ). 1 ≤ phasesOf v) o (p .1 .1 .0 .1));
-        count = b .count;
-        green = g .0;
-        cycle = g .1;
-        offset = g .2;
-      }
-
-  pub ranges-to : Ranges15 body → Read1 5 (countIn body) body
-  unfolding rowsAt layoutRows layoutAt layouts
-  ranges-to r =
-      let k = countIn body in
-      let o = at-one body 2 e2 in
-      record {
-        right =
+  pub in-ranges : InRanges 0x5F15 3 8 2 body ↔ Ranges15 body
+  unfolding numberOf firstOf rowsAt layoutRows layoutAt layouts
+  in-ranges =
+      let greens = ranged-repeated body greens cycleOffset (countIn body) 4 in (
+        λ r.
+            let p = r .ranges in
+            let g = greens .0 (p .1 .1 .1 .1) in
             record {
-              fewest = r .count .least;
-              most = r .count .most;
-              octets = r .long ∙ omega (arith, size-append (repeated k greens) cycleOffset, size-repeated greens k);
-            };
-        pass = (
-          (r .plan .least, r .plan .most),
-          (
-            inside (at-one body 1 refl) (r .direct),
-            (
-              (omega (arith, r .order .0), subst (λ (v : ℕ). 1 ≤ phasesOf v) (sym o) (r .order .1)),
-              (
-                inside (at-one body 3 e3) (r .count),
-                subst (Pass (repeated k greens ++ cycleOffset)) (sym e4) (greens-out body 4 k (r .green) (r .cycle) (r .offset)),
-              ),
-            ),
-          ),
-        );
-      }
+              long = r .long;
+              plan = p .0;
+              direct = p .1 .0;
+              order = p .1 .1 .0;
+              count = r .count;
+              green = λ i l. g .0 i l .0;
+              cycle = g .1 .0;
+              offset = g .1 .1 .0;
+            },
+        λ r.
+            record {
+              long = r .long;
+              count = r .count;
+              ranges = (r .plan, (r .direct, (r .order, (r .count, greens .1 (λ i l. (r .green i l, tt), (r .cycle, (r .offset, tt)))))));
+            },
+      )
 
 -- A plan that has times
 
@@ -317,18 +287,6 @@ module _ (book info : List ℕ) (hb : length book ≡ bookLen) (ob : Octets book
   old-octets : Octets old
   old-octets = octets-part recordLen (recordStart p) book ob
 
-  pub plan-number : numberOf (codeIn info) ≡ 5
-  unfolding numberOf firstOf layoutAt layouts
-  plan-number = ap numberOf hc
-
-  pub plan-count : kIn (layoutAt 5) os ≡ countIn os
-  unfolding layoutAt layouts
-  plan-count = simp getD-drop
-
-  ranges-read : Ranges15 os → readOf info .refusal ≡ refusal.none
-  unfolding layouts
-  ranges-read r = is-read info 5 (countIn os) plan-number plan-count (long-enough info setPlanCode hc (λ z. absurd (omega arith))) (record { first = omega arith; last = omega arith }) (ranges-to os r)
-
   abbrev what : NewRecord
   what = readyMade old os
 
@@ -369,7 +327,7 @@ module _ (book info : List ℕ) (hb : length book ≡ bookLen) (ob : Octets book
 
   pub fit-done : Fit15 old os → setPlanOf book info ≡ done
   fit-done f =
-      read-done (ranges-read (f .ranges)) (has-stands old old-octets (f .set)) (f .count .stored)
+      read-done (read-ranges set-plan info hc .1 (in-ranges os .1 (f .ranges))) (has-stands old old-octets (f .set)) (f .count .stored)
       (agrees-plan m15 (m-agrees old os (f .set) (f .ranges) (f .count .stored) (f .count .diagram) (f .green) (f .cycle) (f .offset)))
 
   -- what comes of it, way by way
@@ -388,9 +346,9 @@ module _ (book info : List ℕ) (hb : length book ≡ bookLen) (ob : Octets book
       by (yes e) (no hs) (no n) d″ = subst Way (sym (read-count e hs n)) (refused planCountAt (stands-has old old-octets hs) (count (λ a. n (a .stored))))
       by (yes e) (no hs) (yes ek) (no n) =
           let h = stands-has old old-octets hs in
-          subst Way (sym (read-disagrees e hs ek n)) (refused (planField (planDisagree m15)) h (m-disagrees old os h (ranges-from os (read-plan info e hc)) ek n))
+          subst Way (sym (read-disagrees e hs ek n)) (refused (planField (planDisagree m15)) h (m-disagrees old os h (in-ranges os .0 (read-plan info e hc)) ek n))
       by (yes e) (no hs) (yes ek) (yes z) =
-          subst Way (sym (read-done e hs ek z)) (fits (m-fit old os (stands-has old old-octets hs) (ranges-from os (read-plan info e hc)) ek z))
+          subst Way (sym (read-done e hs ek z)) (fits (m-fit old os (stands-has old old-octets hs) (in-ranges os .0 (read-plan info e hc)) ek z))
 
   only : {w : Setting} → Way w → w .answer .refusal ≡ refusal.none → Fit15 old os
   only (unread n) e = absurd (n e)

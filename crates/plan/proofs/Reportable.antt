@@ -1,144 +1,128 @@
 -- Every report of a plan is a message: the reader reads its octets, nothing refused, and so the writer writes it.
-use Prim.Native.Nat.{ℕ, _+_, _*_, _-_, _≤_, _<_}
-use mathlib.Core.Path.{_≡_, refl, sym, ap, subst, _∙_}
+use Prim.Native.Nat.{ℕ, zero, suc, _+_, _*_, _-_, _≤_, _<_}
+use mathlib.Core.Path.{_≡_, refl, sym, ap, _∙_}
 use mathlib.Core.Bool.{true, false}
-use mathlib.Core.Logic.{_⊎_, inl, inr}
+use mathlib.Core.Logic.{_⊎_}
 use mathlib.Core.List.{List, [], _∷_, _++_}
 use native.Mathlib.Decide.{ℕ-discrete}
 use native.Mathlib.Omega.{arith}
 use borrow.Author.Tests.{ne-eqb}
 use lib.ListN.{length, drop, drop-of-length-le}
-use lib.Seq.{take-nil, drop-drop, getD-take, getD-drop}
+use lib.Seq.{take-nil, getD-take, getD-drop}
 use Rattle.octets.specs.First.{firstOf}
 use Rattle.octets.specs.Refusal as refusal
-use Rattle.octets.specs.Word.{highOf, lowOf}
 use Rattle.octets.proofs.Laws.{word-back}
 use Rattle.message.specs.declared.layout.Field.{Field}
-use Rattle.message.specs.Fields as field
 use Rattle.message.specs.Layouts.{layouts, layoutAt, numberOf, rowsAt, layoutRows, counted, repeated, times, greens, cycleOffset}
 use Rattle.message.specs.declared.Read.{Read}
 use Rattle.message.specs.Values.{sizeOf, zeros}
-use Rattle.message.specs.Reader.{noMessage, readAs, kIn, partOf, readOf}
+use Rattle.message.specs.Reader.{noMessage, readAs, partOf, readOf}
 use Rattle.message.specs.Writer.{writable}
-use Rattle.message.specs.Promises.{HasLayout}
 use Rattle.message.proofs.Accepted.{accepted-in, is-part, again, readPart}
 use Rattle.message.proofs.WrittenSo.{in-writable}
-use Rattle.message.proofs.Values.{size-append, size-repeated}
-use Rattle.record.specs.Record.{bookLen, plansMost, empty, ready, kOf, timesEnd, greensAt, readyEnd, directOf, orderOf, AllTimesFit}
-use Rattle.checks.specs.Standing.{between, standingOf}
+use Rattle.message.proofs.Numbers.{stored-parts}
+use Rattle.record.specs.Record.{bookLen, plansMost, empty, ready, octetAt, kOf, timesEnd, greensAt, readyEnd, directOf, orderOf, AllTimesFit}
+use Rattle.checks.specs.Standing.{headLen, between, standingOf}
 use Rattle.plan.specs.Reading.{recordStart, recordAt}
 use Rattle.plan.specs.Reporting.{reportPlanCode, reportRunningCode, timesInfo, planInfo, reportTimesOf, reportsPlan, reportPlanOf}
 use Rattle.plan.specs.Promises.{NoReport, ReportsRead}
 use Rattle.checks.proofs.Laws.{stands-long}
-use Rattle.checks.proofs.Fields.{at-one, inside, Pass, Read1, pass-part}
-use Rattle.checks.proofs.Stands.{part-long, times-pass, times-fit, plan-pass, some-long, some-times, ready-plan}
-use Rattle.plan.proofs.Storing.{read-as}
+use Rattle.checks.proofs.Fields.{ranged-same}
+use Rattle.checks.proofs.Stands.{part-long, times-fit, fit-ranged, plan-places, some-long, some-times, ready-plan}
+use Rattle.plan.proofs.Ranges.{InRanges, PlanReport, report-times, plan-report, ranges-as}
 use Rattle.plan.proofs.Reports.{times-none, times-told, plan-none, plan-other, plan-told}
 
-module _ (rec : List ℕ) (p : ℕ) (hp : p ≤ plansMost) (n : standingOf rec ≡ empty → ⊥) where
+-- The octets after the code
+
+module _ (rec : List ℕ) (p : ℕ) where
   abbrev k : ℕ
   k = kOf rec
 
+  -- 5F C4: the record's, but for the plan, which stands where a record has its state
+  abbrev pub timesBody : List ℕ
+  timesBody = p ∷ between 1 (timesEnd rec) rec
+
+  pub times-at : (j : ℕ) → 1 ≤ j → j < timesEnd rec → octetAt timesBody j ≡ octetAt rec j
+  times-at zero h l = absurd (omega arith)
+  times-at (suc j) h l =
+      let e : 1 + j ≡ suc j = omega arith in
+      getD-take (timesEnd rec - 1) (drop 1 rec) j 0 (omega arith) ∙ (getD-drop 1 rec j 0 ∙ ap (octetAt rec) e)
+
+  -- 5F C5 and 5F C8: plan, direct, order and count, and then the record's from its greens on
+  abbrev pub planBody : List ℕ
+  planBody = p ∷ directOf rec ∷ orderOf rec ∷ k ∷ between (greensAt rec) (readyEnd rec) rec
+
+  pub plan-at : (j : ℕ) → j < 4 + 2 * k → octetAt planBody (4 + j) ≡ octetAt rec (greensAt rec + j)
+  plan-at j l =
+      let e : 4 + j ≡ suc (suc (suc (suc j))) = omega arith in
+      rw e (getD-take (readyEnd rec - greensAt rec) (drop (greensAt rec) rec) j 0 (omega arith) ∙ getD-drop (greensAt rec) rec j 0)
+
+-- They are in their ranges
+
+module _ (rec : List ℕ) (p : ℕ) (hp : p ≤ plansMost) (n : standingOf rec ≡ empty → ⊥) where
   fit : AllTimesFit rec
   fit = times-fit rec (some-times rec n)
 
-  -- 5F C4
+  ends : readyEnd rec ≤ length rec
+  ends = omega (arith, some-long rec n, fit .count .most)
 
-  abbrev timesBody : List ℕ
-  timesBody = p ∷ between 1 (timesEnd rec) rec
-
-  times-in : timesEnd rec ≤ length rec
-  times-in = omega (arith, some-long rec n, fit .count .most)
-
-  pub times-body : Read1 4 k timesBody
-  unfolding rowsAt layoutRows layoutAt layouts
+  pub times-body : InRanges 0x5FC4 1 2 7 (timesBody rec p)
+  unfolding numberOf firstOf rowsAt layoutRows layoutAt layouts
   times-body =
-      let fs : List Field = repeated k times ++ [] in
-      let s : sizeOf fs ≡ 7 * k = omega (arith, size-append (repeated k times) [], size-repeated times k) in
+      let fs : List Field = repeated (kOf rec) times ++ [] in
+      let e = times-at rec p 1 (omega arith) (omega arith) in
+      let s : sizeOf fs ≡ 7 * kOf rec = stored-parts (kOf rec) .timesSize in
+      let g = ranged-same fs rec (timesBody rec p) headLen headLen (λ j l. sym (times-at rec p (headLen + j) (omega arith) (omega arith))) (fit-ranged rec fit) in
       record {
-        right = record { fewest = fit .count .least; most = fit .count .most; octets = omega (arith, part-long 1 (timesEnd rec) rec (omega arith) times-in) };
-        pass = (
-          (omega arith, hp),
-          pass-part (field.count ∷ fs) (timesEnd rec - 1) (drop 1 rec) (omega arith)
-              (inside (at-one rec 1 refl) (fit .count), subst (Pass fs) (sym (drop-drop 1 1 rec)) (times-pass rec (some-times rec n))),
-        );
+        long = rw e (omega (arith, part-long 1 (timesEnd rec) rec (omega arith) (omega (arith, ends))));
+        count = rw e (fit .count);
+        ranges = rw e (record { least = omega arith; most = hp }, (fit .count, g));
       }
 
-  pub times-count : kIn (layoutAt 4) timesBody ≡ k
-  unfolding layoutAt layouts
-  times-count = getD-take (timesEnd rec - 1) (drop 1 rec) 0 0 (omega arith) ∙ getD-drop 1 rec 0 0
+  times-as : readOf (timesInfo rec p) ≡ readAs (partOf (numberOf 0x5FC4) (octetAt (timesBody rec p) 1) (timesBody rec p))
+  unfolding timesInfo
+  times-as = ranges-as report-times (timesInfo rec p) refl times-body
 
-  times-as : readOf (timesInfo rec p) ≡ readAs (partOf 4 k timesBody)
-  unfolding timesInfo numberOf firstOf layoutAt layouts
-  times-as = read-as (0x5F ∷ 0xC4 ∷ timesBody) 4 k refl times-count (omega arith) (record { first = omega arith; last = omega arith }) times-body
-
-  times-read : (readOf (timesInfo rec p) .refusal ≡ refusal.none) × (reportTimesOf rec p ≡ readOf (timesInfo rec p) .message)
+  pub times-read : (readOf (timesInfo rec p) .refusal ≡ refusal.none) × (reportTimesOf rec p ≡ readOf (timesInfo rec p) .message)
   unfolding timesInfo
   times-read = (ap (λ (r : Read). r .refusal) times-as, sym (times-told rec p refl n refl refl refl refl))
 
-  pub times-part : reportTimesOf rec p ≡ partOf 4 k timesBody
+  pub times-part : reportTimesOf rec p ≡ partOf (numberOf 0x5FC4) (octetAt (timesBody rec p) 1) (timesBody rec p)
   times-part = times-read .1 ∙ ap (λ (r : Read). r .message) times-as
 
-  -- 5F C5 and 5F C8
-
-  module _ (h : standingOf rec ≡ ready) (l code : ℕ) (el : numberOf code ≡ l) (kn : HasLayout l)
-      (ey : layoutAt l ≡ counted code (field.plan ∷ field.direct ∷ field.order ∷ field.count ∷ []) greens cycleOffset) where
-    abbrev planBody : List ℕ
-    planBody = p ∷ directOf rec ∷ orderOf rec ∷ k ∷ between (greensAt rec) (readyEnd rec) rec
-
-    plan-in : readyEnd rec ≤ length rec
-    plan-in = omega (arith, some-long rec n, fit .count .most)
-
-    pub plan-body : Read1 l k planBody
-    unfolding rowsAt layoutRows
+  module _ (h : standingOf rec ≡ ready) {code : ℕ} (t : PlanReport code) where
+    pub plan-body : InRanges code 3 8 2 (planBody rec p)
     plan-body =
-        let fs : List Field = repeated k greens ++ cycleOffset in
-        let s : sizeOf fs ≡ 2 * k + 4 = omega (arith, size-append (repeated k greens) cycleOffset, size-repeated greens k) in
-        let q = plan-pass rec (ready-plan rec h) in
+        let q = plan-places rec (ready-plan rec h) in
+        let fs : List Field = repeated (kOf rec) greens ++ cycleOffset in
+        let s : sizeOf fs ≡ 4 + 2 * kOf rec = omega (arith, ap sizeOf (t .rows (kOf rec)), t .numbers (kOf rec) .size) in
+        let g = ranged-same fs rec (planBody rec p) (greensAt rec) 4 (λ j l. sym (plan-at rec p j (omega arith))) (q .2) in
         record {
-          right =
-              record {
-                fewest = rw ey (fit .count .least);
-                most = rw ey (fit .count .most);
-                octets = rw ey (omega (arith, part-long (greensAt rec) (readyEnd rec) rec (omega arith) plan-in));
-              };
-          pass =
-              rw ey (
-                (omega arith, hp),
-                (
-                  q .0,
-                  (
-                    q .1,
-                    (
-                      (fit .count .least, fit .count .most),
-                      pass-part fs (readyEnd rec - greensAt rec) (drop (greensAt rec) rec) (omega arith) (q .2),
-                    ),
-                  ),
-                ),
-              );
+          long = omega (arith, part-long (greensAt rec) (readyEnd rec) rec (omega arith) ends);
+          count = fit .count;
+          ranges = rw (t .rows (kOf rec)) (record { least = omega arith; most = hp }, (q .0, (q .1, (fit .count, g))));
         }
 
-    plan-as : readOf (planInfo rec p code) ≡ readAs (partOf l k planBody)
+    plan-as : readOf (planInfo rec p code) ≡ readAs (partOf (numberOf code) (kOf rec) (planBody rec p))
     unfolding planInfo
-    plan-as = read-as (highOf code ∷ lowOf code ∷ planBody) l k (rw word-back el) (rw ey) (omega arith) kn plan-body
+    plan-as = ranges-as (t .counted) (planInfo rec p code) (word-back code) plan-body
 
-    plan-read : reportsPlan code ≡ true → (readOf (planInfo rec p code) .refusal ≡ refusal.none) × (reportPlanOf rec p code ≡ readOf (planInfo rec p code) .message)
+    pub plan-read : (readOf (planInfo rec p code) .refusal ≡ refusal.none) × (reportPlanOf rec p code ≡ readOf (planInfo rec p code) .message)
     unfolding planInfo
-    plan-read t = (ap (λ (r : Read). r .refusal) plan-as, sym (plan-told rec p refl code h refl t refl refl refl refl refl refl refl refl))
+    plan-read = (ap (λ (r : Read). r .refusal) plan-as, sym (plan-told rec p refl code h refl (t .reports) refl refl refl refl refl refl refl refl))
 
-    pub plan-part : reportsPlan code ≡ true → reportPlanOf rec p code ≡ partOf l k planBody
-    plan-part t = plan-read t .1 ∙ ap (λ (r : Read). r .message) plan-as
+    pub plan-part : reportPlanOf rec p code ≡ partOf (numberOf code) (kOf rec) (planBody rec p)
+    plan-part = plan-read .1 ∙ ap (λ (r : Read). r .message) plan-as
 
 pub no-report : NoReport noMessage
 unfolding noMessage zeros
 no-report = refl
 
 pub reports-read : ReportsRead
-unfolding numberOf firstOf layoutAt layouts
 reports-read rec p hp =
     record {
       times = times-read rec p hp;
-      plan = by;
+      plan = λ code h w. plan-read rec p hp (λ z. absurd (omega arith)) h (plan-report w);
       noTimes = λ z. sym (times-none rec p refl z refl) ∙ no-report;
       noPlan = λ code n. sym (plan-none rec p refl code n refl) ∙ no-report;
       otherCode = λ code a b. none code (rw (ne-eqb code reportPlanCode a, ne-eqb code reportRunningCode b)) (ℕ-discrete (standingOf rec) ready);
@@ -147,14 +131,6 @@ reports-read rec p hp =
     none : (code : ℕ) → false ≡ reportsPlan code → Dec (standingOf rec ≡ ready) → NoReport (reportPlanOf rec p code)
     none code t (yes h) = sym (plan-other rec p refl code h t refl refl) ∙ no-report
     none code t (no n) = sym (plan-none rec p refl code n refl) ∙ no-report
-
-    some : standingOf rec ≡ ready → standingOf rec ≡ empty → ⊥
-    some h z = absurd (omega arith)
-
-    by : (code : ℕ) → standingOf rec ≡ ready → (code ≡ reportPlanCode) ⊎ (code ≡ reportRunningCode)
-        → (readOf (planInfo rec p code) .refusal ≡ refusal.none) × (reportPlanOf rec p code ≡ readOf (planInfo rec p code) .message)
-    by code h (inl e) = rw e (plan-read rec p hp (some h) h 6 reportPlanCode refl (record { first = omega arith; last = omega arith }) refl refl)
-    by code h (inr e) = rw e (plan-read rec p hp (some h) h 7 reportRunningCode refl (record { first = omega arith; last = omega arith }) refl refl)
 
 -- What was read is written
 

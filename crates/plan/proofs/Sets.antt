@@ -2,7 +2,7 @@
 use Prim.Native.Nat.{ℕ, zero, suc, _+_, _*_, _-_, _/_, _%_, _≤_, _<_}
 use mathlib.Core.Path.{_≡_, refl, sym, ap, _∙_}
 use mathlib.Core.Bool.{Bool, true, false}
-use mathlib.Core.List.{List, [], _∷_, _++_}
+use mathlib.Core.List.{List, _∷_, _++_}
 use native.Mathlib.Nat.{zero-add}
 use native.Mathlib.Decide.{decLt, ℕ-discrete}
 use native.Mathlib.Omega.{arith}
@@ -16,12 +16,10 @@ use Rattle.octets.specs.Put.{Put, Stored}
 use Rattle.octets.specs.Refusal as refusal
 use Rattle.octets.proofs.Laws.{clash, put-stored, stored-then, part-to-end, getD-past}
 use Rattle.message.specs.declared.Read.{Read}
-use Rattle.message.specs.Fields as field
-use Rattle.message.specs.Layouts.{layouts, layoutAt, numberOf, rowsAt, layoutRows, repeated, times, greens, cycleOffset}
-use Rattle.message.specs.Reader.{kIn, codeIn, bodyIn, readOf}
+use Rattle.message.specs.Layouts.{layouts, layoutAt, numberOf, rowsAt, layoutRows}
+use Rattle.message.specs.Reader.{codeIn, bodyIn, readOf}
 use Rattle.message.specs.Names.{planAt, planCountAt, maximumAt, redManAt}
 use Rattle.message.proofs.Accepted.{accepted-in}
-use Rattle.message.proofs.Values.{size-append, size-repeated}
 use Rattle.plan.specs.declared.setting.Answered.{Answered}
 use Rattle.plan.specs.declared.setting.NewRecord.{NewRecord}
 use Rattle.record.specs.Record.{recordLen, bookLen, empty, timesSet, ready, octetAt, kOf, timesEnd, ZeroFrom}
@@ -29,8 +27,8 @@ use Rattle.checks.specs.Standing.{between, timesDisagree, planDisagree, standin
 use Rattle.plan.specs.BuiltIn.{padded}
 use Rattle.plan.specs.Reading.{recordStart, recordAt}
 use Rattle.plan.specs.Setting.{planIn, countIn, Times14, Plan15, timesRecord, readyRecord, made, notMade, timesField, planField, timesMade, readyMade, SetLeaves, answered, keptAs, setTimesCode, setPlanCode, otherCode, setFront, setOf}
-use Rattle.checks.proofs.Fields.{Read1, pass-all}
 use Rattle.checks.proofs.Laws.{both-none}
+use Rattle.plan.proofs.Ranges.{InRanges, set-times, set-plan, read-ranges}
 
 -- What any set refuses
 
@@ -75,40 +73,21 @@ module _ (n code : ℕ) (info : List ℕ) where
 
 -- A message that is read
 
-read1 : (info : List ℕ) (l k : ℕ) → numberOf (codeIn info) ≡ l → kIn (layoutAt l) (bodyIn info) ≡ k → readOf info .refusal ≡ refusal.none → Read1 l k (bodyIn info)
-read1 info l k el ek e =
-    let a = accepted-in info e in
-    record { right = rw (el, ek) at (a .right); pass = pass-all (rowsAt l k) (bodyIn info) (rw (el, ek) at (a .ranges)) }
-
 module _ (info : List ℕ) (e : readOf info .refusal ≡ refusal.none) where
-  pub read-times : codeIn info ≡ setTimesCode → Read1 3 (kOf (bodyIn info)) (bodyIn info)
-  unfolding numberOf firstOf layoutAt layouts
-  read-times c = read1 info 3 (kOf (bodyIn info)) (ap numberOf c) (getD-drop 1 (bodyIn info) 0 0) e
+  pub read-times : codeIn info ≡ setTimesCode → InRanges 0x5F14 1 2 7 (bodyIn info)
+  read-times c = read-ranges set-times info c .0 e
 
-  pub read-plan : codeIn info ≡ setPlanCode → Read1 5 (countIn (bodyIn info)) (bodyIn info)
-  unfolding numberOf firstOf layoutAt layouts
-  read-plan c = read1 info 5 (countIn (bodyIn info)) (ap numberOf c) (simp getD-drop) e
+  pub read-plan : codeIn info ≡ setPlanCode → InRanges 0x5F15 3 8 2 (bodyIn info)
+  read-plan c = read-ranges set-plan info c .0 e
 
 module _ (body : List ℕ) where
-  pub times-body : Read1 3 (kOf body) body → Times14 body
-  unfolding rowsAt layoutRows layoutAt layouts
-  times-body r =
-      let k = kOf body in
-      record {
-        long = r .right .octets ∙ omega (arith, size-append (repeated k times) [], size-repeated times k);
-        plan = record { least = r .pass .0 .0; most = r .pass .0 .1 };
-        count = record { least = r .right .fewest; most = r .right .most };
-      }
+  pub times-body : InRanges 0x5F14 1 2 7 body → Times14 body
+  unfolding numberOf firstOf rowsAt layoutRows layoutAt layouts
+  times-body r = record { long = r .long; plan = r .ranges .0; count = r .count }
 
-  pub plan-body : Read1 5 (countIn body) body → Plan15 body
-  unfolding rowsAt layoutRows layoutAt layouts
-  plan-body r =
-      let k = countIn body in
-      record {
-        long = r .right .octets ∙ omega (arith, size-append (repeated k greens) cycleOffset, size-repeated greens k);
-        plan = record { least = r .pass .0 .0; most = r .pass .0 .1 };
-        count = record { least = r .right .fewest; most = r .right .most };
-      }
+  pub plan-body : InRanges 0x5F15 3 8 2 body → Plan15 body
+  unfolding numberOf firstOf rowsAt layoutRows layoutAt layouts
+  plan-body r = record { long = r .long; plan = r .ranges .0; count = r .count }
 
 -- The records
 

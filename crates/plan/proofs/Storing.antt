@@ -5,27 +5,23 @@ use mathlib.Core.List.{List, [], _∷_, _++_, append-assoc}
 use native.Mathlib.Decide.{decLt, ℕ-discrete}
 use native.Mathlib.Omega.{arith}
 use borrow.Author.Tests.{eq-eqb, ne-eqb, ltb-true, ltb-false, leb-true, leb-false}
-use lib.ListN.{length, take, drop, replicate, length-drop, length-append, take-append-drop, List·getD-eq-default}
-use lib.Seq.{sets, sets-eq, length-sets, drop-drop, drop-at, take-at, drop-append-le, take-append-le, drop-append-add, getD-drop, length-take-le}
+use lib.ListN.{length, take, drop, replicate, length-drop, length-append, take-append-drop}
+use lib.Seq.{sets, sets-eq, length-sets, drop-drop, drop-at, take-at, drop-append-le, take-append-le, drop-append-add, length-take-le}
 use Rattle.octets.specs.First.{First, firstOf}
-use Rattle.octets.specs.Part.{codeLen}
 use Rattle.octets.specs.Refusal as refusal
-use Rattle.message.specs.declared.Read.{Read}
-use Rattle.message.specs.Layouts.{layouts, layoutAt, numberOf, rowsAt, layoutRows, repeated, times}
-use Rattle.message.specs.Reader.{readAs, partOf, kIn, codeIn, bodyIn, readOf}
-use Rattle.message.specs.Promises.{HasLayout, Judged, body, accepted}
-use Rattle.message.proofs.ReadSo.{read-so}
-use Rattle.message.proofs.Values.{size-append, size-repeated}
+use Rattle.message.specs.Layouts.{layouts, layoutAt, numberOf, rowsAt, layoutRows, times}
+use Rattle.message.specs.Reader.{codeIn, bodyIn, readOf}
 use Rattle.plan.specs.declared.setting.NewRecord.{NewRecord}
 use Rattle.record.specs.Record.{recordLen, bookLen, plansMost, timesSet, octetAt, kOf, timesAt, timesEnd, minimumOf, maximumOf, walkFlashOf, redManOf, TimesFit}
-use Rattle.checks.specs.Standing.{timesFail, timesChecks, timesDisagree}
+use Rattle.checks.specs.Standing.{headLen, timesFail, timesChecks, timesDisagree}
 use Rattle.plan.specs.BuiltIn.{padded}
 use Rattle.plan.specs.Reading.{recordStart, recordAt}
 use Rattle.plan.specs.Setting.{planIn, Setting, answered, made, notMade, timesRecord, timesField, timesMade, keptAs, setOf, setTimesCode, setTimesOf}
 use Rattle.plan.specs.Promises.{Fit14, PhaseAgrees, Disagrees14, maximum, redMan, RecordStored, SameTimes, Holds14, TimesJudged, TimesStoredExactlyWhen}
-use Rattle.checks.proofs.Fields.{at-one, inside, Pass, Read1, all-pass, pass-repeated, repeated-pass, phase-in, phase-out}
-use Rattle.checks.proofs.Stands.{phases-at, times-first, check-maximum, check-redman, times-ordered, times-walk, agree-times}
-use Rattle.plan.proofs.Sets.{front-read, same-code, read-times, times-body, padded-at, padded-long, padded-rest, times-at, field-maximum, field-redman}
+use Rattle.checks.proofs.Fields.{ranged-repeated, phase-in}
+use Rattle.checks.proofs.Stands.{times-first, check-maximum, check-redman, times-ordered, times-walk, agree-times, fit-ranged}
+use Rattle.plan.proofs.Ranges.{InRanges, set-times, read-ranges}
+use Rattle.plan.proofs.Sets.{front-read, same-code, read-times, padded-at, padded-long, padded-rest, times-at, field-maximum, field-redman}
 
 -- A record in the book
 
@@ -94,67 +90,25 @@ module _ (p : ℕ) (book : List ℕ) where
   unfolding keptAs notMade
   kept-not-made n field h = rw (ne-eqb n refusal.none h)
 
--- a message of which the parts are right is read
-module _ (info : List ℕ) (l k : ℕ) (el : numberOf (codeIn info) ≡ l) (ek : kIn (layoutAt l) (bodyIn info) ≡ k) where
-  pub read-as : codeLen ≤ length info → HasLayout l → Read1 l k (bodyIn info) → readOf info ≡ readAs (partOf l k (bodyIn info))
-  read-as h kn r =
-      let j = accepted kn (r .right) (all-pass (rowsAt l k) (bodyIn info) (r .pass)) in
-      let q : Judged info (readAs (partOf l k (bodyIn info))) = body {r = readAs (partOf l k (bodyIn info))} h (rw (el, ek) j) in
-      sym (read-so info (readAs (partOf l k (bodyIn info))) .0 q)
-
-  pub is-read : codeLen ≤ length info → HasLayout l → Read1 l k (bodyIn info) → readOf info .refusal ≡ refusal.none
-  is-read h kn r = ap (λ (r : Read). r .refusal) (read-as h kn r)
-
 -- The checks of a 5F 14
 
-pub long-enough : (info : List ℕ) (c : ℕ) → codeIn info ≡ c → (c % 256 ≡ 0 → ⊥) → codeLen ≤ length info
-long-enough info c e n = by (decLt (length info) codeLen)
-  where
-    by : Dec (length info < codeLen) → codeLen ≤ length info
-    by (yes l) = absurd (n (omega (arith, List·getD-eq-default info 0 {n = 1} (omega arith))))
-    by (no g) = omega arith
-
 module _ (body : List ℕ) where
-  two-on : drop 1 (drop 1 body) ≡ drop 2 body
-  two-on = drop-drop 1 1 body
-
-  fit-from : Read1 3 (kOf body) body → timesDisagree body ≡ 0 → Fit14 body
-  unfolding rowsAt layoutRows layoutAt layouts
+  fit-from : InRanges 0x5F14 1 2 7 body → timesDisagree body ≡ 0 → Fit14 body
+  unfolding numberOf firstOf rowsAt layoutRows layoutAt layouts
   fit-from r e =
-      let k = kOf body in
-      let b = times-body body r in
-      let p = pass-repeated times [] k (drop 2 body) (subst (Pass (repeated k times ++ [])) two-on (r .pass .1 .1)) .0 in
+      let p = ranged-repeated body times [] (kOf body) headLen .0 (r .ranges .1 .1) in
       record {
-        long = b .long;
-        plan = b .plan;
-        times =
-            record {
-              count = b .count;
-              phases = λ i l. phase-in body i (subst (Pass times) (phases-at body i) (p i l)) (times-ordered body e i l) (times-walk body e i l);
-            };
+        long = r .long;
+        plan = r .ranges .0;
+        times = record { count = r .count; phases = λ i l. phase-in body i (p .0 i l) (times-ordered body e i l) (times-walk body e i l) };
       }
 
   fit-agrees : Fit14 body → timesDisagree body ≡ 0
   fit-agrees f = agree-times body (λ i l. f .times .phases i l .ordered) (λ i l. f .times .phases i l .walk)
 
-  pub fit-read : Fit14 body → Read1 3 (kOf body) body
-  unfolding rowsAt layoutRows layoutAt layouts
-  fit-read f =
-      let k = kOf body in
-      let p : Pass (repeated k times ++ []) (drop 2 body) =
-      repeated-pass times [] k (drop 2 body) (λ i l. subst (Pass times) (sym (phases-at body i)) (phase-out body i (f .times .phases i l))) tt in
-      record {
-        right =
-            record {
-              fewest = f .times .count .least;
-              most = f .times .count .most;
-              octets = f .long ∙ omega (arith, size-append (repeated k times) [], size-repeated times k);
-            };
-        pass = (
-          (f .plan .least, f .plan .most),
-          (inside (at-one body 1 refl) (f .times .count), subst (Pass (repeated k times ++ [])) (sym two-on) p),
-        );
-      }
+  pub fit-read : Fit14 body → InRanges 0x5F14 1 2 7 body
+  unfolding numberOf firstOf rowsAt layoutRows layoutAt layouts
+  fit-read f = record { long = f .long; count = f .times .count; ranges = (f .plan, (f .times .count, fit-ranged body (f .times))) }
 
   -- of the first check that fails
   agrees-before : (n : ℕ) → First (timesFail body) (timesChecks body) n → (i : ℕ) → 2 * i < n → (j : ℕ) → j < i → PhaseAgrees body j
@@ -256,18 +210,6 @@ module _ (book info : List ℕ) (hb : length book ≡ bookLen) (hc : codeIn info
   abbrev os : List ℕ
   os = bodyIn info
 
-  pub times-number : numberOf (codeIn info) ≡ 3
-  unfolding numberOf firstOf layoutAt layouts
-  times-number = ap numberOf hc
-
-  pub times-count : kIn (layoutAt 3) os ≡ kOf os
-  unfolding layoutAt layouts
-  times-count = getD-drop 1 os 0 0
-
-  fit-is-read : Fit14 os → readOf info .refusal ≡ refusal.none
-  unfolding layouts
-  fit-is-read f = is-read info 3 (kOf os) times-number times-count (long-enough info setTimesCode hc (λ z. absurd (omega arith))) (record { first = omega arith; last = omega arith }) (fit-read os f)
-
   -- read, it is stored or not by its agreement
   read-stored : readOf info .refusal ≡ refusal.none → timesDisagree os ≡ 0
       → setTimesOf book info ≡ record { answer = answered refusal.none 0; book = sets book (recordStart (planIn os)) (timesRecord os) }
@@ -282,7 +224,7 @@ module _ (book info : List ℕ) (hb : length book ≡ bookLen) (hc : codeIn info
       ∙ rw (ne-eqb (timesDisagree os) 0 n) (kept-not-made (planIn os) book refusal.disagree (timesField (timesDisagree os)) (λ z. absurd (omega arith)))
 
   pub fit-stored : Fit14 os → setTimesOf book info ≡ record { answer = answered refusal.none 0; book = sets book (recordStart (planIn os)) (timesRecord os) }
-  fit-stored f = read-stored (fit-is-read f) (fit-agrees os f)
+  fit-stored f = read-stored (read-ranges set-times info hc .1 (fit-read os f)) (fit-agrees os f)
 
   -- what comes of it, way by way
   data Way : Setting → Type 0 where

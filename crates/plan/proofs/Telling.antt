@@ -1,32 +1,28 @@
 -- What was set is what is reported: the INFO of the report is that of the set, but for its code.
 use Prim.Native.Nat.{ℕ, _-_, _≤_}
 use mathlib.Core.Path.{_≡_, refl, sym, ap, _∙_}
-use mathlib.Core.Bool.{true}
 use mathlib.Core.Logic.{_⊎_, inl, inr}
 use mathlib.Core.List.{List, _∷_, _++_, append-assoc}
 use native.Mathlib.Omega.{arith}
-use borrow.Author.Tests.{eq-eqb, ne-eqb}
 use lib.ListN.{length, take, drop, replicate, length-append, length-drop}
-use lib.Seq.{take-at, drop-at, getD-drop, length-take-le}
+use lib.Seq.{take-at, drop-at, length-take-le}
 use Rattle.octets.specs.First.{firstOf}
-use Rattle.octets.specs.Word.{highOf, lowOf}
 use Rattle.octets.proofs.Laws.{drop-next}
-use Rattle.message.specs.declared.Read.{Read}
 use Rattle.message.specs.Layouts.{layouts, layoutAt, numberOf, rowsAt, layoutRows}
-use Rattle.message.specs.Reader.{readAs, partOf, bodyIn, readOf}
-use Rattle.record.specs.Record.{recordLen, empty, timesSet, ready, stateOf, kOf, timesEnd, greensAt, readyEnd, directOf, orderOf}
-use Rattle.checks.specs.Standing.{between, readyStands, standingOf}
+use Rattle.message.specs.Reader.{partOf, bodyIn}
+use Rattle.record.specs.Record.{recordLen, empty, timesSet, ready, kOf, timesEnd, greensAt, readyEnd, directOf, orderOf}
+use Rattle.checks.specs.Standing.{between, standingOf}
 use Rattle.plan.specs.BuiltIn.{padded}
 use Rattle.plan.specs.Reading.{recordAt}
-use Rattle.plan.specs.Setting.{planIn, countIn, Setting, timesRecord, readyRecord, setTimesCode, setPlanCode, setTimesOf, setPlanOf}
-use Rattle.plan.specs.Reporting.{reportTimesCode, reportPlanCode, reportRunningCode, timesInfo, planInfo, reportTimesOf, reportsPlan, reportPlanOf}
+use Rattle.plan.specs.Setting.{planIn, countIn, Setting, timesRecord, readyRecord, setTimesOf, setPlanOf}
+use Rattle.plan.specs.Reporting.{reportTimesCode, reportPlanCode, reportRunningCode, reportTimesOf, reportPlanOf}
 use Rattle.plan.specs.Promises.{Fit14, directIn, orderIn, Fit15, Holds15, Reports, TimesReported, PlanReported}
-use Rattle.checks.proofs.Fields.{Read1}
-use Rattle.checks.proofs.Stands.{fit-times, fits-plan, zero-rest}
-use Rattle.plan.proofs.Reports.{times-told, plan-told}
+use Rattle.checks.proofs.Stands.{ready-to, times-to}
+use Rattle.plan.proofs.Ranges.{PlanReport, set-times, set-plan, plan-report, ranges-as}
+use Rattle.plan.proofs.Reportable.{times-part, plan-part}
 use Rattle.plan.proofs.Sets.{times-at}
-use Rattle.plan.proofs.Storing.{times-holds, stored-here, read-as, long-enough, fit-read, fit-stored, record-long, times-number, times-count}
-use Rattle.plan.proofs.Readying.{ranges-to, has-long, has-fit, m-holds, m-long, fit-done, plan-number, plan-count}
+use Rattle.plan.proofs.Storing.{times-holds, stored-here, fit-read, fit-stored, record-long}
+use Rattle.plan.proofs.Readying.{in-ranges, has-long, has-fit, m-holds, m-long, fit-done}
 
 module _ (body : List ℕ) (f : Fit14 body) where
   same-end : timesEnd (timesRecord body) ≡ timesEnd body
@@ -41,57 +37,25 @@ module _ (body : List ℕ) (f : Fit14 body) where
   whole : planIn body ∷ drop 1 body ≡ body
   whole = sym (drop-next body 0 (omega (arith, f .long)))
 
-  info-again : timesInfo (timesRecord body) (planIn body) ≡ 0x5F ∷ 0xC4 ∷ body
-  unfolding timesInfo
-  info-again = rw (front-again) (ap (λ (l : List ℕ). 0x5F ∷ 0xC4 ∷ l) whole)
-
-  -- as a report it passes where it passed as a set
-  read-report : Read1 4 (kOf body) body
-  unfolding rowsAt layoutRows layoutAt layouts
-  read-report =
-      let r = fit-read body f in
-      record {
-        right = record { fewest = r .right .fewest; most = r .right .most; octets = r .right .octets };
-        pass = ((omega arith, r .pass .0 .1), r .pass .1);
-      }
-
-  report-read : readOf (0x5F ∷ 0xC4 ∷ body) ≡ readAs (partOf 4 (kOf body) body)
-  unfolding numberOf firstOf layoutAt layouts
-  report-read =
-      read-as (0x5F ∷ 0xC4 ∷ body) 4 (kOf body) refl (getD-drop 1 body 0 0) (omega arith) (record { first = omega arith; last = omega arith }) read-report
-
   some : standingOf (timesRecord body) ≡ empty → ⊥
-  unfolding standingOf
-  some =
-      let h = times-holds body f .stands in
-      let e : standingOf (timesRecord body) ≡ timesSet =
-      rw (
-        eq-eqb (length (timesRecord body)) recordLen (h .long),
-        fit-times (timesRecord body) (h .long) (h .times),
-        eq-eqb (stateOf (timesRecord body)) timesSet (h .state),
-        zero-rest (timesRecord body) (timesEnd (timesRecord body)) (h .rest),
-      ) in
-      λ z. absurd (omega (arith, e))
+  some z = absurd (omega (arith, times-to (timesRecord body) (times-holds body f .stands)))
 
-  reported : reportTimesOf (timesRecord body) (planIn body) ≡ partOf 4 (kOf body) body
-  unfolding timesInfo
-  reported = sym (times-told (timesRecord body) (planIn body) refl some refl refl refl refl) ∙ (ap (λ (l : List ℕ). readOf l .message) info-again ∙ ap (λ (r : Read). r .message) report-read)
+  reported : reportTimesOf (timesRecord body) (planIn body) ≡ partOf (numberOf 0x5FC4) (kOf body) body
+  reported =
+      times-part (timesRecord body) (planIn body) (f .plan .most) some
+      ∙ ap (λ (b : List ℕ). partOf (numberOf 0x5FC4) (kOf b) b) (ap (λ (l : List ℕ). planIn body ∷ l) front-again ∙ whole)
 
-same-values : (k : ℕ) (body : List ℕ) → Reports (partOf 4 k body) reportTimesCode (partOf 3 k body)
-unfolding partOf rowsAt layoutRows layoutAt layouts
+same-values : (k : ℕ) (body : List ℕ) → Reports (partOf (numberOf 0x5FC4) k body) reportTimesCode (partOf (numberOf 0x5F14) k body)
+unfolding numberOf firstOf partOf rowsAt layoutRows layoutAt layouts
 same-values k body = record { code = refl; fields = refl; values = refl }
 
 pub times-reported : TimesReported
-unfolding layouts
 times-reported book info hb hc f =
     let os = bodyIn info in
     let e : recordAt (setTimesOf book info .book) (planIn os) ≡ timesRecord os =
     ap (λ (w : Setting). recordAt (w .book) (planIn os)) (fit-stored book info hb hc f)
     ∙ stored-here book (planIn os) (timesRecord os) hb (f .plan .least) (f .plan .most) (record-long os f) .here in
-    let s : readOf info ≡ readAs (partOf 3 (kOf os) os) =
-    read-as info 3 (kOf os) (times-number book info hb hc) (times-count book info hb hc) (long-enough info setTimesCode hc (λ z. absurd (omega arith)))
-    (record { first = omega arith; last = omega arith }) (fit-read os f) in
-    rw (e, reported os f, s) (same-values (kOf os) os)
+    rw (e, reported os f, ranges-as set-times info hc (fit-read os f)) (same-values (kOf os) os)
 
 -- 5F C5 and 5F C8
 
@@ -139,59 +103,20 @@ module _ (old body : List ℕ) (f : Fit15 old body) where
       (drop-next body 2 (omega (arith, f .ranges .long)) ∙ ap (λ (l : List ℕ). orderIn body ∷ l) (drop-next body 3 (omega (arith, f .ranges .long)))))))
 
   is-ready : standingOf m ≡ ready
-  unfolding standingOf readyStands
-  is-ready =
-      let h = holds .stands in
-      let n : stateOf m ≡ timesSet → ⊥ = λ z. absurd (omega (arith, h .state)) in
-      rw (
-        eq-eqb (length m) recordLen (h .long),
-        fit-times m (h .long) (h .times),
-        ne-eqb (stateOf m) timesSet n,
-        eq-eqb (stateOf m) ready (h .state),
-        fits-plan m (h .long) (omega (arith, holds .order, f .ranges .order .0)) (h .times) (h .greens),
-        zero-rest m (readyEnd m) (h .rest),
-      )
+  is-ready = ready-to m (omega (arith, holds .order, f .ranges .order .0)) (holds .stands)
 
-  told : (code : ℕ) → reportsPlan code ≡ true → reportPlanOf m (planIn body) code ≡ readOf (highOf code ∷ lowOf code ∷ body) .message
-  unfolding planInfo
-  told code t =
-      sym (plan-told m (planIn body) refl code is-ready refl t refl refl refl refl refl refl refl refl) ∙ ap (λ (l : List ℕ). readOf (highOf code ∷ lowOf code ∷ l) .message) whole-again
+  told : {code : ℕ} → PlanReport code → reportPlanOf m (planIn body) code ≡ partOf (numberOf code) (countIn body) body
+  told {code} t =
+      plan-part m (planIn body) (f .ranges .plan .most) (λ z. absurd (omega (arith, is-ready))) is-ready t
+      ∙ ap (λ (b : List ℕ). partOf (numberOf code) (countIn b) b) whole-again
 
-  -- as a report it passes where it passed as a set
-  read-plan-report : Read1 6 (countIn body) body
-  unfolding rowsAt layoutRows layoutAt layouts
-  read-plan-report =
-      let r = ranges-to body (f .ranges) in
-      record {
-        right = record { fewest = r .right .fewest; most = r .right .most; octets = r .right .octets };
-        pass = ((omega arith, r .pass .0 .1), r .pass .1);
-      }
-
-  read-running : Read1 7 (countIn body) body
-  unfolding rowsAt layoutRows layoutAt layouts
-  read-running = record { right = record { fewest = read-plan-report .right .fewest; most = read-plan-report .right .most; octets = read-plan-report .right .octets }; pass = read-plan-report .pass }
-
-  plan-is : reportPlanOf m (planIn body) reportPlanCode ≡ partOf 6 (countIn body) body
-  unfolding numberOf firstOf layoutAt layouts
-  plan-is =
-      told reportPlanCode refl
-      ∙ ap (λ (r : Read). r .message)
-      (read-as (0x5F ∷ 0xC5 ∷ body) 6 (countIn body) refl (simp getD-drop) (omega arith) (record { first = omega arith; last = omega arith }) read-plan-report)
-
-  running-is : reportPlanOf m (planIn body) reportRunningCode ≡ partOf 7 (countIn body) body
-  unfolding numberOf firstOf layoutAt layouts
-  running-is =
-      told reportRunningCode refl
-      ∙ ap (λ (r : Read). r .message)
-      (read-as (0x5F ∷ 0xC8 ∷ body) 7 (countIn body) refl (simp getD-drop) (omega arith) (record { first = omega arith; last = omega arith }) read-running)
-
-  same-as-sent : (code : ℕ) → (code ≡ reportPlanCode) ⊎ (code ≡ reportRunningCode) → Reports (reportPlanOf m (planIn body) code) code (partOf 5 (countIn body) body)
-  unfolding partOf rowsAt layoutRows layoutAt layouts
-  same-as-sent code (inl e) = rw (e, plan-is) (record { code = refl; fields = refl; values = refl })
-  same-as-sent code (inr e) = rw (e, running-is) (record { code = refl; fields = refl; values = refl })
+  same-as-sent : (code : ℕ) → (code ≡ reportPlanCode) ⊎ (code ≡ reportRunningCode)
+      → Reports (reportPlanOf m (planIn body) code) code (partOf (numberOf 0x5F15) (countIn body) body)
+  unfolding numberOf firstOf partOf rowsAt layoutRows layoutAt layouts
+  same-as-sent code (inl e) = rw (told (plan-report (inl e)), e) (record { code = refl; fields = refl; values = refl })
+  same-as-sent code (inr e) = rw (told (plan-report (inr e)), e) (record { code = refl; fields = refl; values = refl })
 
 pub plan-reported : PlanReported
-unfolding layouts
 plan-reported book info code hb ob hc f w =
     let os = bodyIn info in
     let old = recordAt book (planIn os) in
@@ -199,7 +124,4 @@ plan-reported book info code hb ob hc f w =
     ap (λ (w : Setting). recordAt (w .book) (planIn os)) (fit-done book info hb ob hc f)
     ∙ stored-here book (planIn os) (readyRecord old os) hb (f .ranges .plan .least) (f .ranges .plan .most)
     (m-long old os (f .set) (f .ranges) (f .count .stored) (f .count .diagram) (f .green) (f .cycle) (f .offset)) .here in
-    let s : readOf info ≡ readAs (partOf 5 (countIn os) os) =
-    read-as info 5 (countIn os) (plan-number book info hb ob hc) (plan-count book info hb ob hc) (long-enough info setPlanCode hc (λ z. absurd (omega arith)))
-    (record { first = omega arith; last = omega arith }) (ranges-to os (f .ranges)) in
-    rw (e, s) (same-as-sent old os f code w)
+    rw (e, ranges-as set-plan info hc (in-ranges os .1 (f .ranges))) (same-as-sent old os f code w)
