@@ -7,7 +7,7 @@ use native.Mathlib.Decide.{decLt}
 use native.Mathlib.Omega.{arith}
 use borrow.Author.Tests.{leb-true}
 use lib.Dec.{leb}
-use lib.ListN.{length, getD, take, drop, length-append, length-drop, length-replicate, List·getD-eq-default}
+use lib.ListN.{length, getD, take, drop, length-drop, List·getD-eq-default}
 use lib.Seq.{ext-getD, getD-take, getD-drop, length-take-le}
 use Rattle.octets.specs.Choice.{both}
 use Rattle.octets.specs.Octet.{Octets}
@@ -21,6 +21,7 @@ use Rattle.message.specs.Layouts as specified
 use Rattle.message.specs.Layouts.{layouts, layoutAt, noLayout, layoutRows, rowsAt, repeated}
 use Rattle.message.specs.Values.{fieldsMost, sizeOf, valuesOf, octetsOf, placed}
 use Rattle.message.specs.Promises.{InRange, RightAt}
+use Rattle.message.proofs.Values.{filled-long}
 use Rattle.message.proofs.Ranges.{both-true, placed-at}
 
 -- Each field is wide enough for its range
@@ -109,7 +110,7 @@ fits-octets (g ∷ fs) (v ∷ vs) f =
 -- the fields' values, with 0 past the last, are all of a message's values
 pub length-placed : (vs : List ℕ) → length vs ≤ fieldsMost → length (placed vs) ≡ fieldsMost
 unfolding placed
-length-placed vs h = simp (length-append, length-replicate) (omega arith)
+length-placed vs h = filled-long fieldsMost vs h
 
 pub placed-back : (n : ℕ) (vs : List ℕ) → length vs ≡ fieldsMost → n ≤ fieldsMost → ((j : ℕ) → n ≤ j → j < fieldsMost → getD vs j 0 ≡ 0) → placed (take n vs) ≡ vs
 placed-back n vs e h z = ext-getD 0 (placed (take n vs)) vs (long ∙ sym e) (λ j l. placed-at (take n vs) j ∙ by j (omega (arith, long)) (decLt j n))

@@ -1,12 +1,12 @@
 -- The layouts hold what 01's table lists, each field under its number and at its place.
-use Prim.Native.Nat.{ℕ, zero, suc, _+_, _*_, _-_, _≤_, _<_}
-use mathlib.Core.Path.{_≡_, refl, sym, ap, _∙_}
+use Prim.Native.Nat.{ℕ, zero, suc, _+_, _*_, _-_, _<_}
+use mathlib.Core.Path.{_≡_, refl, sym, _∙_}
 use mathlib.Core.List.{List, [], _∷_, _++_, append-assoc}
-use native.Mathlib.Nat.{mul-le-mul-right, zero-mul, suc-mul}
+use native.Mathlib.Nat.{zero-mul, suc-mul}
 use native.Mathlib.Omega.{arith}
 use lib.Dec.{eqb}
-use lib.ListN.{length, getD, take, drop, length-append, List·getD-append}
-use lib.Seq.{getD-append-add, drop-append-add, getD-drop, take-add, take-append-add, take-append-le}
+use lib.ListN.{length, getD, take, length-append, List·getD-append}
+use lib.Seq.{getD-append-add, take-append-add, take-append-le}
 use Rattle.octets.specs.First.{firstOf}
 use Rattle.octets.proofs.Search.{search-first}
 use Rattle.message.specs.declared.layout.Field.{Field}
@@ -14,7 +14,7 @@ use Rattle.message.specs.declared.layout.Field.the-variants.{Octet}
 use Rattle.message.specs.Fields as field
 use Rattle.message.specs.Fields.{noField}
 use Rattle.message.specs.Layouts.{layouts, layoutAt, numberOf, rowsAt, layoutRows, repeated, times, greens, cycleOffset}
-use Rattle.message.specs.Values.{sizeOf}
+use Rattle.message.specs.Values.{sizeOf, fieldStart}
 use Rattle.message.specs.Promises.{listed, CodesListed, FieldStands, AnswerFields, RefusalFields, PhaseFields, GreenFields, TimesFields, PlanFields, OnePlan, FieldNumbers, NamesAsSaid, StoredParts}
 use Rattle.message.proofs.Layouts.{length-repeated}
 use Rattle.message.proofs.Values.{size-append, size-repeated}
@@ -23,31 +23,38 @@ pub codes-listed : CodesListed
 unfolding numberOf firstOf layoutAt layouts
 codes-listed c = search-first (λ j. eqb (getD listed j 0) c) (length listed)
 
-module _ (g t : List Field) where
-  drop-repeated : (k i : ℕ) → i ≤ k → drop (i * length g) (repeated k g ++ t) ≡ repeated (k - i) g ++ t
-  drop-repeated k zero h = let e : k ≡ k - 0 = omega arith in rw (zero-mul (length g)) (ap (λ (n : ℕ). repeated n g ++ t) e)
-  drop-repeated zero (suc i) h = absurd (omega arith)
-  drop-repeated (suc k) (suc i) h =
-      let e : suc i * length g ≡ length g + i * length g = omega (arith, suc-mul i (length g)) in
-      let d : k - i ≡ suc k - suc i = omega arith in
-      rw (append-assoc, e, drop-append-add g (repeated k g ++ t) (i * length g), ← d) (drop-repeated k i (omega arith))
+-- a field of a list stands in it, and with others behind it and before it
+stands : (fs : List Field) (j : ℕ) → j < length fs → {n s : ℕ} → n ≡ j + 1 → s ≡ fieldStart fs j → FieldStands fs n (getD fs j noField) s
+stands fs j l en es = record { place = j; number = en; within = l; there = refl; start = sym es }
 
-  take-repeated : (k i : ℕ) → i ≤ k → sizeOf (take (i * length g) (repeated k g ++ t)) ≡ i * sizeOf g
-  take-repeated k zero h = rw (zero-mul (length g), zero-mul (sizeOf g))
-  take-repeated zero (suc i) h = absurd (omega arith)
-  take-repeated (suc k) (suc i) h =
-      let e : suc i * length g ≡ length g + i * length g = omega (arith, suc-mul i (length g)) in
-      rw (append-assoc, e, take-append-add g (repeated k g ++ t) (i * length g))
-      (omega (arith, size-append g (take (i * length g) (repeated k g ++ t)), take-repeated k i (omega arith), suc-mul i (sizeOf g)))
+module _ {fs : List Field} {n s : ℕ} {f : Field} (w : FieldStands fs n f s) where
+  before : (gs : List Field) → FieldStands (fs ++ gs) n f s
+  before gs =
+      record {
+        place = w .place;
+        number = w .number;
+        within = omega (arith, length-append fs gs, w .within);
+        there = List·getD-append fs gs noField (w .place) (w .within) ∙ w .there;
+        start = rw (take-append-le (w .place) fs gs (omega (arith, w .within))) (w .start);
+      }
 
-  -- what stands j places on from the i-th time
-  module _ (k i : ℕ) (h : i ≤ k) (j : ℕ) where
-    there : getD (repeated k g ++ t) (i * length g + j) noField ≡ getD (repeated (k - i) g ++ t) j noField
-    there = sym (getD-drop (i * length g) (repeated k g ++ t) j noField) ∙ ap (λ (l : List Field). getD l j noField) (drop-repeated k i h)
+  behind : (hs : List Field) {m u : ℕ} → m ≡ length hs + n → u ≡ sizeOf hs + s → FieldStands (hs ++ fs) m f u
+  behind hs em eu =
+      record {
+        place = length hs + w .place;
+        number = omega (arith, w .number);
+        within = omega (arith, length-append hs fs, w .within);
+        there = getD-append-add hs fs (w .place) noField ∙ w .there;
+        start = rw (take-append-add hs fs (w .place)) (size-append hs (take (w .place) fs) ∙ omega (arith, w .start));
+      }
 
-    start : sizeOf (take (i * length g + j) (repeated k g ++ t)) ≡ i * sizeOf g + sizeOf (take j (repeated (k - i) g ++ t))
-    start =
-        rw (take-add (i * length g) j (repeated k g ++ t), size-append, drop-repeated k i h, take-repeated k i h)
+-- the i-th time of k
+among : {g : List Field} {n s : ℕ} {f : Field} → FieldStands g n f s → (k i : ℕ) (t : List Field) → i < k → {m u : ℕ} → m ≡ i * length g + n → u ≡ i * sizeOf g + s
+    → FieldStands (repeated k g ++ t) m f u
+among w zero i t h em eu = absurd (omega arith)
+among {g} w (suc k) zero t h em eu = rw append-assoc (behind (before w (repeated k g ++ t)) [] (omega (arith, zero-mul (length g))) (omega (arith, zero-mul (sizeOf g))))
+among {g} w (suc k) (suc i) t h em eu =
+    rw append-assoc (behind (among w k i t (omega arith) refl refl) g (omega (arith, suc-mul i (length g))) (omega (arith, suc-mul i (sizeOf g))))
 
 -- a field of the head, of the group and of the tail of a layout
 module _ (hs g t : List Field) (k : ℕ) where
@@ -60,44 +67,15 @@ module _ (hs g t : List Field) (k : ℕ) where
   size : sizeOf rows ≡ sizeOf hs + k * sizeOf g + sizeOf t
   size = omega (arith, size-append hs (repeated k g ++ t), size-append (repeated k g) t, size-repeated g k)
 
-  in-head : (j : ℕ) → j < length hs → {n s : ℕ} → n ≡ j + 1 → s ≡ sizeOf (take j hs) → FieldStands rows n (getD hs j noField) s
-  in-head j l en es =
-      record {
-        place = j;
-        number = en;
-        within = omega (arith, many);
-        there = List·getD-append hs (repeated k g ++ t) noField j l;
-        start = rw (take-append-le j hs (repeated k g ++ t) (omega arith)) (sym es);
-      }
+  in-head : (j : ℕ) → j < length hs → {n s : ℕ} → n ≡ j + 1 → s ≡ fieldStart hs j → FieldStands rows n (getD hs j noField) s
+  in-head j l en es = before (stands hs j l en es) (repeated k g ++ t)
 
-  -- j places on from the i-th time
-  past-head : (i : ℕ) → i ≤ k → (j : ℕ) → i * length g + j < k * length g + length t → {n s : ℕ} {f : Field} → n ≡ length hs + (i * length g + j) + 1
-      → getD (repeated (k - i) g ++ t) j noField ≡ f → sizeOf hs + (i * sizeOf g + sizeOf (take j (repeated (k - i) g ++ t))) ≡ s → FieldStands rows n f s
-  past-head i h j l en ef es =
-      record {
-        place = length hs + (i * length g + j);
-        number = en;
-        within = omega (arith, many);
-        there = getD-append-add hs (repeated k g ++ t) (i * length g + j) noField ∙ there g t k i h j ∙ ef;
-        start =
-            rw (take-append-add hs (repeated k g ++ t) (i * length g + j))
-            (omega (arith, size-append hs (take (i * length g + j) (repeated k g ++ t)), start g t k i h j, es));
-      }
-
-  in-group : (i : ℕ) → i < k → (j : ℕ) → j < length g → {n s : ℕ} → n ≡ length hs + (i * length g + j) + 1 → s ≡ sizeOf hs + (i * sizeOf g + sizeOf (take j g))
+  in-group : (i : ℕ) → i < k → (j : ℕ) → j < length g → {n s : ℕ} → n ≡ length hs + (i * length g + j) + 1 → s ≡ sizeOf hs + (i * sizeOf g + fieldStart g j)
       → FieldStands rows n (getD g j noField) s
-  in-group i h j l en es =
-      let e : k - i ≡ suc (k - suc i) = omega arith in
-      let a : repeated (k - i) g ++ t ≡ g ++ (repeated (k - suc i) g ++ t) = rw (e, append-assoc) in
-      let more : i * length g + length g ≤ k * length g = omega (arith, suc-mul i (length g), mul-le-mul-right (length g) h) in
-      past-head i (omega arith) j (omega arith) en (rw a (List·getD-append g (repeated (k - suc i) g ++ t) noField j l))
-      (rw (a, take-append-le j g (repeated (k - suc i) g ++ t) (omega arith)) (sym es))
+  in-group i h j l en es = behind (among (stands g j l refl refl) k i t h refl refl) hs (omega arith) es
 
-  in-tail : (j : ℕ) → j < length t → {n s : ℕ} → n ≡ length hs + (k * length g + j) + 1 → s ≡ sizeOf hs + (k * sizeOf g + sizeOf (take j t)) → FieldStands rows n (getD t j noField) s
-  in-tail j l en es =
-      let e : k - k ≡ 0 = omega arith in
-      let a : repeated (k - k) g ++ t ≡ t = rw e in
-      past-head k (omega arith) j (omega arith) en (rw a) (rw a (sym es))
+  in-tail : (j : ℕ) → j < length t → {n s : ℕ} → n ≡ length hs + (k * length g + j) + 1 → s ≡ sizeOf hs + (k * sizeOf g + fieldStart t j) → FieldStands rows n (getD t j noField) s
+  in-tail j l en es = behind (behind (stands t j l refl refl) (repeated k g) refl refl) hs (omega (arith, length-repeated k g)) (omega (arith, size-repeated g k))
 
 -- the fields of a phase, and the greens, the cycle and the offset, after any head
 module _ (hs : List Field) (k : ℕ) where

@@ -1,16 +1,16 @@
 -- A field's test says whether its value is in range, and the search finds the first that is not.
 use Prim.Native.Nat.{ℕ, zero, suc, _-_, _≤_, _<_}
-use mathlib.Core.Path.{_≡_, refl, sym, _∙_}
+use mathlib.Core.Path.{_≡_, refl}
 use mathlib.Core.Bool.{Bool, true, false, not}
-use mathlib.Core.List.{List, _++_}
+use mathlib.Core.List.{List}
 use native.Mathlib.Decide.{decLt}
 use native.Mathlib.Omega.{arith}
 use borrow.Author.Tests.{le-leb, leb-true, not-false}
 use lib.Dec.{leb}
-use lib.ListN.{length, getD, replicate, List·getD-append, List·getD-eq-default}
+use lib.ListN.{length, getD, List·getD-eq-default}
 use Rattle.octets.specs.Choice.{both}
 use Rattle.octets.specs.First.{First}
-use Rattle.octets.proofs.Laws.{both-left, both-right, clash, first-none, first-found, first-one, getD-past}
+use Rattle.octets.proofs.Laws.{both-left, both-right, clash, first-none, first-found, first-one}
 use Rattle.octets.proofs.Search.{search-first}
 use Rattle.diagram.specs.Table.{phasesOf}
 use Rattle.message.specs.declared.layout.Field.{Field}
@@ -18,6 +18,7 @@ use Rattle.message.specs.declared.layout.Field.the-variants.{Octet, Two,
 use Rattle.message.specs.Fields.{passes, noField}
 use Rattle.message.specs.Values.{fieldsMost, placed, outAt, firstOut}
 use Rattle.message.specs.Promises.{InRange, RangesAsSaid, RightAt, FirstWrong}
+use Rattle.message.proofs.Values.{filled-at}
 
 -- Ranges
 
@@ -42,23 +43,9 @@ ranges-as-said f v = (in-range f v, range-in f v)
 
 -- The places of a message
 
-getD-same : (x n i : ℕ) → getD (replicate n x) i x ≡ x
-getD-same x zero i = refl
-getD-same x (suc n) zero = refl
-getD-same x (suc n) (suc i) = getD-same x n i
-
 pub placed-at : (vs : List ℕ) (j : ℕ) → getD (placed vs) j 0 ≡ getD vs j 0
 unfolding placed
-placed-at vs j = by (decLt j (length vs))
-  where
-    zs : List ℕ
-    zs = replicate (fieldsMost - length vs) 0
-
-    by : Dec (j < length vs) → getD (vs ++ zs) j 0 ≡ getD vs j 0
-    by (yes l) = List·getD-append vs zs 0 j l
-    by (no g) =
-        let h : length vs ≤ j = omega arith in
-        getD-past vs zs 0 j h ∙ getD-same 0 (fieldsMost - length vs) (j - length vs) ∙ sym (List·getD-eq-default vs 0 h)
+placed-at vs j = filled-at fieldsMost vs j
 
 -- The search
 

@@ -3,12 +3,14 @@ use Prim.Native.Nat.{ℕ, zero, suc, _+_, _*_, _-_, _≤_, _<_}
 use mathlib.Core.Path.{_≡_, refl, sym, ap, _∙_}
 use mathlib.Core.Bool.{Bool, true, false}
 use mathlib.Core.List.{List, [], _∷_, _++_}
-use native.Mathlib.Nat.{add-zero, zero-add, zero-mul, suc-mul}
+use native.Mathlib.Nat.{add-zero, zero-mul, suc-mul}
+use native.Mathlib.Decide.{decLt}
 use native.Mathlib.Numerals.{add-one}
 use native.Mathlib.Omega.{arith}
-use lib.ListN.{drop-of-length-le, replicate, set, length, getD, drop, List·getD-eq-default}
+use lib.ListN.{drop-of-length-le, replicate, set, length, getD, drop, length-append, length-replicate, List·getD-append, List·getD-eq-default}
 use lib.Seq.{sets, sets-eq, drop-drop, drop-cons, getD-drop}
 use Rattle.octets.specs.Word.{wordOf}
+use Rattle.octets.proofs.Laws.{getD-past}
 use Rattle.message.specs.declared.layout.Field.{Field}
 use Rattle.message.specs.Fields.{noField, twoOf, widthOf, valueOf}
 use Rattle.message.specs.Layouts.{repeated}
@@ -66,23 +68,40 @@ module _ (fs : List Field) (os v : List ℕ) (i at x : ℕ) (t : Bool) (h : i < 
   pub values-next : sets (set v i x) (i + 1) (valuesOf (drop (i + 1) fs) (drop (at + widthOf t) os)) ≡ sets v i (valuesOf (drop i fs) (drop at os))
   values-next = rw (drop-cons fs i noField h, ← et, ex, drop-drop, add-one)
 
-module _ (x : ℕ) where
-  drop-replicate : (n m : ℕ) → drop m (replicate n x) ≡ replicate (n - m) x
-  drop-replicate n zero = let e : n ≡ n - 0 = omega arith in ap (λ (k : ℕ). replicate k x) e
-  drop-replicate zero (suc m) = let e : 0 ≡ 0 - suc m = omega arith in ap (λ (k : ℕ). replicate k x) e
-  drop-replicate (suc n) (suc m) = let e : n - m ≡ suc n - suc m = omega arith in drop-replicate n m ∙ ap (λ (k : ℕ). replicate k x) e
+-- A list, and 0 in the places past its end, up to n of them
 
-zeros-past : (n : ℕ) → drop n zeros ≡ replicate (fieldsMost - n) 0
-unfolding zeros
-zeros-past n = drop-replicate 0 fieldsMost n
+drop-same : (x n m : ℕ) → drop m (replicate n x) ≡ replicate (n - m) x
+drop-same x n zero = let e : n ≡ n - 0 = omega arith in ap (λ (k : ℕ). replicate k x) e
+drop-same x zero (suc m) = let e : 0 ≡ 0 - suc m = omega arith in ap (λ (k : ℕ). replicate k x) e
+drop-same x (suc n) (suc m) = let e : n - m ≡ suc n - suc m = omega arith in drop-same x n m ∙ ap (λ (k : ℕ). replicate k x) e
 
-pub length-zeros : length zeros ≡ fieldsMost
-unfolding zeros
-length-zeros = refl
+getD-same : (x n i : ℕ) → getD (replicate n x) i x ≡ x
+getD-same x zero i = refl
+getD-same x (suc n) zero = refl
+getD-same x (suc n) (suc i) = getD-same x n i
+
+module _ (n : ℕ) (vs : List ℕ) where
+  abbrev filled : List ℕ
+  filled = vs ++ replicate (n - length vs) 0
+
+  pub filled-at : (j : ℕ) → getD filled j 0 ≡ getD vs j 0
+  filled-at j = by (decLt j (length vs))
+    where
+      by : Dec (j < length vs) → getD filled j 0 ≡ getD vs j 0
+      by (yes l) = List·getD-append vs (replicate (n - length vs) 0) 0 j l
+      by (no g) =
+          let h : length vs ≤ j = omega arith in
+          getD-past vs (replicate (n - length vs) 0) 0 j h ∙ getD-same 0 (n - length vs) (j - length vs) ∙ sym (List·getD-eq-default vs 0 h)
+
+  module _ (h : length vs ≤ n) where
+    pub filled-long : length filled ≡ n
+    filled-long = simp (length-append, length-replicate) (omega arith)
+
+    pub filled-is : sets (replicate n 0) 0 vs ≡ filled
+    filled-is =
+        let e : 0 + length vs ≡ length vs = omega arith in
+        sets-eq vs (replicate n 0) 0 (omega (arith, length-replicate {A = ℕ} n 0)) ∙ rw e (ap (λ (l : List ℕ). vs ++ l) (drop-same 0 n (length vs)))
 
 pub placed-is : (vs : List ℕ) → length vs ≤ fieldsMost → sets zeros 0 vs ≡ placed vs
-unfolding placed
-placed-is vs h = sets-eq vs zeros 0 (omega (arith, length-zeros)) ∙ ap (λ (l : List ℕ). vs ++ l) (rest vs)
-  where
-    rest : (vs : List ℕ) → drop (0 + length vs) zeros ≡ replicate (fieldsMost - length vs) 0
-    rest vs = ap (λ (n : ℕ). drop n zeros) (zero-add (length vs)) ∙ zeros-past (length vs)
+unfolding placed zeros
+placed-is vs h = filled-is fieldsMost vs h

@@ -3,23 +3,23 @@ use Prim.Native.Nat.{ℕ, zero, suc, _+_, _*_, _-_, _/_, _%_, _≤_, _<_}
 use mathlib.Core.Path.{_≡_, refl, sym, ap, _∙_}
 use mathlib.Core.Bool.{Bool, true, false}
 use mathlib.Core.List.{List, _∷_, _++_}
-use native.Mathlib.Nat.{zero-add}
-use native.Mathlib.Decide.{decLt, ℕ-discrete}
+use native.Mathlib.Decide.{ℕ-discrete}
 use native.Mathlib.Omega.{arith}
 use borrow.Author.Tests.{eq-eqb, ne-eqb, le-leb, lt-leb}
 use lib.Dec.{leb}
-use lib.ListN.{length, drop, set, replicate, length-append, length-drop, length-replicate, List·getD-append, List·getD-eq-default}
-use lib.Seq.{sets, sets-eq, getD-drop, getD-take, getD-append-add, drop-at, length-take-le}
+use lib.ListN.{length, drop, set, replicate, length-append, length-drop, List·getD-append}
+use lib.Seq.{sets, getD-drop, getD-take, getD-append-add, drop-at, length-take-le}
 use Rattle.octets.specs.First.{firstOf}
 use Rattle.octets.specs.Part.{codeLen}
 use Rattle.octets.specs.Put.{Put, Stored}
 use Rattle.octets.specs.Refusal as refusal
-use Rattle.octets.proofs.Laws.{clash, put-stored, stored-then, part-to-end, getD-past}
+use Rattle.octets.proofs.Laws.{clash, put-stored, stored-then, part-to-end}
 use Rattle.message.specs.declared.Read.{Read}
 use Rattle.message.specs.Layouts.{layouts, layoutAt, numberOf, rowsAt, layoutRows}
 use Rattle.message.specs.Reader.{codeIn, bodyIn, readOf}
 use Rattle.message.specs.Names.{planAt, planCountAt, maximumAt, redManAt}
 use Rattle.message.proofs.Accepted.{accepted-in}
+use Rattle.message.proofs.Values.{filled-at, filled-long, filled-is}
 use Rattle.plan.specs.declared.setting.Answered.{Answered}
 use Rattle.plan.specs.declared.setting.NewRecord.{NewRecord}
 use Rattle.record.specs.Record.{recordLen, bookLen, empty, timesSet, ready, octetAt, kOf, timesEnd, ZeroFrom}
@@ -91,17 +91,9 @@ module _ (body : List ℕ) where
 
 -- The records
 
-module _ (x : ℕ) where
-  drop-replicate : (n m : ℕ) → drop m (replicate n x) ≡ replicate (n - m) x
-  drop-replicate n zero = let e : n ≡ n - 0 = omega arith in ap (λ (k : ℕ). replicate k x) e
-  drop-replicate zero (suc m) = let e : 0 ≡ 0 - suc m = omega arith in ap (λ (k : ℕ). replicate k x) e
-  drop-replicate (suc n) (suc m) = let e : n - m ≡ suc n - suc m = omega arith in drop-replicate n m ∙ ap (λ (k : ℕ). replicate k x) e
-
 pub padded-is : (vs : List ℕ) → length vs ≤ recordLen → sets (replicate recordLen 0) 0 vs ≡ padded vs
 unfolding padded
-padded-is vs h =
-    sets-eq vs (replicate recordLen 0) 0 (omega arith)
-    ∙ ap (λ (l : List ℕ). vs ++ l) (ap (λ (n : ℕ). drop n (replicate recordLen 0)) (zero-add (length vs)) ∙ drop-replicate 0 recordLen (length vs))
+padded-is vs h = filled-is recordLen vs h
 
 -- a state in front of the octets
 module _ (state : ℕ) (vs : List ℕ) {r : ℕ} {l : List ℕ} where
@@ -135,22 +127,11 @@ ready-built old body {p} {q} {r} {l} {m} {o} ho hk hb {end} ee a b c =
 -- an octet of a record is that of what it was made of: past their end both read as 0
 pub padded-at : (vs : List ℕ) (i : ℕ) → octetAt (padded vs) i ≡ octetAt vs i
 unfolding padded
-padded-at vs i = by (decLt i (length vs))
-  where
-    by : Dec (i < length vs) → octetAt (vs ++ replicate (recordLen - length vs) 0) i ≡ octetAt vs i
-    by (yes l) = List·getD-append vs (replicate (recordLen - length vs) 0) 0 i l
-    by (no n) =
-        let h : length vs ≤ i = omega arith in
-        getD-past vs (replicate (recordLen - length vs) 0) 0 i h ∙ (zero-at (recordLen - length vs) (i - length vs) ∙ sym (List·getD-eq-default vs 0 h))
-      where
-        zero-at : (n i : ℕ) → octetAt (replicate n 0) i ≡ 0
-        zero-at zero i = refl
-        zero-at (suc n) zero = refl
-        zero-at (suc n) (suc i) = zero-at n i
+padded-at vs i = filled-at recordLen vs i
 
 pub padded-long : (vs : List ℕ) → length vs ≤ recordLen → length (padded vs) ≡ recordLen
 unfolding padded
-padded-long vs h = omega (arith, length-append vs (replicate (recordLen - length vs) 0), length-replicate {A = ℕ} (recordLen - length vs) 0)
+padded-long vs h = filled-long recordLen vs h
 
 pub padded-rest : (vs : List ℕ) (at : ℕ) → length vs ≡ at → ZeroFrom (padded vs) at
 unfolding padded
