@@ -59,34 +59,32 @@ module _ (book info : List ℕ) (hb : length book ≡ bookLen) where
   abbrev p : ℕ
   p = planIn (bodyIn info)
 
-  left-as : {l : List ℕ} → l ≡ book → Left book p l
-  left-as e = subst (Left book p) (sym e) same
+  -- refused it leaves the book, and otherwise it stores its record
+  left-by : (code : ℕ) (m : NewRecord)
+      → (let w = setOf code m book info in
+      (codeIn info ≡ code → (w .answer .refusal ≡ refusal.none → ⊥) → w .book ≡ book)
+      → (codeIn info ≡ code → w .answer .refusal ≡ refusal.none → Left book p (w .book)) → Left book p (w .book))
+  left-by code m kept stored = by (ℕ-discrete (codeIn info) code) (ℕ-discrete (setOf code m book info .answer .refusal) refusal.none)
+    where
+      left-as : {l : List ℕ} → l ≡ book → Left book p l
+      left-as e = subst (Left book p) (sym e) same
+
+      by : Dec (codeIn info ≡ code) → Dec (setOf code m book info .answer .refusal ≡ refusal.none) → Left book p (setOf code m book info .book)
+      by (no n) d = left-as (set-other code m book info n)
+      by (yes e) (no n) = left-as (kept e n)
+      by (yes e) (yes a) = stored e a
 
   pub times-left : Left book p (setTimesOf book info .book)
-  times-left = by (ℕ-discrete (codeIn info) setTimesCode)
-    where
-      by : Dec (codeIn info ≡ setTimesCode) → Left book p (setTimesOf book info .book)
-      by (no n) = left-as (set-other setTimesCode (timesMade (bodyIn info)) book info n)
-      by (yes e) = go (ℕ-discrete (setTimesOf book info .answer .refusal) refusal.none)
-        where
-          go : Dec (setTimesOf book info .answer .refusal ≡ refusal.none) → Left book p (setTimesOf book info .book)
-          go (no n) = left-as (times-stored-exactly-when book info hb e .kept n)
-          go (yes a) =
-              let j = times-stored-exactly-when book info hb e in
-              put (j .rec) (setTimesOf book info .book) (j .stored (j .only a)) (inr (inl (j .holds (j .only a) .stands)))
+  times-left =
+      let judged = times-stored-exactly-when book info hb in
+      left-by setTimesCode (timesMade (bodyIn info)) (λ e. judged e .kept)
+      (λ e a. let j = judged e in put (j .rec) (setTimesOf book info .book) (j .stored (j .only a)) (inr (inl (j .holds (j .only a) .stands))))
 
   pub plan-left : Octets book → Left book p (setPlanOf book info .book)
-  plan-left o = by (ℕ-discrete (codeIn info) setPlanCode)
-    where
-      by : Dec (codeIn info ≡ setPlanCode) → Left book p (setPlanOf book info .book)
-      by (no n) = left-as (set-other setPlanCode (readyMade (recordAt book p) (bodyIn info)) book info n)
-      by (yes e) = go (ℕ-discrete (setPlanOf book info .answer .refusal) refusal.none)
-        where
-          go : Dec (setPlanOf book info .answer .refusal ≡ refusal.none) → Left book p (setPlanOf book info .book)
-          go (no n) = left-as (plan-stored-exactly-when book info hb o e .kept n)
-          go (yes a) =
-              let j = plan-stored-exactly-when book info hb o e in
-              put (j .rec) (setPlanOf book info .book) (j .stored (j .only a)) (inr (inr (j .holds (j .only a) .stands)))
+  plan-left o =
+      let judged = plan-stored-exactly-when book info hb o in
+      left-by setPlanCode (readyMade (recordAt book p) (bodyIn info)) (λ e. judged e .kept)
+      (λ e a. let j = judged e in put (j .rec) (setPlanOf book info .book) (j .stored (j .only a)) (inr (inr (j .holds (j .only a) .stands))))
 
 -- a plan whose record is the same reads the same
 reads-same : (book book′ copy : List ℕ) (q : ℕ) → length book′ ≡ length book → (1 ≤ q → q ≤ plansMost → recordAt book′ q ≡ recordAt book q)

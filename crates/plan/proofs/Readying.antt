@@ -7,8 +7,7 @@ use native.Mathlib.Decide.{decLt, ℕ-discrete}
 use native.Mathlib.Omega.{arith}
 use borrow.Author.Tests.{eq-eqb, ne-eqb, eqb-true, eqb-false, leb-true, not-true, not-false}
 use lib.Dec.{eqb}
-use lib.ListN.{length, take, drop, replicate, length-drop, length-append}
-use lib.Seq.{sets, length-take-le}
+use lib.ListN.{length, take, drop, replicate}
 use Rattle.octets.specs.First.{First, firstOf}
 use Rattle.octets.specs.Octet.{Octets}
 use Rattle.octets.specs.Refusal as refusal
@@ -19,16 +18,16 @@ use Rattle.message.specs.Names.{planAt, planCountAt}
 use Rattle.message.specs.Reader.{codeIn, bodyIn, readOf}
 use Rattle.plan.specs.declared.setting.NewRecord.{NewRecord}
 use Rattle.record.specs.Record.{recordLen, bookLen, empty, timesSet, ready, octetAt, wordAt, kOf, timesAt, timesEnd, greensAt, readyEnd, minimumOf, maximumOf, directOf, orderOf, greenOf, cycleOf, offsetOf, sumOf, Within, AllTimesFit, Ready}
-use Rattle.checks.specs.Standing.{between, planFails, planChecks, planDisagree, standingOf, Stands}
+use Rattle.checks.specs.Standing.{planFails, planChecks, planDisagree, standingOf, Stands}
 use Rattle.plan.specs.BuiltIn.{padded}
 use Rattle.plan.specs.Reading.{recordStart, recordAt}
-use Rattle.plan.specs.Setting.{planIn, countIn, Setting, answered, readyRecord, planField, readyMade, setPlanCode, setPlanOf}
+use Rattle.plan.specs.Setting.{planIn, countIn, Setting, readyRecord, planField, readyMade, setPlanCode, setPlanOf}
 use Rattle.plan.specs.Promises.{directIn, orderIn, greenIn, cycleIn, offsetIn, sumIn, Ranges15, HasTimes, CountAgrees, GreenAgrees, Fit15, Disagrees15, count, green, cycle, offset, RecordStored, SameTimes, Holds15, PlanJudged, PlanStoredExactlyWhen}
 use Rattle.checks.proofs.Fields.{ranged-repeated}
 use Rattle.checks.proofs.Stands.{PlanAgrees, plan-first, plan-agrees, agrees-plan, green-within, within-green, check-green, check-cycle, check-offset, stands-as-it-is}
 use Rattle.plan.proofs.Ranges.{InRanges, set-plan, read-ranges}
-use Rattle.plan.proofs.Sets.{read-plan, padded-at, padded-long, padded-rest, ready-times, ready-two, ready-rest, ready-k}
-use Rattle.plan.proofs.Storing.{stored-here, set-read, set-unread, kept-made, kept-not-made, same-times, same-fit}
+use Rattle.plan.proofs.Sets.{read-plan, padded-at, padded-long, padded-rest, readyOctets, ready-long, ready-times, ready-two, ready-rest, ready-k}
+use Rattle.plan.proofs.Storing.{stored-here, notSet, nowSet, set-read, set-unread, kept-made, kept-not-made, Way, unread, unset, refused, fits, way-only, way-kept, way-unset, way-named, same-times, same-fit}
 
 one-run : (x : ℕ) (xs ys zs ws : List ℕ) → (x ∷ (xs ++ (ys ++ zs))) ++ ws ≡ x ∷ (xs ++ (ys ++ (zs ++ ws)))
 one-run x xs ys zs ws = ap (λ (l : List ℕ). x ∷ l) (append-assoc xs (ys ++ zs) ws ∙ ap (λ (l : List ℕ). xs ++ l) (append-assoc ys zs ws))
@@ -145,37 +144,29 @@ module _ (old body : List ℕ) (h : HasTimes old) (r : Ranges15 body) (e : count
   m-total = ap (sumOf m) (m-k ∙ sym e) ∙ m-sum (countIn body) (omega (arith, e))
 
   -- its checks are those of the message
-  module _ (d : countIn body ≡ phasesOf (orderIn body)) (g : (i : ℕ) → i < countIn body → GreenAgrees old body i) (c : cycleIn body ≡ sumIn old body (countIn body))
-      (f : offsetIn body < cycleIn body) where
+  module _ (f : Fit15 old body) where
     m-agrees : PlanAgrees m
     m-agrees =
         record {
-          count = m-k ∙ (sym e ∙ (d ∙ ap phasesOf (sym m-order)));
-          green = λ i l. within-m i (omega (arith, m-k)) (g i (omega (arith, m-k, e)));
-          cycle = m-cycle ∙ (c ∙ sym m-total);
-          offset = rw (m-offset, m-cycle) f;
+          count = m-k ∙ (sym e ∙ (f .count .diagram ∙ ap phasesOf (sym m-order)));
+          green = λ i l. within-m i (omega (arith, m-k)) (f .green i (omega (arith, m-k, e)));
+          cycle = m-cycle ∙ (f .cycle ∙ sym m-total);
+          offset = rw (m-offset, m-cycle) (f .offset);
         }
 
-    front-len : length (between 1 (timesEnd old) old) ≡ timesEnd old - 1
-    front-len = length-take-le (timesEnd old - 1) (drop 1 old) (simp length-drop (omega (arith, long-old)))
-
-    two-len : length (between 1 3 body) ≡ 2
-    two-len = length-take-le 2 (drop 1 body) (simp length-drop (omega (arith, long-body)))
-
-    m-len : length (ready ∷ (between 1 (timesEnd old) old ++ (between 1 3 body ++ drop 4 body))) ≡ timesEnd old + 2 + (length body - 4)
-    m-len =
-        omega (arith, length-append (between 1 (timesEnd old) old) (between 1 3 body ++ drop 4 body), length-append (between 1 3 body) (drop 4 body), front-len, two-len, length-drop 4 body)
+    m-len : length (readyOctets old body) ≡ timesEnd old + 2 + (length body - 4)
+    m-len = ready-long old body long-old long-body
 
     pub m-long : length m ≡ recordLen
     unfolding readyRecord
-    m-long = padded-long (ready ∷ (between 1 (timesEnd old) old ++ (between 1 3 body ++ drop 4 body))) (omega (arith, m-len, r .long, e, has-fit old h .count .most))
+    m-long = padded-long (readyOctets old body) (omega (arith, m-len, r .long, e, has-fit old h .count .most))
 
     m-ready : Ready m
     unfolding readyRecord
     m-ready =
         record {
           long = m-long;
-          state = padded-at (ready ∷ (between 1 (timesEnd old) old ++ (between 1 3 body ++ drop 4 body))) 0;
+          state = padded-at (readyOctets old body) 0;
           times =
               record {
                 count = rw m-k (has-fit old h .count);
@@ -191,13 +182,13 @@ module _ (old body : List ℕ) (h : HasTimes old) (r : Ranges15 body) (e : count
                 offset = m-agrees .offset;
               };
           rest =
-              padded-rest (ready ∷ (between 1 (timesEnd old) old ++ (between 1 3 body ++ drop 4 body))) (readyEnd m) (omega (arith, m-len, r .long, e, m-k));
+              padded-rest (readyOctets old body) (readyEnd m) (omega (arith, m-len, r .long, e, m-k));
         }
 
     m-octets : m ≡ 0x02 ∷ (take (1 + 7 * k) (drop 1 old) ++ (take 2 (drop 1 body) ++ (drop 4 body ++ replicate (72 - 9 * k) 0)))
     unfolding readyRecord padded
     m-octets =
-        let z : recordLen - length (ready ∷ (between 1 (timesEnd old) old ++ (between 1 3 body ++ drop 4 body))) ≡ 72 - 9 * k = omega (arith, m-len, r .long, e) in
+        let z : recordLen - length (readyOctets old body) ≡ 72 - 9 * k = omega (arith, m-len, r .long, e) in
         let a : timesEnd old - 1 ≡ 1 + 7 * k = omega arith in
         rw (z, a) (one-run ready (take (1 + 7 * k) (drop 1 old)) (take 2 (drop 1 body)) (drop 4 body) (replicate (72 - 9 * k) 0))
 
@@ -293,87 +284,53 @@ module _ (book info : List ℕ) (hb : length book ≡ bookLen) (ob : Octets book
   abbrev m15 : List ℕ
   m15 = readyRecord old os
 
-  abbrev no-set : ℕ → ℕ → Setting
-  no-set n field = record { answer = answered n field; book = book }
-
-  abbrev done : Setting
-  done = record { answer = answered refusal.none 0; book = sets book (recordStart p) m15 }
-
   module _ (er : readOf info .refusal ≡ refusal.none) where
-    read-unset : standingOf old ≡ empty → setPlanOf book info ≡ no-set refusal.notReady planAt
+    read-unset : standingOf old ≡ empty → setPlanOf book info ≡ notSet book refusal.notReady planAt
     unfolding readyMade
     read-unset z = set-read setPlanCode what book info hb hc er ∙ rw (eq-eqb (standingOf old) empty z) (kept-not-made p book refusal.notReady planAt (λ z. absurd (omega arith)))
 
     module _ (hs : standingOf old ≡ empty → ⊥) where
-      read-count : (countIn os ≡ kOf old → ⊥) → setPlanOf book info ≡ no-set refusal.disagree planCountAt
+      read-count : (countIn os ≡ kOf old → ⊥) → setPlanOf book info ≡ notSet book refusal.disagree planCountAt
       unfolding readyMade
       read-count n =
           set-read setPlanCode what book info hb hc er
           ∙ rw (ne-eqb (standingOf old) empty hs, ne-eqb (countIn os) (kOf old) n) (kept-not-made p book refusal.disagree planCountAt (λ z. absurd (omega arith)))
 
       module _ (ek : countIn os ≡ kOf old) where
-        read-disagrees : (planDisagree m15 ≡ 0 → ⊥) → setPlanOf book info ≡ no-set refusal.disagree (planField (planDisagree m15))
+        read-disagrees : (planDisagree m15 ≡ 0 → ⊥) → setPlanOf book info ≡ notSet book refusal.disagree (planField (planDisagree m15))
         unfolding readyMade
         read-disagrees n =
             set-read setPlanCode what book info hb hc er
             ∙ rw (ne-eqb (standingOf old) empty hs, eq-eqb (countIn os) (kOf old) ek, ne-eqb (planDisagree m15) 0 n)
             (kept-not-made p book refusal.disagree (planField (planDisagree m15)) (λ z. absurd (omega arith)))
 
-        read-done : planDisagree m15 ≡ 0 → setPlanOf book info ≡ done
+        read-done : planDisagree m15 ≡ 0 → setPlanOf book info ≡ nowSet book p m15
         unfolding readyMade
         read-done z =
             set-read setPlanCode what book info hb hc er
             ∙ rw (ne-eqb (standingOf old) empty hs, eq-eqb (countIn os) (kOf old) ek, eq-eqb (planDisagree m15) 0 z) (kept-made p book m15)
 
-  pub fit-done : Fit15 old os → setPlanOf book info ≡ done
+  pub fit-done : Fit15 old os → setPlanOf book info ≡ nowSet book p m15
   fit-done f =
       read-done (read-ranges set-plan info hc .1 (in-ranges os .1 (f .ranges))) (has-stands old old-octets (f .set)) (f .count .stored)
-      (agrees-plan m15 (m-agrees old os (f .set) (f .ranges) (f .count .stored) (f .count .diagram) (f .green) (f .cycle) (f .offset)))
+      (agrees-plan m15 (m-agrees old os (f .set) (f .ranges) (f .count .stored) f))
 
-  -- what comes of it, way by way
-  data Way : Setting → Type 0 where
-    unread : (readOf info .refusal ≡ refusal.none → ⊥) → Way (no-set (readOf info .refusal) (readOf info .field))
-    unset : readOf info .refusal ≡ refusal.none → (HasTimes old → ⊥) → Way (no-set refusal.notReady planAt)
-    refused : (f : ℕ) → HasTimes old → Disagrees15 old os f → Way (no-set refusal.disagree f)
-    fits : Fit15 old os → Way done
+  abbrev PlanWay : Setting → Type 0
+  PlanWay = Way book info m15 (Fit15 old os) (HasTimes old) (Disagrees15 old os)
 
-  way : Way (setPlanOf book info)
+  way : PlanWay (setPlanOf book info)
   way = by (ℕ-discrete (readOf info .refusal) refusal.none) (ℕ-discrete (standingOf old) empty) (ℕ-discrete (countIn os) (kOf old)) (ℕ-discrete (planDisagree m15) 0)
     where
-      by : Dec (readOf info .refusal ≡ refusal.none) → Dec (standingOf old ≡ empty) → Dec (countIn os ≡ kOf old) → Dec (planDisagree m15 ≡ 0) → Way (setPlanOf book info)
-      by (no n) d d′ d″ = subst Way (sym (set-unread setPlanCode what book info hb hc n)) (unread n)
-      by (yes e) (yes z) d′ d″ = subst Way (sym (read-unset e z)) (unset e (λ h. has-stands old old-octets h z))
-      by (yes e) (no hs) (no n) d″ = subst Way (sym (read-count e hs n)) (refused planCountAt (stands-has old old-octets hs) (count (λ a. n (a .stored))))
+      by : Dec (readOf info .refusal ≡ refusal.none) → Dec (standingOf old ≡ empty) → Dec (countIn os ≡ kOf old) → Dec (planDisagree m15 ≡ 0) → PlanWay (setPlanOf book info)
+      by (no n) d d′ d″ = subst PlanWay (sym (set-unread setPlanCode what book info hb hc n)) (unread n)
+      by (yes e) (yes z) d′ d″ = subst PlanWay (sym (read-unset e z)) (unset (λ h. has-stands old old-octets h z))
+      by (yes e) (no hs) (no n) d″ = subst PlanWay (sym (read-count e hs n)) (refused planCountAt (stands-has old old-octets hs) (count (λ a. n (a .stored))))
       by (yes e) (no hs) (yes ek) (no n) =
           let h = stands-has old old-octets hs in
-          subst Way (sym (read-disagrees e hs ek n)) (refused (planField (planDisagree m15)) h (m-disagrees old os h (in-ranges os .0 (read-plan info e hc)) ek n))
+          subst PlanWay (sym (read-disagrees e hs ek n)) (refused (planField (planDisagree m15)) h (m-disagrees old os h (in-ranges os .0 (read-plan info e hc)) ek n))
       by (yes e) (no hs) (yes ek) (yes z) =
-          subst Way (sym (read-done e hs ek z)) (fits (m-fit old os (stands-has old old-octets hs) (in-ranges os .0 (read-plan info e hc)) ek z))
-
-  only : {w : Setting} → Way w → w .answer .refusal ≡ refusal.none → Fit15 old os
-  only (unread n) e = absurd (n e)
-  only (unset r n) e = absurd (omega arith)
-  only (refused f h d) e = absurd (omega arith)
-  only (fits f) e = f
-
-  kept : {w : Setting} → Way w → (w .answer .refusal ≡ refusal.none → ⊥) → w .book ≡ book
-  kept (unread n) h = refl
-  kept (unset r n) h = refl
-  kept (refused f t d) h = refl
-  kept (fits f) h = absurd (h refl)
-
-  unset-is : {w : Setting} → Way w → readOf info .refusal ≡ refusal.none → (HasTimes old → ⊥) → (w .answer .refusal ≡ refusal.notReady) × (w .answer .field ≡ planAt)
-  unset-is (unread n) e h = absurd (n e)
-  unset-is (unset r n) e h = (refl, refl)
-  unset-is (refused f t d) e h = absurd (h t)
-  unset-is (fits f) e h = absurd (h (f .set))
-
-  named : {w : Setting} → Way w → readOf info .refusal ≡ refusal.none → HasTimes old → (w .answer .refusal ≡ refusal.none → ⊥)
-      → (w .answer .refusal ≡ refusal.disagree) × Disagrees15 old os (w .answer .field)
-  named (unread n) e t h = absurd (n e)
-  named (unset r n) e t h = absurd (n t)
-  named (refused f t′ d) e t h = (refl, d)
-  named (fits f) e t h = absurd (h refl)
+          let h = stands-has old old-octets hs in
+          subst PlanWay (sym (read-done e hs ek z)) (fits h (m-fit old os h (in-ranges os .0 (read-plan info e hc)) ek z))
 
   pub plan-judged : PlanJudged book info old
   plan-judged =
@@ -382,17 +339,17 @@ module _ (book info : List ℕ) (hb : length book ≡ bookLen) (ob : Octets book
         stored = λ f.
             subst (λ (w : Setting). RecordStored book p m15 (w .book)) (sym (fit-done f))
             (stored-here book p m15 hb (f .ranges .plan .least) (f .ranges .plan .most)
-            (m-long old os (f .set) (f .ranges) (f .count .stored) (f .count .diagram) (f .green) (f .cycle) (f .offset)));
-        holds = λ f. m-holds old os (f .set) (f .ranges) (f .count .stored) (f .count .diagram) (f .green) (f .cycle) (f .offset);
+            (m-long old os (f .set) (f .ranges) (f .count .stored) f));
+        holds = λ f. m-holds old os (f .set) (f .ranges) (f .count .stored) f;
         accepted = λ f. ap (λ (w : Setting). w .answer .refusal) (fit-done f);
         noneNamed = λ f. ap (λ (w : Setting). w .answer .field) (fit-done f);
-        only = only way;
-        kept = kept way;
+        only = way-only way;
+        kept = way-kept way;
         unread = λ n.
             let e = set-unread setPlanCode what book info hb hc n in
             (ap (λ (w : Setting). w .answer .refusal) e, ap (λ (w : Setting). w .answer .field) e);
-        unset = unset-is way;
-        named = named way;
+        unset = λ e. way-unset e way;
+        named = λ e. way-named e way;
       }
 
 pub plan-stored-exactly-when : PlanStoredExactlyWhen

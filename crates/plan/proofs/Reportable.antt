@@ -59,24 +59,25 @@ module _ (rec : List ℕ) (p : ℕ) where
 
 -- They are in their ranges
 
+module _ (rec : List ℕ) (n : standingOf rec ≡ empty → ⊥) where
+  pub some-fit : AllTimesFit rec
+  some-fit = times-fit rec (some-times rec n)
+
+  pub some-ends : readyEnd rec ≤ length rec
+  some-ends = omega (arith, some-long rec n, some-fit .count .most)
+
 module _ (rec : List ℕ) (p : ℕ) (hp : p ≤ plansMost) (n : standingOf rec ≡ empty → ⊥) where
-  fit : AllTimesFit rec
-  fit = times-fit rec (some-times rec n)
-
-  ends : readyEnd rec ≤ length rec
-  ends = omega (arith, some-long rec n, fit .count .most)
-
   pub times-body : InRanges 0x5FC4 1 2 7 (timesBody rec p)
   unfolding numberOf firstOf rowsAt layoutRows layoutAt layouts
   times-body =
       let fs : List Field = repeated (kOf rec) times ++ [] in
       let e = times-at rec p 1 (omega arith) (omega arith) in
       let s : sizeOf fs ≡ 7 * kOf rec = stored-parts (kOf rec) .timesSize in
-      let g = ranged-same fs rec (timesBody rec p) headLen headLen (λ j l. sym (times-at rec p (headLen + j) (omega arith) (omega arith))) (fit-ranged rec fit) in
+      let g = ranged-same fs rec (timesBody rec p) headLen headLen (λ j l. sym (times-at rec p (headLen + j) (omega arith) (omega arith))) (fit-ranged rec (some-fit rec n)) in
       record {
-        long = rw e (omega (arith, part-long 1 (timesEnd rec) rec (omega arith) (omega (arith, ends))));
-        count = rw e (fit .count);
-        ranges = rw e (record { least = omega arith; most = hp }, (fit .count, g));
+        long = rw e (omega (arith, part-long 1 (timesEnd rec) rec (omega arith) (omega (arith, some-ends rec n))));
+        count = rw e (some-fit rec n .count);
+        ranges = rw e (record { least = omega arith; most = hp }, (some-fit rec n .count, g));
       }
 
   times-as : readOf (timesInfo rec p) ≡ readAs (partOf (numberOf 0x5FC4) (octetAt (timesBody rec p) 1) (timesBody rec p))
@@ -98,9 +99,9 @@ module _ (rec : List ℕ) (p : ℕ) (hp : p ≤ plansMost) (n : standingOf rec �
         let s : sizeOf fs ≡ 4 + 2 * kOf rec = omega (arith, ap sizeOf (t .rows (kOf rec)), t .numbers (kOf rec) .size) in
         let g = ranged-same fs rec (planBody rec p) (greensAt rec) 4 (λ j l. sym (plan-at rec p j (omega arith))) (q .2) in
         record {
-          long = omega (arith, part-long (greensAt rec) (readyEnd rec) rec (omega arith) ends);
-          count = fit .count;
-          ranges = rw (t .rows (kOf rec)) (record { least = omega arith; most = hp }, (q .0, (q .1, (fit .count, g))));
+          long = omega (arith, part-long (greensAt rec) (readyEnd rec) rec (omega arith) (some-ends rec n));
+          count = some-fit rec n .count;
+          ranges = rw (t .rows (kOf rec)) (record { least = omega arith; most = hp }, (q .0, (q .1, (some-fit rec n .count, g))));
         }
 
     plan-as : readOf (planInfo rec p code) ≡ readAs (partOf (numberOf code) (kOf rec) (planBody rec p))

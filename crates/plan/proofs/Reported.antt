@@ -15,14 +15,14 @@ use Rattle.message.specs.Reader.{codeIn, bodyIn, readOf}
 use Rattle.message.specs.Promises.{FieldStands, PhaseFields, fieldsOf, valueThere}
 use Rattle.message.proofs.Numbers.{field-numbers}
 use Rattle.message.proofs.Places.{values-stand}
-use Rattle.record.specs.Record.{empty, ready, octetAt, wordAt, kOf, timesAt, timesEnd, greensAt, readyEnd, AllTimesFit}
+use Rattle.record.specs.Record.{empty, ready, octetAt, wordAt, kOf, timesAt, timesEnd, greensAt, readyEnd}
 use Rattle.checks.specs.Standing.{standingOf}
-use Rattle.checks.proofs.Stands.{part-long, times-fit, some-long, some-times, stands-as-it-is}
+use Rattle.checks.proofs.Stands.{part-long, stands-as-it-is}
 use Rattle.plan.specs.Reporting.{timesInfo, planInfo}
 use Rattle.plan.specs.Reported.{twoAt, valueAt, PhaseInInfo, PhaseInMessage, TimesInInfo, TimesInMessage, TimesReportedByFields, PlanInInfo, PlanInMessage, PlanReportedByFields}
 use Rattle.plan.proofs.Ranges.{Counted, PlanReport, report-times, plan-report, read-value, read-many}
 use Rattle.plan.proofs.Readying.{has-stands}
-use Rattle.plan.proofs.Reportable.{times-at, plan-at, times-read, plan-read}
+use Rattle.plan.proofs.Reportable.{some-fit, some-ends, times-at, plan-at, times-read, plan-read}
 
 -- a field's value is that of its octets
 module _ {c place once each : ℕ} (t : Counted c place once each) (info : List ℕ) (hc : codeIn info ≡ c) (e : readOf info .refusal ≡ refusal.none) where
@@ -150,18 +150,11 @@ module _ (rec : List ℕ) (p : ℕ) {code : ℕ} (t : PlanReport code) where
         rest = λ n h. past c plan hc e n (omega (arith, w .many));
       }
 
-module _ (rec : List ℕ) (n : standingOf rec ≡ empty → ⊥) where
-  fit : AllTimesFit rec
-  fit = times-fit rec (some-times rec n)
-
-  plan-in : readyEnd rec ≤ length rec
-  plan-in = omega (arith, some-long rec n, fit .count .most)
-
 pub times-reported-by-fields : TimesReportedByFields
 unfolding timesInfo
 times-reported-by-fields rec p o h hp =
     let n = has-stands rec o h in
-    let q = times-in-info rec p (omega (arith, plan-in rec n)) (fit rec n .count .least) in
+    let q = times-in-info rec p (omega (arith, some-ends rec n)) (some-fit rec n .count .least) in
     let r = times-read rec p hp n in
     record { octets = q; fields = rw (r .1) (times-in-message rec p (r .0) q refl) }
 
@@ -171,8 +164,8 @@ plan-reported-by-fields rec p o h hp =
     let n : standingOf rec ≡ empty → ⊥ = λ z. absurd (omega arith) in
     let a = plan-report (inl refl) in
     let b = plan-report (inr refl) in
-    let q = plan-in-info rec p a 0xC5 (plan-in rec n) refl (omega arith) in
-    let r = plan-in-info rec p b 0xC8 (plan-in rec n) refl (omega arith) in
+    let q = plan-in-info rec p a 0xC5 (some-ends rec n) refl (omega arith) in
+    let r = plan-in-info rec p b 0xC8 (some-ends rec n) refl (omega arith) in
     let f = plan-read rec p hp n s a in
     let g = plan-read rec p hp n s b in
     record {

@@ -108,22 +108,6 @@ times-built body h m p =
     let n : length (drop 1 body) ≡ length body - 1 = length-drop 1 body in
     built timesSet (drop 1 body) (put-stored (rw e at p) (omega arith)) (omega arith)
 
-pub ready-built : (old body : List ℕ) {p q r : ℕ} {l m o : List ℕ} → length old ≡ recordLen → kOf old ≤ 8 → length body ≡ 8 + 2 * kOf old
-    → {end : ℕ} → end ≡ timesEnd old
-    → Put (between 1 end old) 1 (set (replicate recordLen 0) 0 ready) p l → Put (between 1 3 body) p l q m → Put (between 4 (length body) body) q m r o
-    → o ≡ readyRecord old body
-unfolding readyRecord
-ready-built old body {p} {q} {r} {l} {m} {o} ho hk hb {end} ee a b c =
-    let e : between 4 (length body) body ≡ drop 4 body = part-to-end body 4 in
-    let na : length (between 1 (timesEnd old) old) ≡ timesEnd old - 1 = length-take-le (timesEnd old - 1) (drop 1 old) (simp length-drop (omega arith)) in
-    let nb : length (between 1 3 body) ≡ 2 = length-take-le 2 (drop 1 body) (simp length-drop (omega arith)) in
-    let nc : length (drop 4 body) ≡ length body - 4 = length-drop 4 body in
-    let sa = put-stored (rw ee at a) (omega arith) in
-    let sb = put-stored b (omega (arith, sa .place, sa .long)) in
-    let sc = put-stored (rw e at c) (omega (arith, sb .place, sb .long, sa .place, sa .long)) in
-    built ready (between 1 (timesEnd old) old ++ (between 1 3 body ++ drop 4 body)) (stored-then sa (stored-then sb sc))
-    (omega (arith, length-append (between 1 (timesEnd old) old) (between 1 3 body ++ drop 4 body), length-append (between 1 3 body) (drop 4 body)))
-
 -- an octet of a record is that of what it was made of: past their end both read as 0
 pub padded-at : (vs : List ℕ) (i : ℕ) → octetAt (padded vs) i ≡ octetAt vs i
 unfolding padded
@@ -144,31 +128,40 @@ times-at body zero h = absurd (omega arith)
 times-at body (suc i) h = let e : 1 + i ≡ suc i = omega arith in padded-at (timesSet ∷ drop 1 body) (suc i) ∙ (getD-drop 1 body i 0 ∙ ap (octetAt body) e)
 
 -- the ready record has the times that are stored, and then the octets of the message
-module _ (old body : List ℕ) (ho : timesEnd old ≤ length old) (hb : 4 ≤ length body) where
-  abbrev front-part : List ℕ
-  front-part = between 1 (timesEnd old) old
+abbrev front-part : List ℕ → List ℕ
+front-part old = between 1 (timesEnd old) old
 
-  front-long : length front-part ≡ timesEnd old - 1
+abbrev rest-part : List ℕ → List ℕ
+rest-part body = between 1 3 body ++ drop 4 body
+
+abbrev pub readyOctets : List ℕ → List ℕ → List ℕ
+readyOctets old body = ready ∷ (front-part old ++ rest-part body)
+
+module _ (old body : List ℕ) (ho : timesEnd old ≤ length old) (hb : 4 ≤ length body) where
+  front-long : length (front-part old) ≡ timesEnd old - 1
   front-long = length-take-le (timesEnd old - 1) (drop 1 old) (simp length-drop (omega arith))
 
   two-long : length (between 1 3 body) ≡ 2
   two-long = length-take-le 2 (drop 1 body) (simp length-drop (omega arith))
+
+  pub ready-long : length (readyOctets old body) ≡ timesEnd old + 2 + (length body - 4)
+  ready-long = omega (arith, length-append (front-part old) (rest-part body), length-append (between 1 3 body) (drop 4 body), front-long, two-long, length-drop 4 body)
 
   pub ready-times : (i : ℕ) → 1 ≤ i → i < timesEnd old → octetAt (readyRecord old body) i ≡ octetAt old i
   unfolding readyRecord
   ready-times zero h l = absurd (omega arith)
   ready-times (suc i) h l =
       let e : 1 + i ≡ suc i = omega arith in
-      padded-at (ready ∷ (front-part ++ (between 1 3 body ++ drop 4 body))) (suc i)
-      ∙ (List·getD-append front-part (between 1 3 body ++ drop 4 body) 0 i (omega (arith, front-long))
+      padded-at (readyOctets old body) (suc i)
+      ∙ (List·getD-append (front-part old) (rest-part body) 0 i (omega (arith, front-long))
       ∙ (getD-take (timesEnd old - 1) (drop 1 old) i 0 (omega arith) ∙ (getD-drop 1 old i 0 ∙ ap (octetAt old) e)))
 
-  after : (j : ℕ) → octetAt (readyRecord old body) (timesEnd old + j) ≡ octetAt (between 1 3 body ++ drop 4 body) j
+  after : (j : ℕ) → octetAt (readyRecord old body) (timesEnd old + j) ≡ octetAt (rest-part body) j
   unfolding readyRecord
   after j =
-      let e : timesEnd old + j ≡ suc (length front-part + j) = omega (arith, front-long) in
-      padded-at (ready ∷ (front-part ++ (between 1 3 body ++ drop 4 body))) (timesEnd old + j)
-      ∙ (ap (octetAt (ready ∷ (front-part ++ (between 1 3 body ++ drop 4 body)))) e ∙ getD-append-add front-part (between 1 3 body ++ drop 4 body) j 0)
+      let e : timesEnd old + j ≡ suc (length (front-part old) + j) = omega (arith, front-long) in
+      padded-at (readyOctets old body) (timesEnd old + j)
+      ∙ (ap (octetAt (readyOctets old body)) e ∙ getD-append-add (front-part old) (rest-part body) j 0)
 
   pub ready-two : (j : ℕ) → j < 2 → octetAt (readyRecord old body) (timesEnd old + j) ≡ octetAt body (1 + j)
   ready-two j l =
@@ -177,10 +170,25 @@ module _ (old body : List ℕ) (ho : timesEnd old ≤ length old) (hb : 4 ≤ le
   pub ready-rest : (j : ℕ) → octetAt (readyRecord old body) (timesEnd old + (2 + j)) ≡ octetAt body (4 + j)
   ready-rest j =
       let e : 2 + j ≡ length (between 1 3 body) + j = omega (arith, two-long) in
-      after (2 + j) ∙ (ap (octetAt (between 1 3 body ++ drop 4 body)) e ∙ (getD-append-add (between 1 3 body) (drop 4 body) j 0 ∙ getD-drop 4 body j 0))
+      after (2 + j) ∙ (ap (octetAt (rest-part body)) e ∙ (getD-append-add (between 1 3 body) (drop 4 body) j 0 ∙ getD-drop 4 body j 0))
 
   pub ready-k : kOf (readyRecord old body) ≡ kOf old
   ready-k = ready-times 1 (omega arith) (omega arith)
+
+pub ready-built : (old body : List ℕ) {p q r : ℕ} {l m o : List ℕ} → length old ≡ recordLen → kOf old ≤ 8 → length body ≡ 8 + 2 * kOf old
+    → {end : ℕ} → end ≡ timesEnd old
+    → Put (between 1 end old) 1 (set (replicate recordLen 0) 0 ready) p l → Put (between 1 3 body) p l q m → Put (between 4 (length body) body) q m r o
+    → o ≡ readyRecord old body
+unfolding readyRecord
+ready-built old body ho hk hb ee a b c =
+    let e : between 4 (length body) body ≡ drop 4 body = part-to-end body 4 in
+    let na = front-long old body (omega arith) (omega arith) in
+    let nb = two-long old body (omega arith) (omega arith) in
+    let nc = length-drop 4 body in
+    let sa = put-stored (rw ee at a) (omega arith) in
+    let sb = put-stored b (omega (arith, sa .place, sa .long)) in
+    let sc = put-stored (rw e at c) (omega (arith, sb .place, sb .long, sa .place, sa .long)) in
+    built ready (front-part old ++ rest-part body) (stored-then sa (stored-then sb sc)) (omega (arith, ready-long old body (omega arith) (omega arith)))
 
 -- What is made
 

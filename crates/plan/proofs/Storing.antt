@@ -10,6 +10,7 @@ use lib.Seq.{sets, sets-eq, length-sets, drop-drop, drop-at, take-at, drop-appen
 use Rattle.octets.specs.First.{First, firstOf}
 use Rattle.octets.specs.Refusal as refusal
 use Rattle.message.specs.Layouts.{layouts, layoutAt, numberOf, rowsAt, layoutRows, times}
+use Rattle.message.specs.Names.{planAt}
 use Rattle.message.specs.Reader.{codeIn, bodyIn, readOf}
 use Rattle.plan.specs.declared.setting.NewRecord.{NewRecord}
 use Rattle.record.specs.Record.{recordLen, bookLen, plansMost, timesSet, octetAt, kOf, timesAt, timesEnd, minimumOf, maximumOf, walkFlashOf, redManOf, TimesFit}
@@ -72,23 +73,62 @@ module _ (book : List ℕ) (p : ℕ) (rec : List ℕ) (hb : length book ≡ book
 
 -- What a set comes to, where the book and the code are right
 
+abbrev pub notSet : List ℕ → ℕ → ℕ → Setting
+notSet book n field = record { answer = answered n field; book = book }
+
+abbrev pub nowSet : List ℕ → ℕ → List ℕ → Setting
+nowSet book p rec = record { answer = answered refusal.none 0; book = sets book (recordStart p) rec }
+
 module _ (code : ℕ) (m : NewRecord) (book info : List ℕ) (hb : length book ≡ bookLen) (hc : codeIn info ≡ code) where
   pub set-read : readOf info .refusal ≡ refusal.none → setOf code m book info ≡ keptAs (planIn (bodyIn info)) m book
   unfolding setOf
   set-read e = rw (← front-read (length book) code info hb (same-code (length book) code info hc) refl refl, eq-eqb (readOf info .refusal) refusal.none e)
 
-  pub set-unread : (readOf info .refusal ≡ refusal.none → ⊥) → setOf code m book info ≡ record { answer = answered (readOf info .refusal) (readOf info .field); book = book }
+  pub set-unread : (readOf info .refusal ≡ refusal.none → ⊥) → setOf code m book info ≡ notSet book (readOf info .refusal) (readOf info .field)
   unfolding setOf
   set-unread n = rw (← front-read (length book) code info hb (same-code (length book) code info hc) refl refl, ne-eqb (readOf info .refusal) refusal.none n)
 
 module _ (p : ℕ) (book : List ℕ) where
-  pub kept-made : (rec : List ℕ) → keptAs p (made rec) book ≡ record { answer = answered refusal.none 0; book = sets book (recordStart p) rec }
+  pub kept-made : (rec : List ℕ) → keptAs p (made rec) book ≡ nowSet book p rec
   unfolding keptAs
   kept-made rec = refl
 
-  pub kept-not-made : (n field : ℕ) → (n ≡ refusal.none → ⊥) → keptAs p (notMade n field) book ≡ record { answer = answered n field; book = book }
+  pub kept-not-made : (n field : ℕ) → (n ≡ refusal.none → ⊥) → keptAs p (notMade n field) book ≡ notSet book n field
   unfolding keptAs notMade
   kept-not-made n field h = rw (ne-eqb n refusal.none h)
+
+-- what comes of it, way by way: it is not read, its plan has not what it needs, a check fails and is named, or all pass
+pub data Way (book info rec : List ℕ) (Fit Has : Type 0) (Fails : ℕ → Type 0) : Setting → Type 0 where
+  unread : (readOf info .refusal ≡ refusal.none → ⊥) → Way book info rec Fit Has Fails (notSet book (readOf info .refusal) (readOf info .field))
+  unset : (Has → ⊥) → Way book info rec Fit Has Fails (notSet book refusal.notReady planAt)
+  refused : (f : ℕ) → Has → Fails f → Way book info rec Fit Has Fails (notSet book refusal.disagree f)
+  fits : Has → Fit → Way book info rec Fit Has Fails (nowSet book (planIn (bodyIn info)) rec)
+
+module _ {book info rec : List ℕ} {Fit Has : Type 0} {Fails : ℕ → Type 0} where
+  pub way-only : {w : Setting} → Way book info rec Fit Has Fails w → w .answer .refusal ≡ refusal.none → Fit
+  way-only (unread n) e = absurd (n e)
+  way-only (unset n) e = absurd (omega arith)
+  way-only (refused f h d) e = absurd (omega arith)
+  way-only (fits h f) e = f
+
+  pub way-kept : {w : Setting} → Way book info rec Fit Has Fails w → (w .answer .refusal ≡ refusal.none → ⊥) → w .book ≡ book
+  way-kept (unread n) z = refl
+  way-kept (unset n) z = refl
+  way-kept (refused f h d) z = refl
+  way-kept (fits h f) z = absurd (z refl)
+
+  module _ (e : readOf info .refusal ≡ refusal.none) where
+    pub way-unset : {w : Setting} → Way book info rec Fit Has Fails w → (Has → ⊥) → (w .answer .refusal ≡ refusal.notReady) × (w .answer .field ≡ planAt)
+    way-unset (unread n) m = absurd (n e)
+    way-unset (unset n) m = (refl, refl)
+    way-unset (refused f h d) m = absurd (m h)
+    way-unset (fits h f) m = absurd (m h)
+
+    pub way-named : {w : Setting} → Way book info rec Fit Has Fails w → Has → (w .answer .refusal ≡ refusal.none → ⊥) → (w .answer .refusal ≡ refusal.disagree) × Fails (w .answer .field)
+    way-named (unread n) h z = absurd (n e)
+    way-named (unset n) h z = absurd (n h)
+    way-named (refused f h′ d) h z = (refl, d)
+    way-named (fits h′ f) h z = absurd (z refl)
 
 -- The checks of a 5F 14
 
@@ -212,49 +252,30 @@ module _ (book info : List ℕ) (hb : length book ≡ bookLen) (hc : codeIn info
 
   -- read, it is stored or not by its agreement
   read-stored : readOf info .refusal ≡ refusal.none → timesDisagree os ≡ 0
-      → setTimesOf book info ≡ record { answer = answered refusal.none 0; book = sets book (recordStart (planIn os)) (timesRecord os) }
+      → setTimesOf book info ≡ nowSet book (planIn os) (timesRecord os)
   unfolding timesMade
   read-stored e z = set-read setTimesCode (timesMade os) book info hb hc e ∙ rw (eq-eqb (timesDisagree os) 0 z) (kept-made (planIn os) book (timesRecord os))
 
   read-refused : readOf info .refusal ≡ refusal.none → (timesDisagree os ≡ 0 → ⊥)
-      → setTimesOf book info ≡ record { answer = answered refusal.disagree (timesField (timesDisagree os)); book = book }
+      → setTimesOf book info ≡ notSet book refusal.disagree (timesField (timesDisagree os))
   unfolding timesMade
   read-refused e n =
       set-read setTimesCode (timesMade os) book info hb hc e
       ∙ rw (ne-eqb (timesDisagree os) 0 n) (kept-not-made (planIn os) book refusal.disagree (timesField (timesDisagree os)) (λ z. absurd (omega arith)))
 
-  pub fit-stored : Fit14 os → setTimesOf book info ≡ record { answer = answered refusal.none 0; book = sets book (recordStart (planIn os)) (timesRecord os) }
+  pub fit-stored : Fit14 os → setTimesOf book info ≡ nowSet book (planIn os) (timesRecord os)
   fit-stored f = read-stored (read-ranges set-times info hc .1 (fit-read os f)) (fit-agrees os f)
 
-  -- what comes of it, way by way
-  data Way : Setting → Type 0 where
-    unread : (readOf info .refusal ≡ refusal.none → ⊥) → Way (record { answer = answered (readOf info .refusal) (readOf info .field); book = book })
-    refused : readOf info .refusal ≡ refusal.none → (timesDisagree os ≡ 0 → ⊥) → Way (record { answer = answered refusal.disagree (timesField (timesDisagree os)); book = book })
-    fits : Fit14 os → Way (record { answer = answered refusal.none 0; book = sets book (recordStart (planIn os)) (timesRecord os) })
+  abbrev TimesWay : Setting → Type 0
+  TimesWay = Way book info (timesRecord os) (Fit14 os) Unit (Disagrees14 os)
 
-  way : Way (setTimesOf book info)
+  way : TimesWay (setTimesOf book info)
   way = by (ℕ-discrete (readOf info .refusal) refusal.none) (ℕ-discrete (timesDisagree os) 0)
     where
-      by : Dec (readOf info .refusal ≡ refusal.none) → Dec (timesDisagree os ≡ 0) → Way (setTimesOf book info)
-      by (no n) d = subst Way (sym (set-unread setTimesCode (timesMade os) book info hb hc n)) (unread n)
-      by (yes e) (no n) = subst Way (sym (read-refused e n)) (refused e n)
-      by (yes e) (yes z) = subst Way (sym (read-stored e z)) (fits (fit-from os (read-times info e hc) z))
-
-  only : {w : Setting} → Way w → w .answer .refusal ≡ refusal.none → Fit14 os
-  only (unread n) e = absurd (n e)
-  only (refused r n) e = absurd (omega arith)
-  only (fits f) e = f
-
-  kept : {w : Setting} → Way w → (w .answer .refusal ≡ refusal.none → ⊥) → w .book ≡ book
-  kept (unread n) h = refl
-  kept (refused r n) h = refl
-  kept (fits f) h = absurd (h refl)
-
-  named : {w : Setting} → Way w → readOf info .refusal ≡ refusal.none → (w .answer .refusal ≡ refusal.none → ⊥)
-      → (w .answer .refusal ≡ refusal.disagree) × Disagrees14 os (w .answer .field)
-  named (unread n) e h = absurd (n e)
-  named (refused r n) e h = (refl, disagrees os n)
-  named (fits f) e h = absurd (h refl)
+      by : Dec (readOf info .refusal ≡ refusal.none) → Dec (timesDisagree os ≡ 0) → TimesWay (setTimesOf book info)
+      by (no n) d = subst TimesWay (sym (set-unread setTimesCode (timesMade os) book info hb hc n)) (unread n)
+      by (yes e) (no n) = subst TimesWay (sym (read-refused e n)) (refused (timesField (timesDisagree os)) tt (disagrees os n))
+      by (yes e) (yes z) = subst TimesWay (sym (read-stored e z)) (fits tt (fit-from os (read-times info e hc) z))
 
   pub times-judged : TimesJudged book info
   times-judged =
@@ -266,12 +287,12 @@ module _ (book info : List ℕ) (hb : length book ≡ bookLen) (hc : codeIn info
         holds = λ f. times-holds os f;
         accepted = λ f. ap (λ (w : Setting). w .answer .refusal) (fit-stored f);
         noneNamed = λ f. ap (λ (w : Setting). w .answer .field) (fit-stored f);
-        only = only way;
-        kept = kept way;
+        only = way-only way;
+        kept = way-kept way;
         unread = λ n.
             let e = set-unread setTimesCode (timesMade os) book info hb hc n in
             (ap (λ (w : Setting). w .answer .refusal) e, ap (λ (w : Setting). w .answer .field) e);
-        named = named way;
+        named = λ e. way-named e way tt;
       }
 
 pub times-stored-exactly-when : TimesStoredExactlyWhen

@@ -64,7 +64,7 @@ module _ (old body : List ℕ) (f : Fit15 old body) where
   m = readyRecord old body
 
   abbrev holds : Holds15 old body m
-  holds = m-holds old body (f .set) (f .ranges) (f .count .stored) (f .count .diagram) (f .green) (f .cycle) (f .offset)
+  holds = m-holds old body (f .set) (f .ranges) (f .count .stored) f
 
   same-k : kOf m ≡ countIn body
   same-k = holds .count ∙ sym (f .count .stored)
@@ -123,5 +123,5 @@ plan-reported book info code hb ob hc f w =
     let e : recordAt (setPlanOf book info .book) (planIn os) ≡ readyRecord old os =
     ap (λ (w : Setting). recordAt (w .book) (planIn os)) (fit-done book info hb ob hc f)
     ∙ stored-here book (planIn os) (readyRecord old os) hb (f .ranges .plan .least) (f .ranges .plan .most)
-    (m-long old os (f .set) (f .ranges) (f .count .stored) (f .count .diagram) (f .green) (f .cycle) (f .offset)) .here in
+    (m-long old os (f .set) (f .ranges) (f .count .stored) f) .here in
     rw (e, ranges-as set-plan info hc (in-ranges os .1 (f .ranges))) (same-as-sent old os f code w)
