@@ -13,7 +13,7 @@ use Rattle.message.specs.declared.Read.{Read}
 use Rattle.message.specs.declared.layout.Field.{Field}
 use Rattle.message.specs.declared.layout.Field.the-variants.{Octet, Two, Order}
 use Rattle.message.specs.Fields.{twoOf, widthOf, valueOf}
-use Rattle.message.specs.Layouts.{rowsAt, repeated, times}
+use Rattle.message.specs.Layouts.{layoutAt, rowsAt, repeated, times}
 use Rattle.message.specs.Values.{sizeOf, valuesOf}
 use Rattle.message.specs.Reader.{notRead, readAs, partOf, readPartOf}
 use Rattle.message.specs.Promises.{valueThere, InRange, RightAt, HasLayout, RightLength, PartJudged, unknown, wrongLength, outOfRange, accepted}
@@ -89,25 +89,34 @@ module _ (os : List ℕ) where
         λ p. let b = c .0 (p .0) in rw append-assoc (a .1 (rw z at (b .0), q .1 (λ i l. rw (s i) at (b .1 i l), rw (s k) at (p .1)))),
       )
 
--- What is read is not refused exactly where it is long enough and each field is in its range
+-- What is read is not refused exactly where its n octets are there, k is 1 to 8, and each field is in its range
 
-pub record Reads (l k : ℕ) (ps os : List ℕ) (at : ℕ) : Type 0 where
-  pub right : RightLength l k ps
+pub record Reads (l k n : ℕ) (ps os : List ℕ) (at : ℕ) : Type 0 where
+  pub long : length ps ≡ n
+  pub count : Within 1 k 8
   pub ranges : Ranged (rowsAt l k) os at
 
-module _ {l k at : ℕ} {ps os : List ℕ} (kn : HasLayout l) (s : StandIn ps os at (sizeOf (rowsAt l k))) where
-  pub reads-as : Reads l k ps os at → readPartOf l k ps ≡ readAs (partOf l k ps)
-  reads-as r = sym (parts-read-so l k ps (readAs (partOf l k ps)) .0 (accepted kn (r .right) (fields-right (rowsAt l k) ps os at s .1 (r .ranges))))
+module _ {l k n : ℕ} (kn : HasLayout l) (ef : layoutAt l .fewest ≡ 1) (em : layoutAt l .most ≡ 8) (es : sizeOf (rowsAt l k) ≡ n) where
+  pub right-length : {ps : List ℕ} → length ps ≡ n → Within 1 k 8 → RightLength l k ps
+  right-length e w = record { fewest = rw ef (w .least); most = rw em (w .most); octets = e ∙ sym es }
 
-  judged-reads : {r : Read} → PartJudged l k ps r → r .refusal ≡ refusal.none → Reads l k ps os at
-  unfolding notRead
-  judged-reads (unknown n) e = absurd (omega arith)
-  judged-reads (wrongLength kn n) e = absurd (omega arith)
-  judged-reads (outOfRange n kn r w) e = absurd (omega arith)
-  judged-reads (accepted kn r a) e = record { right = r; ranges = fields-right (rowsAt l k) ps os at s .0 a }
+  module _ {ps os : List ℕ} {at : ℕ} (s : StandIn ps os at n) where
+    pub reads-as : Reads l k n ps os at → readPartOf l k ps ≡ readAs (partOf l k ps)
+    reads-as r =
+        let right = fields-right (rowsAt l k) ps os at (λ j h. s j (omega (arith, es))) in
+        sym (parts-read-so l k ps (readAs (partOf l k ps)) .0 (accepted kn (right-length (r .long) (r .count)) (right .1 (r .ranges))))
 
-  pub part-reads : (readPartOf l k ps .refusal ≡ refusal.none) ↔ Reads l k ps os at
-  part-reads = (judged-reads (parts-read-so l k ps (readPartOf l k ps) .1 refl), λ r. ap (λ (r : Read). r .refusal) (reads-as r))
+    judged-reads : {r : Read} → PartJudged l k ps r → r .refusal ≡ refusal.none → Reads l k n ps os at
+    unfolding notRead
+    judged-reads (unknown n) e = absurd (omega arith)
+    judged-reads (wrongLength kn n) e = absurd (omega arith)
+    judged-reads (outOfRange n kn r w) e = absurd (omega arith)
+    judged-reads (accepted kn r a) e =
+        let right = fields-right (rowsAt l k) ps os at (λ j h. s j (omega (arith, es))) in
+        record { long = r .octets ∙ es; count = record { least = rw ef at (r .fewest); most = rw em at (r .most) }; ranges = right .0 a }
+
+    pub part-reads : (readPartOf l k ps .refusal ≡ refusal.none) ↔ Reads l k n ps os at
+    part-reads = (judged-reads (parts-read-so l k ps (readPartOf l k ps) .1 refl), λ r. ap (λ (r : Read). r .refusal) (reads-as r))
 
 -- The times of a phase
 

@@ -20,7 +20,7 @@ use Rattle.message.specs.Fields as field
 use Rattle.message.specs.Layouts.{layouts, layoutAt, rowsAt, layoutRows, repeated, times, greens, cycleOffset, storedTimes, storedPlan}
 use Rattle.message.specs.Values.{sizeOf}
 use Rattle.message.specs.Reader.{readPartOf}
-use Rattle.message.specs.Promises.{HasLayout, RightLength}
+use Rattle.message.specs.Promises.{HasLayout}
 use Rattle.message.proofs.Numbers.{stored-parts}
 use Rattle.record.specs.Record.{recordLen, empty, timesSet, ready, stateOf, kOf, timesEnd, readyEnd, greensAt, minimumOf, maximumOf, walkFlashOf, redManOf, directOf, orderOf, greenOf, cycleOf, offsetOf, sumOf, Within, AllTimesFit, ZeroFrom, GreensFit, TimesSet, Ready}
 use Rattle.checks.specs.Standing.{headLen, between, timesFail, timesChecks, timesDisagree, greenFails, planFails, planChecks, planDisagree, ranged, timesStand, planStands, readyStands, allZero, standingOf, StandsAsItIs}
@@ -130,22 +130,23 @@ both-true e f = rw (e, f)
 pub part-long : (from end : ℕ) (rec : List ℕ) → from ≤ end → end ≤ length rec → length (between from end rec) ≡ end - from
 part-long from end rec h l = length-take-le (end - from) (drop from rec) (simp length-drop (omega arith))
 
--- a part of a record: all there, and each field of it in its range at its place in the record
-module _ (l from end : ℕ) (rec : List ℕ) (kn : HasLayout l) (h : from ≤ end) (es : sizeOf (rowsAt l (kOf rec)) ≡ end - from) where
-  stand-in : StandIn (between from end rec) rec from (sizeOf (rowsAt l (kOf rec)))
-  stand-in j m = getD-take (end - from) (drop from rec) j 0 (omega arith) ∙ getD-drop from rec j 0
+pub part-at : (from end : ℕ) (rec : List ℕ) → StandIn (between from end rec) rec from (end - from)
+part-at from end rec j l = getD-take (end - from) (drop from rec) j 0 l ∙ getD-drop from rec j 0
 
-  part-ranged : layoutAt l .fewest ≡ 1 → layoutAt l .most ≡ 8 → (ranged l from end rec ≡ true) ↔ (end ≤ length rec) × (Within 1 (kOf rec) 8) × Ranged (rowsAt l (kOf rec)) rec from
+-- a part of a record: all there, and each field of it in its range at its place in the record
+module _ (l from end : ℕ) (rec : List ℕ) (h : from ≤ end) where
+  part-ranged : HasLayout l → layoutAt l .fewest ≡ 1 → layoutAt l .most ≡ 8 → sizeOf (rowsAt l (kOf rec)) ≡ end - from
+      → (ranged l from end rec ≡ true) ↔ (end ≤ length rec) × (Within 1 (kOf rec) 8) × Ranged (rowsAt l (kOf rec)) rec from
   unfolding ranged
-  part-ranged ef em =
+  part-ranged kn ef em es =
       let n = readPartOf l (kOf rec) (between from end rec) .refusal in
-      let reads = part-reads {k = kOf rec} kn stand-in in (
+      let reads = part-reads kn ef em es (part-at from end rec) in (
         λ t.
             let r = reads .0 (eqb-true n refusal.none (both-right (leb end (length rec)) (eqb n refusal.none) t)) in
-            (leb-true end (length rec) (both-left (leb end (length rec)) (eqb n refusal.none) t), record { least = rw ef at (r .right .fewest); most = rw em at (r .right .most) }, r .ranges),
+            (leb-true end (length rec) (both-left (leb end (length rec)) (eqb n refusal.none) t), r .count, r .ranges),
         λ p.
-            let right : RightLength l (kOf rec) (between from end rec) = record { fewest = rw ef (p .1 .least); most = rw em (p .1 .most); octets = part-long from end rec h (p .0) ∙ sym es } in
-            both-true (le-leb end (length rec) (p .0)) (eq-eqb n refusal.none (reads .1 (record { right = right; ranges = p .2 }))),
+            both-true (le-leb end (length rec) (p .0))
+            (eq-eqb n refusal.none (reads .1 (record { long = part-long from end rec h (p .0); count = p .1; ranges = p .2 }))),
       )
 
 module _ (rec : List ℕ) where
@@ -155,7 +156,7 @@ module _ (rec : List ℕ) where
   times-ranged : (ranged storedTimes headLen (timesEnd rec) rec ≡ true) ↔ (timesEnd rec ≤ length rec) × (Within 1 k 8) × Ranged (repeated k times ++ []) rec headLen
   unfolding rowsAt layoutRows layoutAt layouts
   times-ranged =
-      part-ranged storedTimes headLen (timesEnd rec) rec (record { first = omega arith; last = omega arith }) (omega arith) (omega (arith, stored-parts k .timesSize)) refl refl
+      part-ranged storedTimes headLen (timesEnd rec) rec (omega arith) (record { first = omega arith; last = omega arith }) refl refl (omega (arith, stored-parts k .timesSize))
 
   pub times-fit : timesStand rec ≡ true → AllTimesFit rec
   unfolding timesStand
@@ -178,7 +179,7 @@ module _ (rec : List ℕ) where
       ↔ (readyEnd rec ≤ length rec) × (Within 1 k 8) × Ranged (field.direct ∷ field.order ∷ (repeated k greens ++ cycleOffset)) rec (timesEnd rec)
   unfolding rowsAt layoutRows layoutAt layouts
   plan-ranged =
-      part-ranged storedPlan (timesEnd rec) (readyEnd rec) rec (record { first = omega arith; last = omega arith }) (omega arith) (omega (arith, stored-parts k .planSize)) refl refl
+      part-ranged storedPlan (timesEnd rec) (readyEnd rec) rec (omega arith) (record { first = omega arith; last = omega arith }) refl refl (omega (arith, stored-parts k .planSize))
 
   -- each field of a plan that stands is in its range at its place
   pub plan-places : planStands rec ≡ true

@@ -22,7 +22,8 @@ use Rattle.checks.specs.Standing.{standingOf}
 use Rattle.plan.specs.Reporting.{reportTimesOf, reportPlanOf}
 use Rattle.plan.specs.Promises.{NoReport, NoReportOver48}
 use Rattle.plan.proofs.Reports.{times-none, times-told, plan-none, plan-other, plan-told}
-use Rattle.plan.proofs.Ranges.{Counted, PlanReport, report-times, plan-report, right-length, of-part}
+use Rattle.checks.proofs.Fields.{right-length}
+use Rattle.plan.proofs.Ranges.{Counted, PlanReport, report-times, plan-report, of-part}
 use Rattle.plan.proofs.Reportable.{timesBody, planBody, times-body, plan-body, no-report}
 
 first-out : {c place once each : ℕ} → Counted c place once each → (info : List ℕ) → codeIn info ≡ c
@@ -31,7 +32,7 @@ first-out : {c place once each : ℕ} → Counted c place once each → (info : 
     length os ≡ once + each * octetAt os place → Within 1 (octetAt os place) 8 → 0 < length fs → (RightAt fs (valuesOf fs os) 0 → ⊥) → NoReport (readOf info .message))
 unfolding notRead noMessage zeros
 first-out {c} {place} t info hc e k m w =
-    let j = outOfRange 1 (t .known) (right-length t info hc e k) (record { place = 0; number = refl; within = m; before = λ j l. absurd (omega arith); here = w }) in
+    let j = outOfRange 1 (t .known) (right-length (t .known) (t .count .fewest) (t .count .most) (t .size (octetAt (bodyIn info) place)) e k) (record { place = 0; number = refl; within = m; before = λ j l. absurd (omega arith); here = w }) in
     ap (λ (r : Read). r .message)
     (sym (of-part t info hc) ∙ sym (parts-read-so (numberOf c) (octetAt (bodyIn info) place) (bodyIn info) (notRead refusal.outOfRange 1) .0 j))
     ∙ no-report

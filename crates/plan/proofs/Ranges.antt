@@ -2,7 +2,7 @@
 use Prim.Native.Nat.{ℕ, _+_, _*_, _-_, _%_, _≤_, _<_}
 use mathlib.Core.Path.{_≡_, refl, sym, ap, _∙_}
 use mathlib.Core.Bool.{true}
-use mathlib.Core.Logic.{_↔_, Iff·trans, _⊎_, inl, inr}
+use mathlib.Core.Logic.{_↔_, _⊎_, inl, inr}
 use mathlib.Core.List.{List, _∷_, _++_}
 use native.Mathlib.Nat.{zero-add}
 use native.Mathlib.Decide.{decLt}
@@ -18,15 +18,15 @@ use Rattle.message.specs.Values.{sizeOf}
 use Rattle.message.specs.Reader.{readAs, partOf, codeIn, bodyIn, readPartOf, readOf}
 use Rattle.message.specs.Writer.{kOfMessage}
 use Rattle.message.specs.Counts.{CountAt}
-use Rattle.message.specs.Promises.{FieldStands, PlanFields, fieldsOf, valueThere, HasLayout, RightLength}
+use Rattle.message.specs.Promises.{FieldStands, PlanFields, fieldsOf, valueThere, HasLayout}
 use Rattle.message.proofs.Accepted.{accepted-in, is-part, rows-is}
 use Rattle.message.proofs.Counts.{counts-as-said}
 use Rattle.message.proofs.Numbers.{field-numbers}
 use Rattle.message.proofs.Places.{values-stand}
 use Rattle.message.proofs.Reading.{read-body}
-use Rattle.record.specs.Record.{octetAt, Within}
+use Rattle.record.specs.Record.{octetAt}
 use Rattle.plan.specs.Reporting.{reportPlanCode, reportRunningCode, reportsPlan}
-use Rattle.checks.proofs.Fields.{StandIn, Ranged, Reads, reads-as, part-reads}
+use Rattle.checks.proofs.Fields.{StandIn, Reads, reads-as, part-reads}
 
 -- the count of a code stands at this place, and so many octets come once and k times
 pub record Counted (c place once each : ℕ) : Type 0 where
@@ -70,10 +70,8 @@ plan-report (inr e) =
     rw e (record { counted = t; rows = λ k. refl; numbers = n; reports = refl })
 
 -- what stands after the code
-pub record InRanges (c place once each : ℕ) (body : List ℕ) : Type 0 where
-  pub long : length body ≡ once + each * octetAt body place
-  pub count : Within 1 (octetAt body place) 8
-  pub ranges : Ranged (fieldsOf c (octetAt body place)) body 0
+abbrev pub InRanges : ℕ → ℕ → ℕ → ℕ → List ℕ → Type 0
+InRanges c place once each body = Reads (numberOf c) (octetAt body place) (once + each * octetAt body place) body body 0
 
 -- a code whose second octet is not 0 has two
 pub long-enough : (info : List ℕ) (c : ℕ) → codeIn info ≡ c → (c % 256 ≡ 0 → ⊥) → codeLen ≤ length info
@@ -93,27 +91,14 @@ module _ {c place once each : ℕ} (t : Counted c place once each) (info : List 
   pub of-part : readPartOf (numberOf c) k os ≡ readOf info
   of-part = read-body info (long-enough info c hc (t .low)) (ap numberOf (sym hc)) refl (sym (t .count .octets os))
 
-  stand-in : (n : ℕ) → StandIn os os 0 n
-  stand-in n j l = ap (octetAt os) (sym (zero-add j))
-
-  pub right-length : length os ≡ once + each * k → Within 1 k 8 → RightLength (numberOf c) k os
-  right-length e w = record { fewest = rw (t .count .fewest) (w .least); most = rw (t .count .most) (w .most); octets = e ∙ sym (t .size k) }
-
-  reads : Reads (numberOf c) k os os 0 ↔ InRanges c place once each os
-  reads = (
-    λ r. record {
-      long = r .right .octets ∙ t .size k;
-      count = record { least = rw (t .count .fewest) at (r .right .fewest); most = rw (t .count .most) at (r .right .most) };
-      ranges = r .ranges;
-    },
-    λ r. record { right = right-length (r .long) (r .count); ranges = r .ranges },
-  )
+  stand-in : StandIn os os 0 (once + each * k)
+  stand-in j l = ap (octetAt os) (sym (zero-add j))
 
   pub read-ranges : (readOf info .refusal ≡ refusal.none) ↔ InRanges c place once each os
-  read-ranges = rw of-part at (Iff·trans (part-reads (t .known) (stand-in (sizeOf (fieldsOf c k)))) reads)
+  read-ranges = rw (← of-part) (part-reads (t .known) (t .count .fewest) (t .count .most) (t .size k) stand-in)
 
   pub ranges-as : InRanges c place once each os → readOf info ≡ readAs (partOf (numberOf c) k os)
-  ranges-as r = sym of-part ∙ reads-as (t .known) (stand-in (sizeOf (fieldsOf c k))) (reads .1 r)
+  ranges-as r = sym of-part ∙ reads-as (t .known) (t .count .fewest) (t .count .most) (t .size k) stand-in r
 
   -- what is read of a field is what stands at its place
   module _ (e : readOf info .refusal ≡ refusal.none) where

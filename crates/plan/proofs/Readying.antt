@@ -104,8 +104,11 @@ module _ (old body : List ℕ) (h : HasTimes old) (r : Ranges15 body) (e : count
   m-k : kOf m ≡ k
   m-k = ready-k old body long-old long-body
 
+  m-octet : (i : ℕ) → i < k → (j : ℕ) → timesAt i ≤ j → j < timesAt i + 7 → octetAt m j ≡ octetAt old j
+  m-octet i l j a b = ready-times old body long-old long-body j (omega arith) (omega arith)
+
   m-times : (i : ℕ) → i < k → SameTimes m old i
-  m-times i l = same-times m old i (λ j a b. ready-times old body long-old long-body j (omega arith) (omega arith))
+  m-times i l = same-times m old i (m-octet i l)
 
   m-direct : directOf m ≡ directIn body
   m-direct = let q : timesAt (kOf m) ≡ timesEnd old + 0 = omega (arith, m-k) in ap (octetAt m) q ∙ ready-two old body long-old long-body 0 (omega arith)
@@ -170,7 +173,7 @@ module _ (old body : List ℕ) (h : HasTimes old) (r : Ranges15 body) (e : count
           times =
               record {
                 count = rw m-k (has-fit old h .count);
-                phases = λ i l. let l′ : i < k = omega (arith, m-k) in same-fit m old i (m-times i l′) (has-fit old h .phases i l′);
+                phases = λ i l. let l′ : i < k = omega (arith, m-k) in same-fit m old i (m-octet i l′) (has-fit old h .phases i l′);
               };
           greens =
               record {

@@ -7,8 +7,8 @@ use mathlib.Core.List.{List, [], _∷_, _++_}
 use native.Mathlib.Decide.{ℕ-discrete}
 use native.Mathlib.Omega.{arith}
 use borrow.Author.Tests.{ne-eqb}
-use lib.ListN.{length, drop, drop-of-length-le}
-use lib.Seq.{take-nil, getD-take, getD-drop}
+use lib.ListN.{length, drop-of-length-le}
+use lib.Seq.{take-nil}
 use Rattle.octets.specs.First.{firstOf}
 use Rattle.octets.specs.Refusal as refusal
 use Rattle.octets.proofs.Laws.{word-back}
@@ -28,7 +28,7 @@ use Rattle.plan.specs.Reporting.{reportPlanCode, reportRunningCode, time
 use Rattle.plan.specs.Promises.{NoReport, ReportsRead}
 use Rattle.checks.proofs.Laws.{stands-long}
 use Rattle.checks.proofs.Fields.{ranged-same}
-use Rattle.checks.proofs.Stands.{part-long, times-fit, fit-ranged, plan-places, some-long, some-times, ready-plan}
+use Rattle.checks.proofs.Stands.{part-long, part-at, times-fit, fit-ranged, plan-places, some-long, some-times, ready-plan}
 use Rattle.plan.proofs.Ranges.{InRanges, PlanReport, report-times, plan-report, ranges-as}
 use Rattle.plan.proofs.Reports.{times-none, times-told, plan-none, plan-other, plan-told}
 
@@ -46,7 +46,7 @@ module _ (rec : List ℕ) (p : ℕ) where
   times-at zero h l = absurd (omega arith)
   times-at (suc j) h l =
       let e : 1 + j ≡ suc j = omega arith in
-      getD-take (timesEnd rec - 1) (drop 1 rec) j 0 (omega arith) ∙ (getD-drop 1 rec j 0 ∙ ap (octetAt rec) e)
+      part-at 1 (timesEnd rec) rec j (omega arith) ∙ ap (octetAt rec) e
 
   -- 5F C5 and 5F C8: plan, direct, order and count, and then the record's from its greens on
   abbrev pub planBody : List ℕ
@@ -55,7 +55,7 @@ module _ (rec : List ℕ) (p : ℕ) where
   pub plan-at : (j : ℕ) → j < 4 + 2 * k → octetAt planBody (4 + j) ≡ octetAt rec (greensAt rec + j)
   plan-at j l =
       let e : 4 + j ≡ suc (suc (suc (suc j))) = omega arith in
-      rw e (getD-take (readyEnd rec - greensAt rec) (drop (greensAt rec) rec) j 0 (omega arith) ∙ getD-drop (greensAt rec) rec j 0)
+      rw e (part-at (greensAt rec) (readyEnd rec) rec j (omega arith))
 
 -- They are in their ranges
 

@@ -8,7 +8,7 @@ use native.Mathlib.Omega.{arith}
 use borrow.Author.Tests.{eq-eqb, ne-eqb, le-leb, lt-leb}
 use lib.Dec.{leb}
 use lib.ListN.{length, drop, set, replicate, length-append, length-drop, List·getD-append}
-use lib.Seq.{sets, getD-drop, getD-take, getD-append-add, drop-at, length-take-le}
+use lib.Seq.{sets, getD-drop, getD-append-add, drop-at}
 use Rattle.octets.specs.First.{firstOf}
 use Rattle.octets.specs.Part.{codeLen}
 use Rattle.octets.specs.Put.{Put, Stored}
@@ -28,6 +28,7 @@ use Rattle.plan.specs.BuiltIn.{padded}
 use Rattle.plan.specs.Reading.{recordStart, recordAt}
 use Rattle.plan.specs.Setting.{planIn, countIn, Times14, Plan15, timesRecord, readyRecord, made, notMade, timesField, planField, timesMade, readyMade, SetLeaves, answered, keptAs, setTimesCode, setPlanCode, otherCode, setFront, setOf}
 use Rattle.checks.proofs.Laws.{both-none}
+use Rattle.checks.proofs.Stands.{part-long, part-at}
 use Rattle.plan.proofs.Ranges.{InRanges, set-times, set-plan, read-ranges}
 
 -- What any set refuses
@@ -139,10 +140,10 @@ readyOctets old body = ready ∷ (front-part old ++ rest-part body)
 
 module _ (old body : List ℕ) (ho : timesEnd old ≤ length old) (hb : 4 ≤ length body) where
   front-long : length (front-part old) ≡ timesEnd old - 1
-  front-long = length-take-le (timesEnd old - 1) (drop 1 old) (simp length-drop (omega arith))
+  front-long = part-long 1 (timesEnd old) old (omega arith) ho
 
   two-long : length (between 1 3 body) ≡ 2
-  two-long = length-take-le 2 (drop 1 body) (simp length-drop (omega arith))
+  two-long = part-long 1 3 body (omega arith) (omega arith)
 
   pub ready-long : length (readyOctets old body) ≡ timesEnd old + 2 + (length body - 4)
   ready-long = omega (arith, length-append (front-part old) (rest-part body), length-append (between 1 3 body) (drop 4 body), front-long, two-long, length-drop 4 body)
@@ -154,7 +155,7 @@ module _ (old body : List ℕ) (ho : timesEnd old ≤ length old) (hb : 4 ≤ le
       let e : 1 + i ≡ suc i = omega arith in
       padded-at (readyOctets old body) (suc i)
       ∙ (List·getD-append (front-part old) (rest-part body) 0 i (omega (arith, front-long))
-      ∙ (getD-take (timesEnd old - 1) (drop 1 old) i 0 (omega arith) ∙ (getD-drop 1 old i 0 ∙ ap (octetAt old) e)))
+      ∙ (part-at 1 (timesEnd old) old i (omega arith) ∙ ap (octetAt old) e))
 
   after : (j : ℕ) → octetAt (readyRecord old body) (timesEnd old + j) ≡ octetAt (rest-part body) j
   unfolding readyRecord
@@ -165,7 +166,7 @@ module _ (old body : List ℕ) (ho : timesEnd old ≤ length old) (hb : 4 ≤ le
 
   pub ready-two : (j : ℕ) → j < 2 → octetAt (readyRecord old body) (timesEnd old + j) ≡ octetAt body (1 + j)
   ready-two j l =
-      after j ∙ (List·getD-append (between 1 3 body) (drop 4 body) 0 j (omega (arith, two-long)) ∙ (getD-take 2 (drop 1 body) j 0 l ∙ getD-drop 1 body j 0))
+      after j ∙ (List·getD-append (between 1 3 body) (drop 4 body) 0 j (omega (arith, two-long)) ∙ part-at 1 3 body j l)
 
   pub ready-rest : (j : ℕ) → octetAt (readyRecord old body) (timesEnd old + (2 + j)) ≡ octetAt body (4 + j)
   ready-rest j =

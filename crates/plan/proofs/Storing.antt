@@ -19,7 +19,7 @@ use Rattle.plan.specs.BuiltIn.{padded}
 use Rattle.plan.specs.Reading.{recordStart, recordAt}
 use Rattle.plan.specs.Setting.{planIn, Setting, answered, made, notMade, timesRecord, timesField, timesMade, keptAs, setOf, setTimesCode, setTimesOf}
 use Rattle.plan.specs.Promises.{Fit14, PhaseAgrees, Disagrees14, maximum, redMan, RecordStored, SameTimes, Holds14, TimesJudged, TimesStoredExactlyWhen}
-use Rattle.checks.proofs.Fields.{ranged-repeated, phase-in}
+use Rattle.checks.proofs.Fields.{ranged-same, ranged-repeated, phase-in, phase-out}
 use Rattle.checks.proofs.Stands.{times-first, check-maximum, check-redman, times-ordered, times-walk, agree-times, fit-ranged}
 use Rattle.plan.proofs.Ranges.{InRanges, set-times, read-ranges}
 use Rattle.plan.proofs.Sets.{front-read, same-code, read-times, padded-at, padded-long, padded-rest, times-at, field-maximum, field-redman}
@@ -179,9 +179,9 @@ module _ (body : List ℕ) where
 
 -- The record of a 5F 14
 
-module _ (rec os : List ℕ) (i : ℕ) where
-  pub same-times : ((j : ℕ) → timesAt i ≤ j → j < timesAt i + 7 → octetAt rec j ≡ octetAt os j) → SameTimes rec os i
-  same-times s =
+module _ (rec os : List ℕ) (i : ℕ) (s : (j : ℕ) → timesAt i ≤ j → j < timesAt i + 7 → octetAt rec j ≡ octetAt os j) where
+  pub same-times : SameTimes rec os i
+  same-times =
       record {
         minimum = s (timesAt i) (omega arith) (omega arith);
         maximum = rw (s (timesAt i + 1) (omega arith) (omega arith), s (timesAt i + 1 + 1) (omega arith) (omega arith));
@@ -191,18 +191,12 @@ module _ (rec os : List ℕ) (i : ℕ) where
         redMan = s (timesAt i + 6) (omega arith) (omega arith);
       }
 
-  pub same-fit : SameTimes rec os i → TimesFit os i → TimesFit rec i
-  same-fit s f =
-      record {
-        minimum = rw (s .minimum) (f .minimum);
-        maximum = rw (s .maximum) (f .maximum);
-        yellow = rw (s .yellow) (f .yellow);
-        allRed = rw (s .allRed) (f .allRed);
-        walkFlash = rw (s .walkFlash) (f .walkFlash);
-        redMan = rw (s .redMan) (f .redMan);
-        ordered = rw (s .minimum, s .maximum) (f .ordered);
-        walk = rw (s .walkFlash, s .redMan, s .minimum) (f .walk);
-      }
+  pub same-fit : TimesFit os i → TimesFit rec i
+  same-fit f =
+      let t = same-times in
+      phase-in rec i (ranged-same times os rec (timesAt i) (timesAt i) (λ j l. sym (s (timesAt i + j) (omega arith) (omega arith))) (phase-out os i f))
+      (rw (t .minimum, t .maximum) (f .ordered))
+      (rw (t .walkFlash, t .redMan, t .minimum) (f .walk))
 
 module _ (body : List ℕ) (f : Fit14 body) where
   abbrev rec : List ℕ
@@ -211,8 +205,8 @@ module _ (body : List ℕ) (f : Fit14 body) where
   same-k : kOf rec ≡ kOf body
   same-k = times-at body 1 (omega arith)
 
-  same-phase : (i : ℕ) → SameTimes rec body i
-  same-phase i = same-times rec body i (λ j h l. times-at body j (omega arith))
+  same-octets : (i j : ℕ) → timesAt i ≤ j → j < timesAt i + 7 → octetAt rec j ≡ octetAt body j
+  same-octets i j h l = times-at body j (omega arith)
 
   pub record-long : length rec ≡ recordLen
   unfolding timesRecord
@@ -236,12 +230,12 @@ module _ (body : List ℕ) (f : Fit14 body) where
               times =
                   record {
                     count = rw same-k (f .times .count);
-                    phases = λ i l. same-fit rec body i (same-phase i) (f .times .phases i (omega (arith, same-k)));
+                    phases = λ i l. same-fit rec body i (same-octets i) (f .times .phases i (omega (arith, same-k)));
                   };
               rest = padded-rest (timesSet ∷ drop 1 body) (timesEnd rec) (omega (arith, length-drop 1 body, f .long, same-k));
             };
         count = same-k;
-        times = λ i l. same-phase i;
+        times = λ i l. same-times rec body i (same-octets i);
       }
 
 -- Stored exactly when

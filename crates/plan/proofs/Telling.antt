@@ -1,26 +1,26 @@
 -- What was set is what is reported: the INFO of the report is that of the set, but for its code.
-use Prim.Native.Nat.{ℕ, _-_, _≤_}
+use Prim.Native.Nat.{ℕ, _+_, _-_, _≤_, _<_}
 use mathlib.Core.Path.{_≡_, refl, sym, ap, _∙_}
 use mathlib.Core.Logic.{_⊎_, inl, inr}
-use mathlib.Core.List.{List, _∷_, _++_, append-assoc}
+use mathlib.Core.List.{List, _∷_}
 use native.Mathlib.Omega.{arith}
-use lib.ListN.{length, take, drop, replicate, length-append, length-drop}
-use lib.Seq.{take-at, drop-at, length-take-le}
+use lib.ListN.{length, drop, replicate, length-drop}
+use lib.Seq.{ext-getD, take-at, getD-drop}
 use Rattle.octets.specs.First.{firstOf}
 use Rattle.octets.proofs.Laws.{drop-next}
 use Rattle.message.specs.Layouts.{layouts, layoutAt, numberOf, rowsAt, layoutRows}
 use Rattle.message.specs.Reader.{partOf, bodyIn}
-use Rattle.record.specs.Record.{recordLen, empty, timesSet, ready, kOf, timesEnd, greensAt, readyEnd, directOf, orderOf}
+use Rattle.record.specs.Record.{recordLen, empty, timesSet, ready, octetAt, kOf, timesEnd, greensAt, readyEnd, directOf, orderOf}
 use Rattle.checks.specs.Standing.{between, standingOf}
 use Rattle.plan.specs.BuiltIn.{padded}
 use Rattle.plan.specs.Reading.{recordAt}
 use Rattle.plan.specs.Setting.{planIn, countIn, Setting, timesRecord, readyRecord, setTimesOf, setPlanOf}
 use Rattle.plan.specs.Reporting.{reportTimesCode, reportPlanCode, reportRunningCode, reportTimesOf, reportPlanOf}
 use Rattle.plan.specs.Promises.{Fit14, directIn, orderIn, Fit15, Holds15, Reports, TimesReported, PlanReported}
-use Rattle.checks.proofs.Stands.{ready-to, times-to}
+use Rattle.checks.proofs.Stands.{part-long, part-at, ready-to, times-to}
 use Rattle.plan.proofs.Ranges.{PlanReport, set-times, set-plan, plan-report, ranges-as}
 use Rattle.plan.proofs.Reportable.{times-part, plan-part}
-use Rattle.plan.proofs.Sets.{times-at}
+use Rattle.plan.proofs.Sets.{times-at, ready-rest}
 use Rattle.plan.proofs.Storing.{times-holds, stored-here, fit-read, fit-stored, record-long}
 use Rattle.plan.proofs.Readying.{in-ranges, has-long, has-fit, m-holds, m-long, fit-done}
 
@@ -72,25 +72,17 @@ module _ (old body : List ℕ) (f : Fit15 old body) where
   long-old : timesEnd old ≤ length old
   long-old = omega (arith, has-long old (f .set), has-fit old (f .set) .count .most)
 
-  abbrev front : List ℕ
-  front = ready ∷ (between 1 (timesEnd old) old ++ between 1 3 body)
-
-  front-len : length front ≡ greensAt m
-  front-len =
-      let a : length (between 1 (timesEnd old) old) ≡ timesEnd old - 1 = length-take-le (timesEnd old - 1) (drop 1 old) (simp length-drop (omega (arith, long-old))) in
-      let b : length (between 1 3 body) ≡ 2 = length-take-le 2 (drop 1 body) (simp length-drop (omega (arith, f .ranges .long))) in
-      omega (arith, length-append (between 1 (timesEnd old) old) (between 1 3 body), holds .count)
-
   rest-again : between (greensAt m) (readyEnd m) m ≡ drop 4 body
-  unfolding readyRecord padded
-  rest-again =
-      let vs : List ℕ = ready ∷ (between 1 (timesEnd old) old ++ (between 1 3 body ++ drop 4 body)) in
-      let z : List ℕ = replicate (recordLen - length vs) 0 in
-      let e : vs ++ z ≡ front ++ (drop 4 body ++ z) =
-      ap (λ (l : List ℕ). (ready ∷ l) ++ z) (sym (append-assoc (between 1 (timesEnd old) old) (between 1 3 body) (drop 4 body))) ∙ append-assoc front (drop 4 body) z in
-      let n : length (drop 4 body) ≡ readyEnd m - greensAt m = omega (arith, length-drop 4 body, f .ranges .long, same-k) in
-      ap (λ (l : List ℕ). take (readyEnd m - greensAt m) (drop (greensAt m) l)) e
-      ∙ (ap (take (readyEnd m - greensAt m)) (drop-at front (drop 4 body ++ z) (greensAt m) front-len) ∙ take-at (drop 4 body) z (readyEnd m - greensAt m) n)
+  rest-again = ext-getD 0 (between (greensAt m) (readyEnd m) m) (drop 4 body) (long ∙ sym (omega (arith, length-drop 4 body, f .ranges .long, same-k))) (λ j l. at j (omega (arith, long)))
+    where
+      long : length (between (greensAt m) (readyEnd m) m) ≡ readyEnd m - greensAt m
+      long = part-long (greensAt m) (readyEnd m) m (omega arith) (omega (arith, holds .stands .long, holds .stands .times .count .most))
+
+      at : (j : ℕ) → j < readyEnd m - greensAt m → octetAt (between (greensAt m) (readyEnd m) m) j ≡ octetAt (drop 4 body) j
+      at j l =
+          let e : greensAt m + j ≡ timesEnd old + (2 + j) = omega (arith, holds .count) in
+          part-at (greensAt m) (readyEnd m) m j l
+          ∙ (ap (octetAt m) e ∙ (ready-rest old body long-old (omega (arith, f .ranges .long)) j ∙ sym (getD-drop 4 body j 0)))
 
   whole-again : planIn body ∷ directOf m ∷ orderOf m ∷ kOf m ∷ between (greensAt m) (readyEnd m) m ≡ body
   whole-again =
