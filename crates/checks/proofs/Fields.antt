@@ -53,6 +53,7 @@ all-cons P n = (λ a. (a 0 (omega arith), λ j l. a (suc j) (omega arith)), from
     from p zero l = p .0
     from p (suc j) l = p .1 j (omega arith)
 
+-- the law: each value that is read is right exactly when each field, where its octets stand, is in its range
 fields-right : (fs : List Field) (ps os : List ℕ) (at : ℕ) → StandIn ps os at (sizeOf fs)
     → ((j : ℕ) → j < length fs → RightAt fs (valuesOf fs ps) j) ↔ Ranged fs os at
 fields-right [] ps os at h = (λ _. tt, λ _ j l. absurd (omega arith))

@@ -69,12 +69,12 @@ plan-report (inr e) =
     let t = counted-by (omega arith) (omega arith) (λ z. omega arith) (counts-as-said .reportRunning) (λ k. n k .size) in
     rw e (record { counted = t; rows = λ k. refl; numbers = n; reports = refl })
 
--- what stands after the code
+-- the octets after the code: as many as the count says, and each field in its range
 abbrev pub InRanges : ℕ → ℕ → ℕ → ℕ → List ℕ → Type 0
 InRanges c place once each body = Reads (numberOf c) (octetAt body place) (once + each * octetAt body place) body body 0
 
 -- a code whose second octet is not 0 has two
-pub long-enough : (info : List ℕ) (c : ℕ) → codeIn info ≡ c → (c % 256 ≡ 0 → ⊥) → codeLen ≤ length info
+long-enough : (info : List ℕ) (c : ℕ) → codeIn info ≡ c → (c % 256 ≡ 0 → ⊥) → codeLen ≤ length info
 long-enough info c e n = by (decLt (length info) codeLen)
   where
     by : Dec (length info < codeLen) → codeLen ≤ length info
