@@ -65,7 +65,8 @@ fields-right (f ∷ fs) ps os at h =
     (fields-right fs (drop w ps) os (at + w) (λ j l. rw (getD-drop, add-assoc) (h (w + j) (omega arith)))))
 
 -- where the same octets stand, the same fields are in their ranges
-pub ranged-same : (fs : List Field) (os ps : List ℕ) (at bt : ℕ) → ((j : ℕ) → j < sizeOf fs → octetAt os (at + j) ≡ octetAt ps (bt + j)) → Ranged fs os at → Ranged fs ps bt
+pub ranged-same : (fs : List Field) (os ps : List ℕ) (at bt : ℕ) → ((j : ℕ) → j < sizeOf fs → octetAt os (at + j) ≡ octetAt ps (bt + j))
+    → Ranged fs os at → Ranged fs ps bt
 ranged-same fs os ps at bt h p =
     fields-right fs (drop at os) ps bt (λ j l. getD-drop at os j 0 ∙ h j l) .0 (fields-right fs (drop at os) os at (λ j l. getD-drop at os j 0) .1 p)
 

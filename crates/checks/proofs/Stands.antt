@@ -153,7 +153,8 @@ module _ (rec : List ℕ) where
   abbrev k : ℕ
   k = kOf rec
 
-  times-ranged : (ranged storedTimes headLen (timesEnd rec) rec ≡ true) ↔ (timesEnd rec ≤ length rec) × (Within 1 k 8) × Ranged (repeated k times ++ []) rec headLen
+  times-ranged : (ranged storedTimes headLen (timesEnd rec) rec ≡ true)
+      ↔ (timesEnd rec ≤ length rec) × (Within 1 k 8) × Ranged (repeated k times ++ []) rec headLen
   unfolding rowsAt layoutRows layoutAt layouts
   times-ranged =
       part-ranged storedTimes headLen (timesEnd rec) rec (omega arith) (record { first = omega arith; last = omega arith }) refl refl (omega (arith, stored-parts k .timesSize))

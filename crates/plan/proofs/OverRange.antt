@@ -15,7 +15,7 @@ use Rattle.message.specs.declared.Read.{Read}
 use Rattle.message.specs.Layouts.{layouts, layoutAt, numberOf, rowsAt, layoutRows}
 use Rattle.message.specs.Values.{zeros, valuesOf}
 use Rattle.message.specs.Reader.{noMessage, notRead, codeIn, bodyIn, readOf}
-use Rattle.message.specs.Promises.{fieldsOf, RightAt, outOfRange}
+use Rattle.message.specs.Promises.{fieldsOf, RightAt, RightLength, outOfRange}
 use Rattle.message.proofs.ReadSo.{parts-read-so}
 use Rattle.record.specs.Record.{empty, ready, octetAt, kOf, Within}
 use Rattle.checks.specs.Standing.{standingOf}
@@ -32,7 +32,9 @@ first-out : {c place once each : ℕ} → Counted c place once each → (info : 
     length os ≡ once + each * octetAt os place → Within 1 (octetAt os place) 8 → 0 < length fs → (RightAt fs (valuesOf fs os) 0 → ⊥) → NoReport (readOf info .message))
 unfolding notRead noMessage zeros
 first-out {c} {place} t info hc e k m w =
-    let j = outOfRange 1 (t .known) (right-length (t .known) (t .count .fewest) (t .count .most) (t .size (octetAt (bodyIn info) place)) e k) (record { place = 0; number = refl; within = m; before = λ j l. absurd (omega arith); here = w }) in
+    let size = t .size (octetAt (bodyIn info) place) in
+    let long : RightLength (numberOf c) (octetAt (bodyIn info) place) (bodyIn info) = right-length (t .known) (t .count .fewest) (t .count .most) size e k in
+    let j = outOfRange 1 (t .known) long (record { place = 0; number = refl; within = m; before = λ j l. absurd (omega arith); here = w }) in
     ap (λ (r : Read). r .message)
     (sym (of-part t info hc) ∙ sym (parts-read-so (numberOf c) (octetAt (bodyIn info) place) (bodyIn info) (notRead refusal.outOfRange 1) .0 j))
     ∙ no-report

@@ -32,10 +32,12 @@ module _ {c place once each : ℕ} (t : Counted c place once each) (info : List 
   abbrev fs : List Field
   fs = fieldsOf c (octetAt (bodyIn info) place)
 
-  one : {n s : ℕ} {f : Field} → FieldStands fs n f s → valueThere f (bodyIn info) s ≡ octetAt (bodyIn info) s → {i at : ℕ} → n ≡ i → 2 + s ≡ at → valueAt m i ≡ octetAt info at
+  one : {n s : ℕ} {f : Field} → FieldStands fs n f s → valueThere f (bodyIn info) s ≡ octetAt (bodyIn info) s
+      → {i at : ℕ} → n ≡ i → 2 + s ≡ at → valueAt m i ≡ octetAt info at
   one {s = s} w v en ea = rw (← en, ← ea) (read-value t info hc e w ∙ (v ∙ getD-drop 2 info s 0))
 
-  two : {n s : ℕ} {f : Field} → FieldStands fs n f s → valueThere f (bodyIn info) s ≡ wordAt (bodyIn info) s → {i at : ℕ} → n ≡ i → 2 + s ≡ at → valueAt m i ≡ twoAt info at
+  two : {n s : ℕ} {f : Field} → FieldStands fs n f s → valueThere f (bodyIn info) s ≡ wordAt (bodyIn info) s
+      → {i at : ℕ} → n ≡ i → 2 + s ≡ at → valueAt m i ≡ twoAt info at
   two {s = s} w v en ea =
       let q : 2 + (s + 1) ≡ 2 + s + 1 = omega arith in
       rw (← en, ← ea) (read-value t info hc e w ∙ (v ∙ rw (getD-drop 2 info s 0, getD-drop 2 info (s + 1) 0, q)))

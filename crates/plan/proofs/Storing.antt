@@ -124,7 +124,8 @@ module _ {book info rec : List ℕ} {Fit Has : Type 0} {Fails : ℕ → Type 0} 
     way-unset (refused f h d) m = absurd (m h)
     way-unset (fits h f) m = absurd (m h)
 
-    pub way-named : {w : Setting} → Way book info rec Fit Has Fails w → Has → (w .answer .refusal ≡ refusal.none → ⊥) → (w .answer .refusal ≡ refusal.disagree) × Fails (w .answer .field)
+    pub way-named : {w : Setting} → Way book info rec Fit Has Fails w → Has → (w .answer .refusal ≡ refusal.none → ⊥)
+        → (w .answer .refusal ≡ refusal.disagree) × Fails (w .answer .field)
     way-named (unread n) h z = absurd (n e)
     way-named (unset n) h z = absurd (n h)
     way-named (refused f h′ d) h z = (refl, d)

@@ -73,8 +73,11 @@ module _ (old body : List ℕ) (f : Fit15 old body) where
   long-old = omega (arith, has-long old (f .set), has-fit old (f .set) .count .most)
 
   rest-again : between (greensAt m) (readyEnd m) m ≡ drop 4 body
-  rest-again = ext-getD 0 (between (greensAt m) (readyEnd m) m) (drop 4 body) (long ∙ sym (omega (arith, length-drop 4 body, f .ranges .long, same-k))) (λ j l. at j (omega (arith, long)))
+  rest-again = ext-getD 0 (between (greensAt m) (readyEnd m) m) (drop 4 body) (long ∙ sym rest-long) (λ j l. at j (omega (arith, long)))
     where
+      rest-long : length (drop 4 body) ≡ readyEnd m - greensAt m
+      rest-long = omega (arith, length-drop 4 body, f .ranges .long, same-k)
+
       long : length (between (greensAt m) (readyEnd m) m) ≡ readyEnd m - greensAt m
       long = part-long (greensAt m) (readyEnd m) m (omega arith) (omega (arith, holds .stands .long, holds .stands .times .count .most))
 
