@@ -125,7 +125,7 @@ fn set(code: u16, requested: u8, a: Answered) -> Handled
 fn plan_named(info: &[u8]) -> u8
     ensures { λ r. ⌜ r ≡ planIn (bodyIn (now (info .entry))) ⌝ }
 {
-    record::octet_at(octets::body(info), 0)
+    octets::octet_at(octets::body(info), 0)
 }
 
 // "5F 18 notes the requested plan."

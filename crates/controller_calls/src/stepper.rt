@@ -50,7 +50,7 @@ fn picked(u: Running, requested: u8, book: &[u8]) -> Running
     let lent = book::built_in(which);
     let rec = record_of(book, &lent, requested);
     // Reading judged it, so it stands as its state says.
-    if record::octet_at(rec, 0) == record::READY {
+    if record::state(rec) == record::READY {
         return started(which, requested, copied(rec));
     }
     let copy = u.copy;

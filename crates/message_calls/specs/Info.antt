@@ -1,23 +1,18 @@
 -- 01, "Messages": "The fields of a message are read left to right by a reader that holds the INFO octets and its place."
 use Prim.Native.Nat.{ℕ}
-use mathlib.Core.Bool.{true, false}
 use mathlib.Core.List.{List}
-use lib.ListN.{drop}
 use denote.Ref.{RefT, now}
-use Rattle.message.specs.Fields.{valueOf}
+use Rattle.octets.specs.Octet.{octetAt}
+use Rattle.octets.specs.Word.{wordAt}
 use Rattle.message_calls.specs.declared.info.Reader.{Reader}
 
 -- a reader of these octets, at a place
 abbrev pub readerAt : RefT (List ℕ) → ℕ → Reader
 readerAt info at = record { src = info; at = at }
 
--- the octets that a reader has still to read
-abbrev pub ahead : Reader → List ℕ
-ahead r = drop (r .at) (now (r .src))
-
+-- the octet at its place, and the two from there on as one number
 abbrev pub nextOctet : Reader → ℕ
-nextOctet r = valueOf false (ahead r)
+nextOctet r = octetAt (now (r .src)) (r .at)
 
--- "high octet first"
 abbrev pub nextWord : Reader → ℕ
-nextWord r = valueOf true (ahead r)
+nextWord r = wordAt (now (r .src)) (r .at)

@@ -21,14 +21,14 @@ impl<'a> Reader<'a> {
     pub fn octet(self) -> u8
         ensures { λ r. ⌜ r ≡ nextOctet (self .entry) ⌝ }
     {
-        octet_at(self.src, self.at)
+        octets::octet_at(self.src, self.at)
     }
 
     // The next two octets as one number, high octet first.
     pub fn word(self) -> u16
         ensures { λ r. ⌜ r ≡ nextWord (self .entry) ⌝ }
     {
-        word_at(self.src, self.at)
+        octets::word_at(self.src, self.at)
     }
 }
 
@@ -41,22 +41,4 @@ pub(crate) fn value_at(info: &[u8], at: usize, two: bool) -> u16
         return r.word();
     }
     r.octet() as u16
-}
-
-fn octet_at(s: &[u8], at: usize) -> u8
-    ensures { λ r. ⌜ r ≡ nextOctet (readerAt (s .entry) at) ⌝ }
-{
-    if s.len() <= at {
-        return 0;
-    }
-    s[at]
-}
-
-fn word_at(s: &[u8], at: usize) -> u16
-    ensures { λ r. ⌜ r ≡ nextWord (readerAt (s .entry) at) ⌝ }
-{
-    if s.len() <= at {
-        return 0;
-    }
-    octets::word(s[at], octet_at(s, at + 1))
 }

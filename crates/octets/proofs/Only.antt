@@ -4,6 +4,8 @@ use denote.Ref.{now}
 use Rattle.octets.proofs.high.Reads as high
 use Rattle.octets.proofs.low.Reads as low
 use Rattle.octets.proofs.word.Reads as word
+use Rattle.octets.proofs.octet_at.Reads as octet-at
+use Rattle.octets.proofs.word_at.Reads as word-at
 use Rattle.octets.proofs.exclusive_or.Reads as exclusive-or
 use Rattle.octets.proofs.put.Reads as put
 use Rattle.octets.proofs.room.Reads as room
@@ -17,6 +19,12 @@ only-low κs a r s x y p q = p ∙ sym q
 
 only-word : (κs : _) (a : _) (r s : _) (x y : _) → word.Post κs a r x → word.Post κs a s y → r ≡ s
 only-word κs a r s x y p q = p ∙ sym q
+
+only-octet-at : (κs : _) (a : _) (r s : _) (x y : _) → octet-at.Post κs a r x → octet-at.Post κs a s y → r ≡ s
+only-octet-at κs a r s x y p q = p ∙ sym q
+
+only-word-at : (κs : _) (a : _) (r s : _) (x y : _) → word-at.Post κs a r x → word-at.Post κs a s y → r ≡ s
+only-word-at κs a r s x y p q = p ∙ sym q
 
 only-exclusive-or : (κs : _) (a : _) (r s : _) (x y : _) → exclusive-or.Post κs a r x → exclusive-or.Post κs a s y → r ≡ s
 only-exclusive-or κs a r s x y p q = p ∙ sym q

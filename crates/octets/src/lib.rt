@@ -5,7 +5,8 @@ ghost use mathlib.Core.Path.{_≡_};
 ghost use Prim.Native.Nat.{_+_, _≤_};
 ghost use lib.Dec.{leb};
 ghost use lib.ListN.{length};
-ghost use Rattle.octets.specs.Word.{highOf, lowOf, wordOf};
+ghost use Rattle.octets.specs.Octet.{octetAt};
+ghost use Rattle.octets.specs.Word.{highOf, lowOf, wordOf, wordAt};
 ghost use Rattle.octets.specs.ExclusiveOr.{exclusiveOr};
 ghost use Rattle.octets.specs.Put.{Put, Stored};
 ghost use Rattle.octets.specs.Part.{PartFrom, codeLen};
@@ -32,6 +33,26 @@ pub fn word(hi: u8, lo: u8) -> u16
     ensures { λ r. ⌜ r ≡ wordOf hi lo ⌝ }
 {
     hi as u16 * 256 + lo as u16
+}
+
+// The octet at a place. Octets that are not there are 0, so that every place can be asked for.
+pub fn octet_at(s: &[u8], at: usize) -> u8
+    ensures { λ r. ⌜ r ≡ octetAt (now (s .entry)) at ⌝ }
+{
+    if at < s.len() {
+        return s[at];
+    }
+    0
+}
+
+// The two octets from a place on as one number.
+pub fn word_at(s: &[u8], at: usize) -> u16
+    ensures { λ r. ⌜ r ≡ wordAt (now (s .entry)) at ⌝ }
+{
+    if at < s.len() {
+        return word(s[at], octet_at(s, at + 1));
+    }
+    0
 }
 
 // The exclusive or of the octets of `s`, going on from `start`.

@@ -34,7 +34,7 @@ pub fn set_times(book: &mut [u8], info: &[u8]) -> Answered
         return f;
     }
     let body = octets::body(info);
-    keep(book, record::octet_at(body, 0), made_times(body))
+    keep(book, octets::octet_at(body, 0), made_times(body))
 }
 
 // The message 5F 15 that INFO holds: it makes its plan ready.
@@ -46,7 +46,7 @@ pub fn set_plan(book: &mut [u8], info: &[u8]) -> Answered
         return f;
     }
     let body = octets::body(info);
-    let plan = record::octet_at(body, 0);
+    let plan = octets::octet_at(body, 0);
     let at = book::start(plan);
     let end = at + RECORD_LEN;
     let m = made_ready(&book[at..end], body);
@@ -63,7 +63,7 @@ fn answer(n: u8, field: u8) -> Answered
 fn other_code(info: &[u8], code: u16) -> bool
     ensures { λ r. ⌜ r ≡ otherCode code (now (info .entry)) ⌝ }
 {
-    octets::CODE_LEN <= info.len() && record::word_at(info, 0) != code
+    octets::CODE_LEN <= info.len() && octets::word_at(info, 0) != code
 }
 
 // What is refused of any set: a book of another length, a message of another code, what the message reader refuses.
@@ -127,7 +127,7 @@ fn made_ready(old: &[u8], body: &[u8]) -> NewRecord
     if checks::standing(old) == record::EMPTY {
         return not_made(refusal::NOT_READY, PLAN);
     }
-    if record::octet_at(body, 3) != record::count(old) {
+    if octets::octet_at(body, 3) != record::count(old) {
         return not_made(refusal::DISAGREE, PLAN_COUNT);
     }
     let rec = ready_record(old, body);

@@ -1,7 +1,6 @@
 -- Any two results that a contract allows are equal.
 use mathlib.Core.Path.{_≡_, sym, _∙_}
-use Rattle.record.proofs.octet_at.Reads as octet-at
-use Rattle.record.proofs.word_at.Reads as word-at
+use Rattle.record.proofs.state.Reads as state
 use Rattle.record.proofs.count.Reads as count
 use Rattle.record.proofs.minimum.Reads as minimum
 use Rattle.record.proofs.maximum.Reads as maximum
@@ -18,11 +17,8 @@ use Rattle.record.proofs.times_end.Reads as times-end
 use Rattle.record.proofs.greens_at.Reads as greens-at
 use Rattle.record.proofs.ready_end.Reads as ready-end
 
-only-octet-at : (κs : _) (a : _) (r s : _) (x y : _) → octet-at.Post κs a r x → octet-at.Post κs a s y → r ≡ s
-only-octet-at κs a r s x y p q = p ∙ sym q
-
-only-word-at : (κs : _) (a : _) (r s : _) (x y : _) → word-at.Post κs a r x → word-at.Post κs a s y → r ≡ s
-only-word-at κs a r s x y p q = p ∙ sym q
+only-state : (κs : _) (a : _) (r s : _) (x y : _) → state.Post κs a r x → state.Post κs a s y → r ≡ s
+only-state κs a r s x y p q = p ∙ sym q
 
 only-count : (κs : _) (a : _) (r s : _) (x y : _) → count.Post κs a r x → count.Post κs a s y → r ≡ s
 only-count κs a r s x y p q = p ∙ sym q

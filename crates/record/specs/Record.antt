@@ -6,8 +6,9 @@
 use Prim.Native.Nat.{ℕ, zero, suc, _+_, _*_, _-_, _≤_, _<_}
 use mathlib.Core.Path.{_≡_}
 use mathlib.Core.List.{List}
-use lib.ListN.{length, getD, drop, replicate}
-use Rattle.octets.specs.Word.{wordOf}
+use lib.ListN.{length, drop, replicate}
+pub use Rattle.octets.specs.Octet.{octetAt}
+pub use Rattle.octets.specs.Word.{wordAt}
 use Rattle.diagram.specs.Table.{phasesOf}
 
 abbrev pub recordLen : ℕ
@@ -24,12 +25,6 @@ abbrev pub emptyBook : List ℕ
 emptyBook = replicate bookLen 0
 
 -- Where what stands in a record
-
-abbrev pub octetAt : List ℕ → ℕ → ℕ
-octetAt rec at = getD rec at 0
-
-abbrev pub wordAt : List ℕ → ℕ → ℕ
-wordAt rec at = wordOf (octetAt rec at) (octetAt rec (at + 1))
 
 -- "state (00 empty ..; 01 times set, 02 ready)"
 abbrev pub empty : ℕ

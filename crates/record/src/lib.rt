@@ -1,6 +1,6 @@
-// 01, "Plan book": what stands where in a record. Octets that are not there are 0, so that every octet can be asked for.
+// 01, "Plan book": what stands where in a record.
 ghost use mathlib.Core.Path.{_≡_};
-ghost use Rattle.record.specs.Record.{octetAt, wordAt, kOf, yellowOf, allRedOf, walkFlashOf, redManOf, minimumOf, maximumOf, directOf, orderOf, greenOf, cycleOf, offsetOf, timesEnd, greensAt, readyEnd};
+ghost use Rattle.record.specs.Record.{stateOf, kOf, yellowOf, allRedOf, walkFlashOf, redManOf, minimumOf, maximumOf, directOf, orderOf, greenOf, cycleOf, offsetOf, timesEnd, greensAt, readyEnd};
 
 pub const RECORD_LEN: usize = 80;
 
@@ -8,7 +8,7 @@ pub const PLANS_MOST: u8 = 48;
 
 pub const BOOK_LEN: usize = RECORD_LEN * PLANS_MOST as usize;
 
-// State, and k.
+// Where the state and k stand; the times of the phases follow.
 pub const STATE: usize = 0;
 
 pub const COUNT: usize = 1;
@@ -27,29 +27,17 @@ pub const TIMES_SET: u8 = 1;
 
 pub const READY: u8 = 2;
 
-pub fn octet_at(rec: &[u8], at: usize) -> u8
-    ensures { λ r. ⌜ r ≡ octetAt (now (rec .entry)) at ⌝ }
+pub fn state(rec: &[u8]) -> u8
+    ensures { λ r. ⌜ r ≡ stateOf (now (rec .entry)) ⌝ }
 {
-    if at < rec.len() {
-        return rec[at];
-    }
-    0
-}
-
-pub fn word_at(rec: &[u8], at: usize) -> u16
-    ensures { λ r. ⌜ r ≡ wordAt (now (rec .entry)) at ⌝ }
-{
-    if at < rec.len() {
-        return octets::word(rec[at], octet_at(rec, at + 1));
-    }
-    0
+    octets::octet_at(rec, STATE)
 }
 
 // The count k.
 pub fn count(rec: &[u8]) -> u8
     ensures { λ r. ⌜ r ≡ kOf (now (rec .entry)) ⌝ }
 {
-    octet_at(rec, COUNT)
+    octets::octet_at(rec, COUNT)
 }
 
 // Where each of a phase's times stands among them.
@@ -76,37 +64,37 @@ const OFFSET_LEN: usize = 2;
 pub fn minimum(rec: &[u8], i: u8) -> u8
     ensures { λ r. ⌜ r ≡ minimumOf (now (rec .entry)) i ⌝ }
 {
-    octet_at(rec, HEAD_LEN + TIMES_LEN * i as usize)
+    octets::octet_at(rec, HEAD_LEN + TIMES_LEN * i as usize)
 }
 
 pub fn maximum(rec: &[u8], i: u8) -> u16
     ensures { λ r. ⌜ r ≡ maximumOf (now (rec .entry)) i ⌝ }
 {
-    word_at(rec, HEAD_LEN + TIMES_LEN * i as usize + MAXIMUM)
+    octets::word_at(rec, HEAD_LEN + TIMES_LEN * i as usize + MAXIMUM)
 }
 
 pub fn yellow(rec: &[u8], i: u8) -> u8
     ensures { λ r. ⌜ r ≡ yellowOf (now (rec .entry)) i ⌝ }
 {
-    octet_at(rec, HEAD_LEN + TIMES_LEN * i as usize + YELLOW)
+    octets::octet_at(rec, HEAD_LEN + TIMES_LEN * i as usize + YELLOW)
 }
 
 pub fn all_red(rec: &[u8], i: u8) -> u8
     ensures { λ r. ⌜ r ≡ allRedOf (now (rec .entry)) i ⌝ }
 {
-    octet_at(rec, HEAD_LEN + TIMES_LEN * i as usize + ALL_RED)
+    octets::octet_at(rec, HEAD_LEN + TIMES_LEN * i as usize + ALL_RED)
 }
 
 pub fn walk_flash(rec: &[u8], i: u8) -> u8
     ensures { λ r. ⌜ r ≡ walkFlashOf (now (rec .entry)) i ⌝ }
 {
-    octet_at(rec, HEAD_LEN + TIMES_LEN * i as usize + WALK_FLASH)
+    octets::octet_at(rec, HEAD_LEN + TIMES_LEN * i as usize + WALK_FLASH)
 }
 
 pub fn red_man(rec: &[u8], i: u8) -> u8
     ensures { λ r. ⌜ r ≡ redManOf (now (rec .entry)) i ⌝ }
 {
-    octet_at(rec, HEAD_LEN + TIMES_LEN * i as usize + RED_MAN)
+    octets::octet_at(rec, HEAD_LEN + TIMES_LEN * i as usize + RED_MAN)
 }
 
 // What follows the times of all k phases.
@@ -114,21 +102,21 @@ pub fn direct(rec: &[u8]) -> u8
     ensures { λ r. ⌜ r ≡ directOf (now (rec .entry)) ⌝ }
 {
     let k = count(rec);
-    octet_at(rec, HEAD_LEN + TIMES_LEN * k as usize)
+    octets::octet_at(rec, HEAD_LEN + TIMES_LEN * k as usize)
 }
 
 pub fn order(rec: &[u8]) -> u8
     ensures { λ r. ⌜ r ≡ orderOf (now (rec .entry)) ⌝ }
 {
     let k = count(rec);
-    octet_at(rec, HEAD_LEN + TIMES_LEN * k as usize + ORDER)
+    octets::octet_at(rec, HEAD_LEN + TIMES_LEN * k as usize + ORDER)
 }
 
 pub fn green(rec: &[u8], i: u8) -> u16
     ensures { λ r. ⌜ r ≡ greenOf (now (rec .entry)) i ⌝ }
 {
     let k = count(rec);
-    word_at(
+    octets::word_at(
         rec,
         HEAD_LEN + TIMES_LEN * k as usize + DIRECT_ORDER_LEN + GREEN_LEN * i as usize,
     )
@@ -138,7 +126,7 @@ pub fn cycle(rec: &[u8]) -> u16
     ensures { λ r. ⌜ r ≡ cycleOf (now (rec .entry)) ⌝ }
 {
     let k = count(rec);
-    word_at(
+    octets::word_at(
         rec,
         HEAD_LEN + TIMES_LEN * k as usize + DIRECT_ORDER_LEN + GREEN_LEN * k as usize,
     )
@@ -148,7 +136,7 @@ pub fn offset(rec: &[u8]) -> u16
     ensures { λ r. ⌜ r ≡ offsetOf (now (rec .entry)) ⌝ }
 {
     let k = count(rec);
-    word_at(
+    octets::word_at(
         rec,
         HEAD_LEN + TIMES_LEN * k as usize + DIRECT_ORDER_LEN + GREEN_LEN * k as usize + CYCLE_LEN,
     )

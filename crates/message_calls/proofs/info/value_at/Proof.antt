@@ -1,6 +1,6 @@
 -- `message_calls::info::value_at` meets its contract: a walk of its MIR, by hand. The reader that `open` returns is held in a local, and a copy of it is passed to `word` or to `octet`.
 -- In a local MIR erases the lifetime of the reader's type, so its value is shown to have the type at `erased`: what a reader owns does not say the lifetime's name.
-use mathlib.Core.Path.{_≡_, refl, ap, _∙_}
+use mathlib.Core.Path.{_≡_, refl, sym, ap, _∙_}
 use Prim.Native.Nat.{ℕ, _<_, _^_}
 use mathlib.Core.Bool.{Bool, true, false, not}
 use mathlib.Core.List.{List, [], _∷_}
@@ -40,7 +40,10 @@ use denote.Triple.Entry.{Vals, onEntry}
 use denote.Triple.Spec.{Meets, tripleOf}
 use denote.Triple.Table.{entered, cited}
 use denote.Triple.Walked.{says, Stays, stay-none, stay-none-slice, walkOf, goes-none, goes-none-slice, ends-at, walked, walk-meets}
+use Rattle.octets.specs.Octet.{octetAt}
+use Rattle.octets.specs.Word.{wordAt}
 use Rattle.message.specs.Fields.{valueOf}
+use Rattle.message.proofs.Values.{value-one, value-two}
 use Rattle.message_calls.specs.Info.{readerAt, nextOctet, nextWord}
 use Rattle.message_calls.specs.declared.info.Reader.{Reader}
 use Rattle.message_calls.proofs.info.Reader as T
@@ -67,14 +70,14 @@ B κs = T.the-row (namedLft 1 0 tt κs)
 abbrev stayed : Stays (value-at.ended .signature .params) (value-at.ended .kept)
 stayed = (stay-none-slice (0 ∷ []) tt (plain (λ _. u8)) yes, (stay-none (λ _. usize) yes, (stay-none (λ _. bool) yes, tt)))
 
--- what the test says of the field
-is-two : (two : Bool) (os : List ℕ) → Holds two → valueOf true os ≡ valueOf two os
-is-two true os h = refl
-is-two false os h = absurd h
+-- what the test says of the field that stands at a place
+is-two : (two : Bool) (os : List ℕ) (at : ℕ) → Holds two → wordAt os at ≡ valueOf two (drop at os)
+is-two true os at h = sym (value-two os at)
+is-two false os at h = absurd h
 
-is-one : (two : Bool) (os : List ℕ) → Holds (not two) → valueOf false os ≡ valueOf two os
-is-one true os h = absurd h
-is-one false os h = refl
+is-one : (two : Bool) (os : List ℕ) (at : ℕ) → Holds (not two) → octetAt os at ≡ valueOf two (drop at os)
+is-one true os at h = absurd h
+is-one false os at h = sym (value-one os at)
 
 abbrev top : List Val → Val
 top [] = vunit
@@ -189,7 +192,7 @@ module _ {M : Type 1} (𝓤 : URA M) (H : Heap 𝓤) (A : Atoms 𝓤) (W : Given
         returns-within ! Post refl (look ! 18 refl) $ forget ! 6 refl $ forget ! 8 refl $ forget ! 10 refl $ forget ! 12 refl $ forget ! 14 refl $ forget ! 16 refl $ forget ! 18 refl $
         move ! (18 ∷ 19 ∷ []) $ free1 ! $ move ! (16 ∷ 17 ∷ []) $ free1 ! $ move ! (14 ∷ 15 ∷ []) $ free1 ! $ move ! (12 ∷ 13 ∷ []) $ free1 ! $ move ! (10 ∷ 11 ∷ []) $ free1 ! $
         move ! (8 ∷ 9 ∷ []) $ free1 ! $ move ! (6 ∷ 7 ∷ []) $ free1 ! $ move ! (4 ∷ 5 ∷ []) $ free1 ! $ move ! (2 ∷ 3 ∷ []) $ free1 ! $ free0 ! $
-        by ! (exits t u′ is′ (e′ ∙ (ap nextWord e ∙ is-two two (drop n (now s)) h))))))))
+        by ! (exits t u′ is′ (e′ ∙ (ap nextWord e ∙ is-two two (now s) n h))))))))
         (λ h. skips ! $ exec ! C Λ _ code-mir.t-4 (atRet _ Post) $
         assigns ! (of-opd ! (load ! (from ! (stop !)) (look ! 11 refl))) (from ! (stop !)) (init ! 3 refl (LL.lawful (T.the-type αᵉ) (T′.the-laws αᵉ) 𝓤 H A W .typed r _ is .0)) $
         use2 W (raw (Octet 𝓤 H A mem run .pre (to-octet r u))) (goes-octet r u) $
@@ -204,7 +207,7 @@ module _ {M : Type 1} (𝓤 : URA M) (H : Heap 𝓤) (A : Atoms 𝓤) (W : Given
         returns ! (look ! 18 refl) $ forget ! 2 refl $ forget ! 4 refl $ forget ! 8 refl $ forget ! 10 refl $ forget ! 12 refl $ forget ! 14 refl $ forget ! 16 refl $ forget ! 18 refl $
         move ! (18 ∷ 19 ∷ []) $ free1 ! $ move ! (16 ∷ 17 ∷ []) $ free1 ! $ move ! (14 ∷ 15 ∷ []) $ free1 ! $ move ! (12 ∷ 13 ∷ []) $ free1 ! $ move ! (10 ∷ 11 ∷ []) $ free1 ! $
         move ! (8 ∷ 9 ∷ []) $ free1 ! $ move ! (6 ∷ 7 ∷ []) $ free1 ! $ move ! (4 ∷ 5 ∷ []) $ free1 ! $ move ! (2 ∷ 3 ∷ []) $ free1 ! $ free0 ! $
-        by ! (exits t (vint w16 t) (refl, omega (arith, is′ .1)) (e′ ∙ (ap nextOctet e ∙ is-one two (drop n (now s)) h)))))))))))))))))))))
+        by ! (exits t (vint w16 t) (refl, omega (arith, is′ .1)) (e′ ∙ (ap nextOctet e ∙ is-one two (now s) n h)))))))))))))))))))))
 
 value-at-meets : {M : Type 1} (𝓤 : URA M) (H : Heap 𝓤) (A : Atoms 𝓤) (W : Given 𝓤 H A) (mem : Memory → SProp 𝓤) (run : Routine → Fun 𝓤) (𝓣 : Tables 𝓤 H)
     → Triple 𝓤 (𝓣 .C open-def.name) (Open 𝓤 H A mem run) → Triple 𝓤 (𝓣 .C word-def.name) (Word 𝓤 H A mem run) → Triple 𝓤 (𝓣 .C octet-def.name) (Octet 𝓤 H A mem run)

@@ -1,14 +1,14 @@
--- `record::word_at` meets its contract: past its end a list reads as 0.
+-- `octets::word_at` meets its contract: past its end a list reads as 0.
 use Prim.Native.Nat.{_+_}
 use borrow.Author.Needs.{needs}
 use lib.ListN.{List·getD-eq-default}
-use Rattle.record.proofs.word_at.Statement.{statement}
-use Rattle.record.proofs.word_at.Tie as tie
+use Rattle.octets.proofs.word_at.Statement.{statement}
+use Rattle.octets.proofs.word_at.Tie as tie
 
 returns-2 : tie.Need-returns-2
 returns-2 c =
     let a = c .before .before .args in
-    let l = a .rec .now in
+    let l = a .s .now in
     rw (List·getD-eq-default l 0 {n = a .at} (c .if1 .left), List·getD-eq-default l 0 {n = a .at + 1} (search needs))
 
 pub word-at-spec : {M : Type 1} → statement M
