@@ -75,7 +75,7 @@ module _ (u : Running) (requested : ℕ) (book info : List ℕ) where
   unfolding setAs
   set-leaves a = pick-by (λ (h : Handled). h .requested ≡ requested) (eqb (a .refusal) refusal.none) (λ _. refl) (λ _. refl)
 
-  run-leaves : eqb code runCode ≡ true → Leaves (runAs (u .which) code requested book info)
+  run-leaves : eqb code runCode ≡ true → Leaves (unlessUnread code requested info (runAs (u .which) code requested book asked))
   unfolding runAs
   run-leaves t =
       pick-by Leaves (eqb (readOf info .refusal) refusal.none)
@@ -85,15 +85,15 @@ module _ (u : Running) (requested : ℕ) (book info : List ℕ) where
   read-leaves : (h : Handled) → h .requested ≡ requested → unlessUnread code requested info h .requested ≡ requested
   read-leaves h e = pick-by (λ (h : Handled). h .requested ≡ requested) (eqb (readOf info .refusal) refusal.none) (λ _. e) (λ _. refl)
 
-  times-leaves : queryTimesAs (u .which) code requested book info .requested ≡ requested
+  times-leaves : unlessUnread code requested info (queryTimesAs (u .which) code requested book asked) .requested ≡ requested
   unfolding queryTimesAs
   times-leaves = read-leaves _ (pick-by (λ (h : Handled). h .requested ≡ requested) (eqb (standingOf (planRecord (u .which) book asked)) empty) (λ _. refl) (λ _. refl))
 
-  plan-leaves : queryPlanAs (u .which) code requested book info .requested ≡ requested
+  plan-leaves : unlessUnread code requested info (queryPlanAs (u .which) code requested book asked) .requested ≡ requested
   unfolding queryPlanAs
   plan-leaves = read-leaves _ (pick-by (λ (h : Handled). h .requested ≡ requested) (readyIn (u .which) book asked) (λ _. refl) (λ _. refl))
 
-  running-leaves : queryRunningAs code requested u info .requested ≡ requested
+  running-leaves : unlessUnread code requested info (queryRunningAs requested u) .requested ≡ requested
   unfolding queryRunningAs
   running-leaves = read-leaves _ refl
 

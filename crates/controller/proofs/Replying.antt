@@ -38,7 +38,7 @@ use Rattle.plan.proofs.Reportable.{report-times-writable, report-plan-writable,
 use Rattle.controller.specs.declared.Running.{Running}
 use Rattle.controller.specs.declared.Handled.{Handled}
 use Rattle.controller.specs.State.{outputLen, planRecord, readyIn}
-use Rattle.controller.specs.Handling.{Handling, accepted, reads, setHandled, runCode, queryTimesCode, queryPlanCode, queryRunningCode, carriedOutReply, refusedReply, refusedWith, setAs, unlessUnread, runAs, queryTimesAs, queryPlanAs, queryRunningAs, handlingOf}
+use Rattle.controller.specs.Handling.{Handling, accepted, reads, asks, setHandled, runCode, queryTimesCode, queryPlanCode, queryRunningCode, carriedOutReply, refusedReply, refusedWith, setAs, unlessUnread, runAs, queryTimesAs, queryPlanAs, queryRunningAs, handlingOf}
 use Rattle.controller.specs.Replies.{sent, repliesOf, CanFind}
 
 -- What the decoder finds
@@ -99,8 +99,10 @@ by-seven P false false false false false false m n o p q r s = s
 
 pub handling-by : (P : Handling → Type 0) (u : Running) (requested : ℕ) (book info : List ℕ)
     → P (setHandled (codeIn info) requested (setTimesOf book info)) → P (setHandled (codeIn info) requested (setPlanOf book info))
-    → P (reads (runAs (u .which) (codeIn info) requested book info) book) → P (reads (queryTimesAs (u .which) (codeIn info) requested book info) book)
-    → P (reads (queryPlanAs (u .which) (codeIn info) requested book info) book) → P (reads (queryRunningAs (codeIn info) requested u info) book)
+    → P (asks (codeIn info) requested book info (runAs (u .which) (codeIn info) requested book (planIn (bodyIn info))))
+    → P (asks (codeIn info) requested book info (queryTimesAs (u .which) (codeIn info) requested book (planIn (bodyIn info))))
+    → P (asks (codeIn info) requested book info (queryPlanAs (u .which) (codeIn info) requested book (planIn (bodyIn info))))
+    → P (asks (codeIn info) requested book info (queryRunningAs requested u))
     → P (reads (refusedWith (codeIn info) requested refusal.codeNotHandled 0) book) → P (handlingOf u requested book info)
 unfolding handlingOf
 handling-by P u requested book info =
@@ -121,18 +123,18 @@ module _ (P : Handled → Type 0) (which : Which) (code requested : ℕ) (book i
   unfolding setAs
   by-set a = pick-by P (eqb (a .refusal) refusal.none) (λ _. carried requested) (λ _. refused (a .refusal) (a .field))
 
-  by-run : P (runAs which code requested book info)
+  by-run : P (unlessUnread code requested info (runAs which code requested book p))
   unfolding runAs
   by-run = by-read _ (pick-by P (readyIn which book p) (λ _. carried p) (λ _. refused refusal.notReady planAt))
 
-  by-query-times : P (queryTimesAs which code requested book info)
+  by-query-times : P (unlessUnread code requested info (queryTimesAs which code requested book p))
   unfolding queryTimesAs
   by-query-times =
       by-read _
       (pick-by P (eqb (standingOf (planRecord which book p)) empty) (λ _. refused refusal.notReady planAt)
       (λ e. let n = eqb-false (standingOf (planRecord which book p)) empty e in report _ (report-times-writable (planRecord which book p) p (plan-most which book p hb n) n)))
 
-  by-query-plan : P (queryPlanAs which code requested book info)
+  by-query-plan : P (unlessUnread code requested info (queryPlanAs which code requested book p))
   unfolding queryPlanAs
   by-query-plan =
       by-read _
@@ -142,7 +144,7 @@ module _ (P : Handled → Type 0) (which : Which) (code requested : ℕ) (book i
       report _ (report-plan-writable (planRecord which book p) p reportPlanCode (plan-most which book p hb (λ z. absurd (omega arith))) r (inl refl)))
       (λ _. refused refusal.notReady planAt))
 
-  by-query-running : (u : Running) → standingOf (u .copy) ≡ ready → u .plan ≤ plansMost → P (queryRunningAs code requested u info)
+  by-query-running : (u : Running) → standingOf (u .copy) ≡ ready → u .plan ≤ plansMost → P (unlessUnread code requested info (queryRunningAs requested u))
   unfolding queryRunningAs
   by-query-running u r hp = by-read _ (report _ (report-plan-writable (u .copy) (u .plan) reportRunningCode hp r (inr refl)))
 

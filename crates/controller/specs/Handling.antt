@@ -71,38 +71,33 @@ unlessUnread code requested info h =
     (refusedWith code requested (readOf info .refusal) (readOf info .field))
 
 -- "5F 18 notes the requested plan. Refused 13: .. 5F 18 of one not ready."
-unfoldable pub runAs : Which → ℕ → ℕ → List ℕ → List ℕ → Handled
-runAs which code requested book info =
-    let p = planIn (bodyIn info) in
-    unlessUnread code requested info
-    (pick (readyIn which book p) (accepted p (carriedOutReply code))
-    (refusedWith code requested refusal.notReady planAt))
+unfoldable pub runAs : Which → ℕ → ℕ → List ℕ → ℕ → Handled
+runAs which code requested book p =
+    pick (readyIn which book p) (accepted p (carriedOutReply code))
+    (refusedWith code requested refusal.notReady planAt)
 
 -- "Refused 13: 5F 44 of an empty plan"
-unfoldable pub queryTimesAs : Which → ℕ → ℕ → List ℕ → List ℕ → Handled
-queryTimesAs which code requested book info =
-    let p = planIn (bodyIn info) in
-    unlessUnread code requested info
-    (pick (eqb (standingOf (planRecord which book p)) empty) (refusedWith code requested refusal.notReady planAt)
-    (accepted requested (reportTimesOf (planRecord which book p) p)))
+unfoldable pub queryTimesAs : Which → ℕ → ℕ → List ℕ → ℕ → Handled
+queryTimesAs which code requested book p =
+    pick (eqb (standingOf (planRecord which book p)) empty) (refusedWith code requested refusal.notReady planAt)
+    (accepted requested (reportTimesOf (planRecord which book p) p))
 
 -- "5F 45 .. of one not ready"
-unfoldable pub queryPlanAs : Which → ℕ → ℕ → List ℕ → List ℕ → Handled
-queryPlanAs which code requested book info =
-    let p = planIn (bodyIn info) in
-    unlessUnread code requested info
-    (pick (readyIn which book p) (accepted requested (reportPlanOf (planRecord which book p) p reportPlanCode))
-    (refusedWith code requested refusal.notReady planAt))
+unfoldable pub queryPlanAs : Which → ℕ → ℕ → List ℕ → ℕ → Handled
+queryPlanAs which code requested book p =
+    pick (readyIn which book p) (accepted requested (reportPlanOf (planRecord which book p) p reportPlanCode))
+    (refusedWith code requested refusal.notReady planAt)
 
 -- "5F 48 query running plan": the copy that runs
-unfoldable pub queryRunningAs : ℕ → ℕ → Running → List ℕ → Handled
-queryRunningAs code requested u info =
-    unlessUnread code requested info
-    (accepted requested (reportPlanOf (u .copy) (u .plan) reportRunningCode))
+unfoldable pub queryRunningAs : ℕ → Running → Handled
+queryRunningAs requested u = accepted requested (reportPlanOf (u .copy) (u .plan) reportRunningCode)
 
--- a message that leaves the book, and a set
+-- a message that leaves the book, one of these that is read first, and a set
 abbrev pub reads : Handled → List ℕ → Handling
 reads h book = record { handled = h; book = book }
+
+abbrev pub asks : ℕ → ℕ → List ℕ → List ℕ → Handled → Handling
+asks code requested book info h = reads (unlessUnread code requested info h) book
 
 abbrev pub setHandled : ℕ → ℕ → Setting → Handling
 setHandled code requested w = record { handled = setAs code requested (w .answer); book = w .book }
@@ -111,10 +106,11 @@ setHandled code requested w = record { handled = setAs code requested (w .answer
 unfoldable pub handlingOf : Running → ℕ → List ℕ → List ℕ → Handling
 handlingOf u requested book info =
     let code = codeIn info in
+    let p = planIn (bodyIn info) in
     pick (eqb code setTimesCode) (setHandled code requested (setTimesOf book info))
     (pick (eqb code setPlanCode) (setHandled code requested (setPlanOf book info))
-    (pick (eqb code runCode) (reads (runAs (u .which) code requested book info) book)
-    (pick (eqb code queryTimesCode) (reads (queryTimesAs (u .which) code requested book info) book)
-    (pick (eqb code queryPlanCode) (reads (queryPlanAs (u .which) code requested book info) book)
-    (pick (eqb code queryRunningCode) (reads (queryRunningAs code requested u info) book)
+    (pick (eqb code runCode) (asks code requested book info (runAs (u .which) code requested book p))
+    (pick (eqb code queryTimesCode) (asks code requested book info (queryTimesAs (u .which) code requested book p))
+    (pick (eqb code queryPlanCode) (asks code requested book info (queryPlanAs (u .which) code requested book p))
+    (pick (eqb code queryRunningCode) (asks code requested book info (queryRunningAs requested u))
     (reads (refusedWith code requested refusal.codeNotHandled 0) book))))))

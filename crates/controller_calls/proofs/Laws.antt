@@ -2,15 +2,17 @@
 use Prim.Native.Nat.{ℕ, _+_, _≤_, _<_}
 use mathlib.Core.Path.{_≡_, refl, sym, ap, subst, _∙_}
 use mathlib.Core.Bool.{Bool, true, false}
+use mathlib.Core.Logic.{_⊎_, inl, inr}
 use mathlib.Core.List.{List, [], append-nil}
 use native.Mathlib.Decide.{decLe, ℕ-discrete}
 use native.Mathlib.Omega.{arith}
 use borrow.Author.Tests.{eq-eqb, ne-eqb, lt-ltb, le-ltb, le-leb, lt-leb}
 use denote.Ref.{RefT, now}
-use lib.Dec.{eqb}
+use lib.Dec.{eqb, leb}
 use lib.ListN.{length, getD, take, drop-of-length-le}
 use lib.Seq.{sets-eq, take-all}
 use Rattle.octets.specs.Choice.{pick, both}
+use Rattle.octets.specs.First.{firstOf}
 use Rattle.octets.specs.Part.{PartOf}
 use Rattle.octets.specs.Put.{Put}
 use Rattle.octets.specs.Refusal as refusal
@@ -21,7 +23,10 @@ use Rattle.frame.proofs.Laws.{taken-dropped}
 use Rattle.message.specs.declared.Message.{Message}
 use Rattle.message.specs.declared.Read.{Read}
 use Rattle.message.specs.Names.{planAt}
-use Rattle.message.specs.Reader.{codeIn, bodyIn, readOf}
+use Rattle.message.specs.Reader.{noMessage, codeIn, bodyIn, readOf}
+use Rattle.message.specs.Writer.{writable}
+use Rattle.message.specs.Layouts.{layouts, layoutAt, numberOf}
+use Rattle.message.proofs.WrittenSo.{writable-in}
 use Rattle.plan.specs.declared.setting.Answered.{Answered}
 use Rattle.record.specs.Record.{recordLen, plansMost, bookLen, empty, ready, cycleOf}
 use Rattle.checks.specs.Standing.{standingOf}
@@ -30,21 +35,21 @@ use Rattle.plan.specs.BuiltIn.{builtIn}
 use Rattle.plan.specs.Reading.{recordStart, recordAt, same, eitherBuiltIn, readRefusal, PartRead}
 use Rattle.plan.specs.Setting.{setTimesCode, setPlanCode, setTimesOf, setPlanOf, planIn}
 use Rattle.plan.specs.Setting as setting
-use Rattle.plan.specs.Reporting.{reportPlanCode, reportRunningCode, reportTimesOf, reportPlanOf}
+use Rattle.plan.specs.Reporting.{reportPlanCode, reportTimesOf, reportPlanOf}
 use Rattle.plan.proofs.Laws.{same-is, length-built-in, is-either, refused-range, read-zero, refused-empty, read-set}
 use Rattle.checks.proofs.Stands.{some-long, some-state, plan-fits, ready-plan}
-use Rattle.plan.proofs.Reportable.{standing-none, standing-past}
+use Rattle.plan.proofs.Reportable.{report-times-writable, report-plan-writable, standing-none, standing-past}
 use Rattle.plan.proofs.Cases.{built-in-stands}
 use Rattle.controller.specs.declared.Running.{Running}
 use Rattle.controller.specs.declared.State.{State}
 use Rattle.controller.specs.declared.Handled.{Handled}
 use Rattle.controller.specs.State.{all, runningSound, soundOf, recordWith, planRecord, startedAt}
-use Rattle.controller.specs.Handling.{runCode, queryTimesCode, queryPlanCode, queryRunningCode, carriedOutReply, accepted, refusedWith, setAs, unlessUnread, runAs, queryTimesAs, queryPlanAs, queryRunningAs, handlingOf}
+use Rattle.controller.specs.Handling.{runCode, queryTimesCode, queryPlanCode, queryRunningCode, carriedOutReply, accepted, refusedWith, setAs, runAs, queryTimesAs, queryPlanAs, queryRunningAs, handlingOf}
 use Rattle.controller.specs.Replies.{refusedCall, doneOf}
 use Rattle.controller.specs.Seconds.{pickedOf}
 use Rattle.controller.proofs.Laws.{picked-ready, picked-stays}
 use Rattle.controller.proofs.Judging.{sound-parts}
-use Rattle.controller_calls.specs.Handling.{HandlingLeaves}
+use Rattle.controller_calls.specs.Handling.{HandlingLeaves, Asks}
 use Rattle.controller_calls.specs.Stepper.{RecordOf}
 
 -- The octet call
@@ -117,68 +122,143 @@ module _ (book copy r : RefT (List ℕ)) (p : ℕ) (f : PartRead book copy p r) 
 
 -- Messages
 
-module _ (which : Which) (code requested : ℕ) (book info : List ℕ) {m : Read} (em : m ≡ readOf info) where
-  unread : (h : Handled) → (m .refusal ≡ refusal.none → ⊥) → refusedWith code requested (m .refusal) (m .field) ≡ unlessUnread code requested info h
-  unread h n = rw (← em, ne-eqb (m .refusal) refusal.none n)
+-- what may be written has a code
+no-code : (m : Message) → writable m ≡ true → m .code ≡ 0 → ⊥
+unfolding numberOf firstOf layoutAt layouts
+no-code m w e = let z : numberOf (m .code) ≡ 0 = ap numberOf e in omega (arith, z, writable-in m w .listed .first)
 
-  was-read : (h : Handled) → m .refusal ≡ refusal.none → unlessUnread code requested info h ≡ h
-  was-read h e = rw (← em, eq-eqb (m .refusal) refusal.none e)
+-- a report has a code exactly where there is something to report
+module _ (rec : List ℕ) (p : ℕ) where
+  times-no-code : standingOf rec ≡ empty → reportTimesOf rec p .code ≡ 0
+  unfolding reportTimesOf noMessage
+  times-no-code e = rw (eq-eqb (standingOf rec) empty e)
 
-  module _ (n : m .refusal ≡ refusal.none → ⊥) where
-    pub run-unread : refusedWith code requested (m .refusal) (m .field) ≡ runAs which code requested book info
+  plan-no-code : (standingOf rec ≡ ready → ⊥) → reportPlanOf rec p reportPlanCode .code ≡ 0
+  unfolding reportPlanOf noMessage
+  plan-no-code n = rw (ne-eqb (standingOf rec) ready n)
+
+  module _ (hp : p ≤ plansMost) where
+    times-none-is : reportTimesOf rec p .code ≡ 0 → standingOf rec ≡ empty
+    times-none-is e = by (ℕ-discrete (standingOf rec) empty)
+      where
+        by : Dec (standingOf rec ≡ empty) → standingOf rec ≡ empty
+        by (yes z) = z
+        by (no n) = absurd (no-code (reportTimesOf rec p) (report-times-writable rec p hp n) e)
+
+    plan-none-is : reportPlanOf rec p reportPlanCode .code ≡ 0 → standingOf rec ≡ ready → ⊥
+    plan-none-is e r = no-code (reportPlanOf rec p reportPlanCode) (report-plan-writable rec p reportPlanCode hp r (inl refl)) e
+
+-- the octets of a plan's record
+part-is : (book copy r : RefT (List ℕ)) (p : ℕ) → length (now book) ≡ bookLen → p ≤ plansMost
+    → pick (both (eqb (length (now book)) bookLen) (leb p plansMost)) (pick (eqb p 0) (PartOf copy 0 (length (now copy)) r) (PartOf book (recordStart p) recordLen r)) (PartOf copy 0 0 r)
+    → now r ≡ recordWith (now copy) (now book) p
+part-is book copy r p hb hp f = by (eqb p 0) (rw (eq-eqb (length (now book)) bookLen hb, le-leb p plansMost hp) at f)
+  where
+    by : (t : Bool) → pick t (PartOf copy 0 (length (now copy)) r) (PartOf book (recordStart p) recordLen r) → now r ≡ pick t (now copy) (recordAt (now book) p)
+    by true q = q .octets ∙ take-all (length (now copy)) (now copy) (omega arith)
+    by false q = q .octets
+
+module _ (which : Which) (code requested : ℕ) (book copy r : RefT (List ℕ)) (p : ℕ) (ez : now copy ≡ builtIn which) (hb : length (now book) ≡ bookLen) (hp : p ≤ plansMost)
+    (f : pick (both (eqb (length (now book)) bookLen) (leb p plansMost)) (pick (eqb p 0) (PartOf copy 0 (length (now copy)) r) (PartOf book (recordStart p) recordLen r)) (PartOf copy 0 0 r)) where
+  rec-is : now r ≡ planRecord which (now book) p
+  rec-is = part-is book copy r p hb hp f ∙ rw ez
+
+  module _ {n : ℕ} (en : n ≡ standingOf (now r)) where
+    stands : n ≡ standingOf (planRecord which (now book) p)
+    stands = en ∙ ap standingOf rec-is
+
+    pub run-13 : (n ≡ ready → ⊥) → refusedWith code requested refusal.notReady planAt ≡ runAs which code requested (now book) p
     unfolding runAs
-    run-unread = unread _ n
+    run-13 g = rw (← stands, ne-eqb n ready g)
 
-    pub times-unread : refusedWith code requested (m .refusal) (m .field) ≡ queryTimesAs which code requested book info
+    pub run-done : n ≡ ready → {w : Message} → w ≡ carriedOutReply code → accepted p w ≡ runAs which code requested (now book) p
+    unfolding runAs
+    run-done g ew = rw (← stands, eq-eqb n ready g, ew)
+
+  abbrev rec-due : List ℕ
+  rec-due = planRecord which (now book) p
+
+  module _ {w : Message} (ew : w ≡ reportTimesOf (now r) p) where
+    times-is : w ≡ reportTimesOf rec-due p
+    times-is = ew ∙ ap (λ (l : List ℕ). reportTimesOf l p) rec-is
+
+    pub times-13 : w .code ≡ 0 → refusedWith code requested refusal.notReady planAt ≡ queryTimesAs which code requested (now book) p
     unfolding queryTimesAs
-    times-unread = unread _ n
+    times-13 e = let z : reportTimesOf rec-due p .code ≡ 0 = rw times-is at e in rw (eq-eqb (standingOf rec-due) empty (times-none-is rec-due p hp z))
 
-    pub plan-unread : refusedWith code requested (m .refusal) (m .field) ≡ queryPlanAs which code requested book info
+    pub times-done : (w .code ≡ 0 → ⊥) → accepted requested w ≡ queryTimesAs which code requested (now book) p
+    unfolding queryTimesAs
+    times-done n =
+        let g : standingOf rec-due ≡ empty → ⊥ = λ (z : standingOf rec-due ≡ empty). n (rw times-is (times-no-code rec-due p z)) in
+        rw (ne-eqb (standingOf rec-due) empty g, times-is)
+
+  module _ {w : Message} (ew : w ≡ reportPlanOf (now r) p reportPlanCode) where
+    plan-is : w ≡ reportPlanOf rec-due p reportPlanCode
+    plan-is = ew ∙ ap (λ (l : List ℕ). reportPlanOf l p reportPlanCode) rec-is
+
+    pub plan-13 : w .code ≡ 0 → refusedWith code requested refusal.notReady planAt ≡ queryPlanAs which code requested (now book) p
     unfolding queryPlanAs
-    plan-unread = unread _ n
+    plan-13 e = let z : reportPlanOf rec-due p reportPlanCode .code ≡ 0 = rw plan-is at e in rw (ne-eqb (standingOf rec-due) ready (plan-none-is rec-due p hp z))
 
-    pub running-unread : (u : Running) → refusedWith code requested (m .refusal) (m .field) ≡ queryRunningAs code requested u info
-    unfolding queryRunningAs
-    running-unread u = unread _ n
+    pub plan-done : (w .code ≡ 0 → ⊥) → accepted requested w ≡ queryPlanAs which code requested (now book) p
+    unfolding queryPlanAs
+    plan-done n = by (ℕ-discrete (standingOf rec-due) ready)
+      where
+        by : Dec (standingOf rec-due ≡ ready) → accepted requested w ≡ pick (eqb (standingOf rec-due) ready) (accepted requested (reportPlanOf rec-due p reportPlanCode)) (refusedWith code requested refusal.notReady planAt)
+        by (yes e) = rw (eq-eqb (standingOf rec-due) ready e, plan-is)
+        by (no g) = absurd (n (rw plan-is (plan-no-code rec-due p g)))
 
-  module _ (e : m .refusal ≡ refusal.none) where
-    pub running-done : (u : Running) {w : Message} → w ≡ reportPlanOf (u .copy) (u .plan) reportRunningCode → accepted requested w ≡ queryRunningAs code requested u info
-    unfolding queryRunningAs
-    running-done u ew = sym (was-read _ e ∙ rw ew)
+-- one that leaves the book
+module _ (info : List ℕ) where
+  abbrev Leaves : Type 0
+  Leaves = (codeIn info ≡ runCode) ⊎ ((codeIn info ≡ queryTimesCode) ⊎ ((codeIn info ≡ queryPlanCode) ⊎ (codeIn info ≡ queryRunningCode)))
 
-    module _ {p n : ℕ} {zero rec : List ℕ} (ep : p ≡ planIn (bodyIn info)) (ez : zero ≡ builtIn which) (f : RecordOf zero book p rec) (en : n ≡ standingOf rec) where
-      stands : n ≡ standingOf (planRecord which book (planIn (bodyIn info)))
-      stands = en ∙ (f .stands ∙ rw (ep, ez))
+  asked-is : {code second : ℕ} → code ≡ codeIn info → Asks code second → Leaves
+  asked-is {code} {second} ec a = by (a .one)
+    where
+      by : (second ≡ 0x18) ⊎ ((second ≡ 0x44) ⊎ ((second ≡ 0x45) ⊎ (second ≡ 0x48))) → Leaves
+      by (inl e) = inl (omega (arith, ec, a .octets, e))
+      by (inr (inl e)) = inr (inl (omega (arith, ec, a .octets, e)))
+      by (inr (inr (inl e))) = inr (inr (inl (omega (arith, ec, a .octets, e))))
+      by (inr (inr (inr e))) = inr (inr (inr (omega (arith, ec, a .octets, e))))
 
-      pub run-13 : (n ≡ ready → ⊥) → refusedWith code requested refusal.notReady planAt ≡ runAs which code requested book info
-      unfolding runAs
-      run-13 g = sym (was-read _ e ∙ rw (← stands, ne-eqb n ready g))
+-- the code's match asks for the first and the last of the four, and then for those between 0x44 and 0x46
+pub asks-end : {x : ℕ} → (x ≡ 0x18) ⊎ (x ≡ 0x48) → (x ≡ 0x18) ⊎ ((x ≡ 0x44) ⊎ ((x ≡ 0x45) ⊎ (x ≡ 0x48)))
+asks-end (inl e) = inl e
+asks-end (inr e) = inr (inr (inr e))
 
-      pub run-done : n ≡ ready → {w : Message} → w ≡ carriedOutReply code → accepted p w ≡ runAs which code requested book info
-      unfolding runAs
-      run-done g ew = sym (was-read _ e ∙ rw (← stands, eq-eqb n ready g, ew, ep))
+pub asks-between : {x : ℕ} → 0x44 ≤ x → x < 0x46 → (x ≡ 0x18) ⊎ ((x ≡ 0x44) ⊎ ((x ≡ 0x45) ⊎ (x ≡ 0x48)))
+asks-between {x} l m = by (ℕ-discrete x 0x44)
+  where
+    by : Dec (x ≡ 0x44) → (x ≡ 0x18) ⊎ ((x ≡ 0x44) ⊎ ((x ≡ 0x45) ⊎ (x ≡ 0x48)))
+    by (yes e) = inr (inl e)
+    by (no n) = inr (inr (inl (omega arith)))
 
-      pub times-13 : n ≡ empty → refusedWith code requested refusal.notReady planAt ≡ queryTimesAs which code requested book info
-      unfolding queryTimesAs
-      times-13 g = sym (was-read _ e ∙ rw (← stands, eq-eqb n empty g))
-
-      pub times-done : (n ≡ empty → ⊥) → {w : Message} → w ≡ reportTimesOf rec p → accepted requested w ≡ queryTimesAs which code requested book info
-      unfolding queryTimesAs
-      times-done g ew =
-          let r : rec ≡ recordWith zero book p = f .octets (λ (z : standingOf rec ≡ empty). g (en ∙ z)) in
-          sym (was-read _ e ∙ rw (← stands, ne-eqb n empty g, ew, r, ep, ez))
-
-      pub plan-13 : (n ≡ ready → ⊥) → refusedWith code requested refusal.notReady planAt ≡ queryPlanAs which code requested book info
-      unfolding queryPlanAs
-      plan-13 g = sym (was-read _ e ∙ rw (← stands, ne-eqb n ready g))
-
-      pub plan-done : n ≡ ready → {w : Message} → w ≡ reportPlanOf rec p reportPlanCode → accepted requested w ≡ queryPlanAs which code requested book info
-      unfolding queryPlanAs
-      plan-done g ew =
-          let r : rec ≡ recordWith zero book p = f .octets (λ (z : standingOf rec ≡ empty). absurd (omega (arith, g, en, z))) in
-          sym (was-read _ e ∙ rw (← stands, eq-eqb n ready g, ew, r, ep, ez))
+-- the last of the four is left
+pub asks-running : {second : ℕ} → (second ≡ 0x18) ⊎ ((second ≡ 0x44) ⊎ ((second ≡ 0x45) ⊎ (second ≡ 0x48))) → (second ≡ 0x18 → ⊥) → (second ≡ 0x44 → ⊥) → (second ≡ 0x45 → ⊥)
+    → second ≡ 0x48
+asks-running (inl e) f g h = absurd (f e)
+asks-running (inr (inl e)) f g h = absurd (g e)
+asks-running (inr (inr (inl e))) f g h = absurd (h e)
+asks-running (inr (inr (inr e))) f g h = e
 
 -- by the code
+module _ (u : Running) (requested : ℕ) (book info : List ℕ) where
+  leaves : Leaves info → book ≡ handlingOf u requested book info .book
+  unfolding handlingOf
+  leaves (inl e) = rw e
+  leaves (inr (inl e)) = rw e
+  leaves (inr (inr (inl e))) = rw e
+  leaves (inr (inr (inr e))) = rw e
+
+  module _ {m : Read} (em : m ≡ readOf info) {code : ℕ} (ec : code ≡ codeIn info) where
+    unread : Leaves info → (m .refusal ≡ refusal.none → ⊥) → refusedWith code requested (m .refusal) (m .field) ≡ handlingOf u requested book info .handled
+    unfolding handlingOf
+    unread (inl e) n = rw (e, ← em, ne-eqb (m .refusal) refusal.none n, ec ∙ e)
+    unread (inr (inl e)) n = rw (e, ← em, ne-eqb (m .refusal) refusal.none n, ec ∙ e)
+    unread (inr (inr (inl e))) n = rw (e, ← em, ne-eqb (m .refusal) refusal.none n, ec ∙ e)
+    unread (inr (inr (inr e))) n = rw (e, ← em, ne-eqb (m .refusal) refusal.none n, ec ∙ e)
+
 module _ (u : Running) (requested : ℕ) (book info : List ℕ) {code : ℕ} (ec : code ≡ codeIn info) {h : Handled} where
   pub handles-times : codeIn info ≡ setTimesCode → {a : Answered} {b : List ℕ} → setting.SetLeaves (setTimesOf book info) a b → h ≡ setAs code requested a
       → HandlingLeaves (handlingOf u requested book info) h b
@@ -190,21 +270,30 @@ module _ (u : Running) (requested : ℕ) (book info : List ℕ) {code : ℕ} (ec
   unfolding handlingOf
   handles-plan e d eh = rw e (record { handled = eh ∙ rw (ec ∙ e, d .answer); book = d .book })
 
-  pub handles-run : codeIn info ≡ runCode → h ≡ runAs (u .which) code requested book info → HandlingLeaves (handlingOf u requested book info) h book
-  unfolding handlingOf
-  handles-run e eh = rw e (record { handled = eh ∙ rw (ec ∙ e); book = refl })
+  pub handles-asked : {second : ℕ} → Asks code second → h ≡ handlingOf u requested book info .handled → HandlingLeaves (handlingOf u requested book info) h book
+  handles-asked a eh = record { handled = eh; book = leaves u requested book info (asked-is info ec a) }
 
-  pub handles-query-times : codeIn info ≡ queryTimesCode → h ≡ queryTimesAs (u .which) code requested book info → HandlingLeaves (handlingOf u requested book info) h book
-  unfolding handlingOf
-  handles-query-times e eh = rw e (record { handled = eh ∙ rw (ec ∙ e); book = refl })
+  module _ {m : Read} (em : m ≡ readOf info) where
+    pub asked-unread : {second : ℕ} → Asks code second → (m .refusal ≡ refusal.none → ⊥) → h ≡ refusedWith code requested (m .refusal) (m .field)
+        → h ≡ handlingOf u requested book info .handled
+    asked-unread a n eh = eh ∙ unread u requested book info em ec (asked-is info ec a) n
 
-  pub handles-query-plan : codeIn info ≡ queryPlanCode → h ≡ queryPlanAs (u .which) code requested book info → HandlingLeaves (handlingOf u requested book info) h book
-  unfolding handlingOf
-  handles-query-plan e eh = rw e (record { handled = eh ∙ rw (ec ∙ e); book = refl })
+    module _ (z : m .refusal ≡ refusal.none) {p : ℕ} (ep : p ≡ planIn (bodyIn info)) where
+      pub asked-run : codeIn info ≡ runCode → h ≡ runAs (u .which) code requested book p → h ≡ handlingOf u requested book info .handled
+      unfolding handlingOf
+      asked-run e eh = eh ∙ rw (e, ← em, eq-eqb (m .refusal) refusal.none z, ec ∙ e, ep)
 
-  pub handles-query-running : codeIn info ≡ queryRunningCode → h ≡ queryRunningAs code requested u info → HandlingLeaves (handlingOf u requested book info) h book
-  unfolding handlingOf
-  handles-query-running e eh = rw e (record { handled = eh ∙ rw (ec ∙ e); book = refl })
+      pub asked-times : codeIn info ≡ queryTimesCode → h ≡ queryTimesAs (u .which) code requested book p → h ≡ handlingOf u requested book info .handled
+      unfolding handlingOf
+      asked-times e eh = eh ∙ rw (e, ← em, eq-eqb (m .refusal) refusal.none z, ec ∙ e, ep)
+
+      pub asked-plan : codeIn info ≡ queryPlanCode → h ≡ queryPlanAs (u .which) code requested book p → h ≡ handlingOf u requested book info .handled
+      unfolding handlingOf
+      asked-plan e eh = eh ∙ rw (e, ← em, eq-eqb (m .refusal) refusal.none z, ec ∙ e, ep)
+
+    pub asked-running : m .refusal ≡ refusal.none → codeIn info ≡ queryRunningCode → h ≡ queryRunningAs requested u → h ≡ handlingOf u requested book info .handled
+    unfolding handlingOf
+    asked-running z e eh = eh ∙ rw (e, ← em, eq-eqb (m .refusal) refusal.none z)
 
   pub handles-other : (codeIn info ≡ setTimesCode → ⊥) → (codeIn info ≡ setPlanCode → ⊥) → (codeIn info ≡ runCode → ⊥) → (codeIn info ≡ queryTimesCode → ⊥)
       → (codeIn info ≡ queryPlanCode → ⊥) → (codeIn info ≡ queryRunningCode → ⊥) → h ≡ refusedWith code requested refusal.codeNotHandled 0
@@ -312,6 +401,10 @@ module _ (info : List ℕ) {j : ℕ} where
 
   pub code-is : getD info 0 0 ≡ 0x5F → getD info 1 0 ≡ j → codeIn info ≡ 0x5F00 + j
   code-is h e = omega (arith, h, e)
+
+pub outside-range : {x l m j : ℕ} → (x < l) ⊎ (m ≤ x) → l ≤ j → j < m → x ≡ j → ⊥
+outside-range (inl h) a b e = absurd (omega arith)
+outside-range (inr h) a b e = absurd (omega arith)
 
 -- The next second
 

@@ -3,12 +3,10 @@ ghost use mathlib.Core.Path.{_≡_};
 ghost use Prim.Native.Nat.{_≤_};
 ghost use lib.ListN.{length};
 ghost use Rattle.octets.specs.Part.{codeLen};
-ghost use Rattle.record.specs.Record.{bookLen};
-ghost use Rattle.message.specs.Reader.{bodyIn};
-ghost use Rattle.plan.specs.Setting.{planIn};
+ghost use Rattle.message.specs.Reader.{codeIn};
+ghost use Rattle.record.specs.Record.{plansMost, bookLen};
 ghost use Rattle.controller.specs.Handling.{carriedOutReply, refusedReply, accepted, refusedWith, setAs, runAs, queryTimesAs, queryPlanAs, queryRunningAs, handlingOf};
-ghost use Rattle.controller_calls.specs.Handling.{HandlingLeaves};
-use crate::stepper;
+ghost use Rattle.controller_calls.specs.Handling.{HandlingLeaves, Asks};
 use controller::Handled;
 use controller::Running;
 use message::FIELDS_MOST;
@@ -22,22 +20,19 @@ use plan_calls::reporting;
 use plan_calls::setting;
 
 // The first octet of the codes that are handled, and the second of each.
-const CODE_HIGH: u8 = 0x5F;
+const CODE_HIGH: u8 = (message::SET_TIMES / 256) as u8;
 
-const SET_TIMES: u8 = 0x14;
+const SET_TIMES: u8 = (message::SET_TIMES % 256) as u8;
 
-const SET_PLAN: u8 = 0x15;
+const SET_PLAN: u8 = (message::SET_PLAN % 256) as u8;
 
-const RUN: u8 = 0x18;
+const RUN: u8 = (message::RUN % 256) as u8;
 
-const QUERY_TIMES: u8 = 0x44;
+const QUERY_TIMES: u8 = (message::QUERY_TIMES % 256) as u8;
 
-const QUERY_PLAN: u8 = 0x45;
+const QUERY_PLAN: u8 = (message::QUERY_PLAN % 256) as u8;
 
-const QUERY_RUNNING: u8 = 0x48;
-
-// The field that refusal 13 names: "0F 81, parameter 1".
-const PLAN: u8 = 1;
+const QUERY_RUNNING: u8 = (message::QUERY_RUNNING % 256) as u8;
 
 // The message that INFO holds, carried out.
 pub(crate) fn carry_out(u: Running, requested: u8, book: &mut [u8], info: &[u8]) -> Handled
@@ -48,16 +43,39 @@ pub(crate) fn carry_out(u: Running, requested: u8, book: &mut [u8], info: &[u8])
     if info[0] != CODE_HIGH {
         return refused(code, requested, refusal::CODE_NOT_HANDLED, 0);
     }
-    let which = u.which;
     let second = info[1];
     match second {
         SET_TIMES => set(code, requested, setting::set_times(book, info)),
         SET_PLAN => set(code, requested, setting::set_plan(book, info)),
-        RUN => run(which, code, requested, book, info),
-        QUERY_TIMES => query_times(which, code, requested, book, info),
-        QUERY_PLAN => query_plan(which, code, requested, book, info),
-        QUERY_RUNNING => query_running(code, requested, u, info),
+        RUN | QUERY_TIMES | QUERY_PLAN | QUERY_RUNNING => asked(
+            u,
+            code,
+            second,
+            requested,
+            book,
+            info,
+        ),
         _ => refused(code, requested, refusal::CODE_NOT_HANDLED, 0),
+    }
+}
+
+// A message that leaves the book, of this code with this second octet: read, and then by what was read.
+fn asked(u: Running, code: u16, second: u8, requested: u8, book: &[u8], info: &[u8]) -> Handled
+    requires { ⌜ (length (now book) ≡ bookLen) × (code ≡ codeIn (now info)) × Asks code second ⌝ }
+    ensures { λ r. ⌜ r ≡ handlingOf u requested (now (book .entry)) (now (info .entry)) .handled ⌝ }
+{
+    let r = reader::read(info);
+    if r.refusal != refusal::NONE {
+        return refused(code, requested, r.refusal, r.field);
+    }
+    let values = r.message.values;
+    let plan = octets::low(values[message::PLAN_AT]);
+    let which = u.which;
+    match second {
+        RUN => run(which, code, requested, book, plan),
+        QUERY_TIMES => query_times(which, code, requested, book, plan),
+        QUERY_PLAN => query_plan(which, code, requested, book, plan),
+        _ => query_running(requested, u),
     }
 }
 
@@ -121,75 +139,50 @@ fn set(code: u16, requested: u8, a: Answered) -> Handled
     accepted(requested, carried_out_reply(code))
 }
 
-// The plan that a message names: its first field.
-fn plan_named(info: &[u8]) -> u8
-    ensures { λ r. ⌜ r ≡ planIn (bodyIn (now (info .entry))) ⌝ }
-{
-    octets::octet_at(octets::body(info), 0)
-}
-
 // "5F 18 notes the requested plan."
-fn run(which: Which, code: u16, requested: u8, book: &[u8], info: &[u8]) -> Handled
-    requires { ⌜ length (now book) ≡ bookLen ⌝ }
-    ensures { λ r. ⌜ r ≡ runAs which code requested (now (book .entry)) (now (info .entry)) ⌝ }
+fn run(which: Which, code: u16, requested: u8, book: &[u8], plan: u8) -> Handled
+    requires { ⌜ (length (now book) ≡ bookLen) × (plan ≤ plansMost) ⌝ }
+    ensures { λ r. ⌜ r ≡ runAs which code requested (now (book .entry)) plan ⌝ }
 {
-    let m = reader::read(info);
-    if m.refusal != refusal::NONE {
-        return refused(code, requested, m.refusal, m.field);
-    }
-    let plan = plan_named(info);
     let lent = book::built_in(which);
-    let rec = stepper::record_of(book, &lent, plan);
+    let rec = book::plan_part(book, &lent, plan);
     if checks::standing(rec) != record::READY {
-        return refused(code, requested, refusal::NOT_READY, PLAN);
+        return refused(code, requested, refusal::NOT_READY, message::PLAN);
     }
     accepted(plan, carried_out_reply(code))
 }
 
-fn query_times(which: Which, code: u16, requested: u8, book: &[u8], info: &[u8]) -> Handled
-    requires { ⌜ length (now book) ≡ bookLen ⌝ }
-    ensures { λ r. ⌜ r ≡ queryTimesAs which code requested (now (book .entry)) (now (info .entry)) ⌝ }
+fn query_times(which: Which, code: u16, requested: u8, book: &[u8], plan: u8) -> Handled
+    requires { ⌜ (length (now book) ≡ bookLen) × (plan ≤ plansMost) ⌝ }
+    ensures { λ r. ⌜ r ≡ queryTimesAs which code requested (now (book .entry)) plan ⌝ }
 {
-    let m = reader::read(info);
-    if m.refusal != refusal::NONE {
-        return refused(code, requested, m.refusal, m.field);
-    }
-    let plan = plan_named(info);
     let lent = book::built_in(which);
-    let rec = stepper::record_of(book, &lent, plan);
-    if checks::standing(rec) == record::EMPTY {
-        return refused(code, requested, refusal::NOT_READY, PLAN);
+    let rec = book::plan_part(book, &lent, plan);
+    let report = reporting::report_times(rec, plan);
+    // An empty plan has no report.
+    if report.code == message::NO_MESSAGE {
+        return refused(code, requested, refusal::NOT_READY, message::PLAN);
     }
-    accepted(requested, reporting::report_times(rec, plan))
+    accepted(requested, report)
 }
 
-fn query_plan(which: Which, code: u16, requested: u8, book: &[u8], info: &[u8]) -> Handled
-    requires { ⌜ length (now book) ≡ bookLen ⌝ }
-    ensures { λ r. ⌜ r ≡ queryPlanAs which code requested (now (book .entry)) (now (info .entry)) ⌝ }
+fn query_plan(which: Which, code: u16, requested: u8, book: &[u8], plan: u8) -> Handled
+    requires { ⌜ (length (now book) ≡ bookLen) × (plan ≤ plansMost) ⌝ }
+    ensures { λ r. ⌜ r ≡ queryPlanAs which code requested (now (book .entry)) plan ⌝ }
 {
-    let m = reader::read(info);
-    if m.refusal != refusal::NONE {
-        return refused(code, requested, m.refusal, m.field);
-    }
-    let plan = plan_named(info);
     let lent = book::built_in(which);
-    let rec = stepper::record_of(book, &lent, plan);
-    if checks::standing(rec) != record::READY {
-        return refused(code, requested, refusal::NOT_READY, PLAN);
+    let rec = book::plan_part(book, &lent, plan);
+    let report = reporting::report_plan(rec, plan, message::REPORT_PLAN);
+    // A plan that is not ready has none.
+    if report.code == message::NO_MESSAGE {
+        return refused(code, requested, refusal::NOT_READY, message::PLAN);
     }
-    accepted(
-        requested,
-        reporting::report_plan(rec, plan, message::REPORT_PLAN),
-    )
+    accepted(requested, report)
 }
 
-fn query_running(code: u16, requested: u8, u: Running, info: &[u8]) -> Handled
-    ensures { λ r. ⌜ r ≡ queryRunningAs code requested u (now (info .entry)) ⌝ }
+fn query_running(requested: u8, u: Running) -> Handled
+    ensures { λ r. ⌜ r ≡ queryRunningAs requested u ⌝ }
 {
-    let m = reader::read(info);
-    if m.refusal != refusal::NONE {
-        return refused(code, requested, m.refusal, m.field);
-    }
     let copy = u.copy;
     accepted(
         requested,

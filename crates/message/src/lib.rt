@@ -26,6 +26,19 @@ pub const QUERY_PLAN: u16 = 0x5F45;
 
 pub const QUERY_RUNNING: u16 = 0x5F48;
 
+// The code of no message.
+pub const NO_MESSAGE: u16 = 0;
+
+// "Fields are numbered from 1 after the code": the plan of each message that names one, and of a 5F 15 direct and the count.
+pub const PLAN: u8 = 1;
+
+pub const DIRECT: u8 = 2;
+
+pub const PLAN_COUNT: u8 = 4;
+
+// The place of the plan among the values.
+pub const PLAN_AT: usize = PLAN as usize - 1;
+
 // The most fields that a message has: 5F 14 and 5F C4 with eight phases.
 pub const FIELDS_MOST: usize = 50;
 

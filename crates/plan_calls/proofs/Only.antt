@@ -1,14 +1,15 @@
 -- Any two results that a contract allows are equal.
 use mathlib.Core.Path.{_≡_, sym, _∙_}
 use mathlib.Core.Bool.{Bool, true, false}
-use lib.Dec.{eqb}
+use lib.Dec.{eqb, leb}
+use lib.ListN.{length}
 use Prim.Native.Nat.{ℕ}
 use mathlib.Core.List.{List}
 use denote.Ref.{RefT, now}
-use Rattle.octets.specs.Choice.{pick}
+use Rattle.octets.specs.Choice.{pick, both}
 use Rattle.octets.specs.Part.{PartOf}
 use Rattle.octets.specs.Refusal as refusal
-use Rattle.record.specs.Record.{recordLen}
+use Rattle.record.specs.Record.{recordLen, bookLen, plansMost}
 use Rattle.plan.specs.Reading.{recordStart, readRefusal}
 use Rattle.plan_calls.proofs.book.built_in.Reads as built-in
 use Rattle.plan_calls.proofs.book.is_built_in.Reads as is-built-in
@@ -17,6 +18,7 @@ use Rattle.plan_calls.proofs.reporting.report_plan.Reads as report-plan
 use Rattle.plan_calls.proofs.setting.set_times.Reads as set-times
 use Rattle.plan_calls.proofs.setting.set_plan.Reads as set-plan
 use Rattle.plan_calls.proofs.book.read_plan.Reads as read-plan
+use Rattle.plan_calls.proofs.book.plan_part.Reads as plan-part
 
 only-built-in : (κs : _) (a : _) (r s : _) (x y : _) → built-in.Post κs a r x → built-in.Post κs a s y → r ≡ s
 only-built-in κs a r s x y p q = p ∙ sym q
@@ -52,3 +54,7 @@ only-read-plan κs a r s x y p q =
     let e =
     one-part (eqb (readRefusal (now book) (now copy) plan) refusal.none) (eqb plan 0) copy book copy 0 recordLen (recordStart plan) recordLen 0 0 r s (p .part) (q .part) in
     (e .0, e .1, p .refusal ∙ sym (q .refusal))
+
+only-plan-part : (κs : _) (a : _) (r s : _) (x y : _) → plan-part.Post κs a r x → plan-part.Post κs a s y → (r .ptr ≡ s .ptr) × (now r ≡ now s)
+only-plan-part κs a r s x y p q =
+    one-part (both (eqb (length (now (a .0))) bookLen) (leb (a .1 .1 .0) plansMost)) (eqb (a .1 .1 .0) 0) (a .1 .0) (a .0) (a .1 .0) 0 (length (now (a .1 .0))) (recordStart (a .1 .1 .0)) recordLen 0 0 r s p q

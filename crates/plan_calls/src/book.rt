@@ -1,7 +1,10 @@
 // 01, "Plan book", and 02, E1: plan 0, and reading a plan.
 ghost use mathlib.Core.Path.{_≡_};
 ghost use Prim.Native.Nat.{_≤_};
+ghost use lib.Dec.{eqb, leb};
 ghost use lib.ListN.{length};
+ghost use Rattle.octets.specs.Choice.{pick, both};
+ghost use Rattle.octets.specs.Part.{PartOf};
 ghost use Rattle.record.specs.Record.{recordLen, bookLen, plansMost};
 ghost use Rattle.plan.specs.BuiltIn.{builtInGreen, builtInCycle, builtIn};
 ghost use Rattle.plan.specs.Reading.{recordStart, recordAt, same, eitherBuiltIn, readRefusal, PartRead, PlanRead};
@@ -33,8 +36,8 @@ pub fn built_in(which: Which) -> [u8; RECORD_LEN]
     let green = built_in_green(which);
     let cycle = built_in_cycle(which);
     let mut rec = [0u8; RECORD_LEN];
-    rec[0] = record::READY;
-    rec[1] = BUILT_IN_K;
+    rec[record::STATE] = record::READY;
+    rec[record::COUNT] = BUILT_IN_K;
     let p = octets::put(&BUILT_IN_TIMES, &mut rec, record::HEAD_LEN);
     let q = octets::put(&BUILT_IN_TIMES, &mut rec, p);
     // direct, order, both greens, cycle, offset
@@ -83,6 +86,20 @@ fn part_read<'a>(book: &'a [u8], copy: &'a [u8], plan: u8, n: u8) -> &'a [u8]
     ensures { λ r. ⌜ PartRead (book .entry) (copy .entry) plan r ⌝ }
 {
     if n != refusal::NONE {
+        return &copy[0..0];
+    }
+    plan_part(book, copy, plan)
+}
+
+// The octets that a plan's record has, whatever they are: all of the copy for plan 0, the plan's part of the book for any other, and
+// an empty part where there is none.
+pub fn plan_part<'a>(book: &'a [u8], copy: &'a [u8], plan: u8) -> &'a [u8]
+    ensures { λ r. ⌜ pick (both (eqb (length (now (book .entry))) bookLen) (leb plan plansMost)) (pick (eqb plan 0) (PartOf (copy .entry) 0 (length (now (copy .entry))) r) (PartOf (book .entry) (recordStart plan) recordLen r)) (PartOf (copy .entry) 0 0 r) ⌝ }
+{
+    if book.len() != BOOK_LEN {
+        return &copy[0..0];
+    }
+    if PLANS_MOST < plan {
         return &copy[0..0];
     }
     if plan == 0 {

@@ -25,7 +25,7 @@ pub fn report_times(rec: &[u8], plan: u8) -> Message
         plan,
     ];
     let end = record::times_end(rec);
-    reported(&front, &rec[1..end])
+    reported(&front, &rec[record::COUNT..end])
 }
 
 // The report 5F C5 of a plan, or 5F C8 of the running one, by its code; no message of octets that are no ready record, nor
@@ -71,11 +71,11 @@ fn reported(front: &[u8], rest: &[u8]) -> Message
     r.message
 }
 
-fn no_message() -> Message
+pub(crate) fn no_message() -> Message
     ensures { λ r. ⌜ r ≡ noMessage ⌝ }
 {
     Message {
-        code: 0,
+        code: message::NO_MESSAGE,
         fields: 0,
         values: [0u16; message::FIELDS_MOST],
     }

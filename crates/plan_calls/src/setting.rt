@@ -4,20 +4,21 @@ ghost use Prim.Native.Nat.{_+_, _*_, _≤_};
 ghost use lib.ListN.{length};
 ghost use lib.Seq.{sets};
 ghost use Rattle.plan.specs.Reading.{recordStart};
-ghost use Rattle.record.specs.Record.{recordLen, bookLen, plansMost, kOf, timesEnd};
-ghost use Rattle.plan.specs.Setting.{Times14, Plan15, timesRecord, readyRecord, notMade, timesField, timesMade, readyMade, answered, SetLeaves, keptAs, otherCode, setFront, setTimesOf, setPlanOf};
+ghost use Rattle.record.specs.Record.{recordLen, bookLen, plansMost, kOf};
+ghost use Rattle.message.specs.Reader.{notRead};
+ghost use Rattle.plan.specs.Setting.{Times14, Plan15, countIn, timesRecord, readyRecord, notMade, timesField, timesMade, readyMade, answered, SetLeaves, keptAs, otherCode, setTimesOf, setPlanOf};
+ghost use Rattle.plan_calls.specs.Setting.{setRead};
 use crate::book;
+use crate::reporting;
+use message::Read;
+use message_calls::reader;
 use octets::refusal;
 use plan::setting::Answered;
 use plan::setting::NewRecord;
 use record::BOOK_LEN;
 use record::RECORD_LEN;
 
-// The fields that a refusal names: the plan, the count of a 5F 15, the first maximum and red man of a 5F 14.
-const PLAN: u8 = 1;
-
-const PLAN_COUNT: u8 = 4;
-
+// The fields that a refusal of a 5F 14 names: the first maximum and red man.
 const MAXIMUM: u16 = 4;
 
 const RED_MAN: u16 = 8;
@@ -25,31 +26,41 @@ const RED_MAN: u16 = 8;
 // The fields of a phase.
 const PHASE_FIELDS: u16 = 6;
 
+// The places of the values that are read: each field up to the count of a 5F 15 has one octet, so that it stands at the same place
+// of the octets. Behind the count come greens, cycle and offset.
+const DIRECT_AT: usize = message::DIRECT as usize - 1;
+
+const COUNT_AT: usize = message::PLAN_COUNT as usize - 1;
+
+const GREENS_AT: usize = COUNT_AT + 1;
+
 // The message 5F 14 that INFO holds: its times become the record of its plan.
 pub fn set_times(book: &mut [u8], info: &[u8]) -> Answered
     ensures { λ r. ⌜ SetLeaves (setTimesOf (now (book .entry)) (now (info .entry))) r (now (book .exit)) ⌝ }
 {
-    let f = front(book.len(), info, message::SET_TIMES);
-    if f.refusal != refusal::NONE {
-        return f;
+    let r = read_set(book.len(), info, message::SET_TIMES);
+    if r.refusal != refusal::NONE {
+        return answer(r.refusal, r.field);
     }
-    let body = octets::body(info);
-    keep(book, octets::octet_at(body, 0), made_times(body))
+    let values = r.message.values;
+    let plan = octets::low(values[message::PLAN_AT]);
+    keep(book, plan, made_times(octets::body(info)))
 }
 
 // The message 5F 15 that INFO holds: it makes its plan ready.
 pub fn set_plan(book: &mut [u8], info: &[u8]) -> Answered
     ensures { λ r. ⌜ SetLeaves (setPlanOf (now (book .entry)) (now (info .entry))) r (now (book .exit)) ⌝ }
 {
-    let f = front(book.len(), info, message::SET_PLAN);
-    if f.refusal != refusal::NONE {
-        return f;
+    let r = read_set(book.len(), info, message::SET_PLAN);
+    if r.refusal != refusal::NONE {
+        return answer(r.refusal, r.field);
     }
-    let body = octets::body(info);
-    let plan = octets::octet_at(body, 0);
+    let values = r.message.values;
+    let plan = octets::low(values[message::PLAN_AT]);
+    let count = octets::low(values[COUNT_AT]);
     let at = book::start(plan);
     let end = at + RECORD_LEN;
-    let m = made_ready(&book[at..end], body);
+    let m = made_ready(&book[at..end], octets::body(info), count);
     keep(book, plan, m)
 }
 
@@ -66,18 +77,27 @@ fn other_code(info: &[u8], code: u16) -> bool
     octets::CODE_LEN <= info.len() && octets::word_at(info, 0) != code
 }
 
-// What is refused of any set: a book of another length, a message of another code, what the message reader refuses.
-fn front(len: usize, info: &[u8], code: u16) -> Answered
-    ensures { λ r. ⌜ r ≡ setFront len code (now (info .entry)) ⌝ }
+// What is read of any set: refused are a book of another length, a message of another code, and what the message reader refuses.
+fn read_set(len: usize, info: &[u8], code: u16) -> Read
+    ensures { λ r. ⌜ r ≡ setRead len code (now (info .entry)) ⌝ }
 {
     if len != BOOK_LEN {
-        return answer(refusal::BOOK_WRONG, 0);
+        return not_read(refusal::BOOK_WRONG);
     }
     if other_code(info, code) {
-        return answer(refusal::CODE_NOT_HANDLED, 0);
+        return not_read(refusal::CODE_NOT_HANDLED);
     }
-    let r = message_calls::reader::read(info);
-    answer(r.refusal, r.field)
+    reader::read(info)
+}
+
+fn not_read(n: u8) -> Read
+    ensures { λ r. ⌜ r ≡ notRead n 0 ⌝ }
+{
+    Read {
+        refusal: n,
+        field: 0,
+        message: reporting::no_message(),
+    }
 }
 
 fn not_made(n: u8, field: u8) -> NewRecord
@@ -119,21 +139,21 @@ fn times_field(n: u16) -> u8
     (RED_MAN + PHASE_FIELDS * i) as u8
 }
 
-// The agreement of a 5F 15: with the stored times first, then that of the record that it makes.
-fn made_ready(old: &[u8], body: &[u8]) -> NewRecord
-    requires { ⌜ (length (now old) ≡ recordLen) × (Plan15 (now body)) ⌝ }
+// The agreement of a 5F 15 with this count: with the stored times first, then that of the record that it makes.
+fn made_ready(old: &[u8], body: &[u8], count: u8) -> NewRecord
+    requires { ⌜ (length (now old) ≡ recordLen) × (Plan15 (now body)) × (count ≡ countIn (now body)) ⌝ }
     ensures { λ r. ⌜ r ≡ readyMade (now (old .entry)) (now (body .entry)) ⌝ }
 {
     if checks::standing(old) == record::EMPTY {
-        return not_made(refusal::NOT_READY, PLAN);
+        return not_made(refusal::NOT_READY, message::PLAN);
     }
-    if octets::octet_at(body, 3) != record::count(old) {
-        return not_made(refusal::DISAGREE, PLAN_COUNT);
+    if count != record::count(old) {
+        return not_made(refusal::DISAGREE, message::PLAN_COUNT);
     }
     let rec = ready_record(old, body);
     let n = checks::plan_disagree(&rec);
     if n != 0 {
-        return not_made(refusal::DISAGREE, n as u8 + PLAN_COUNT - 1);
+        return not_made(refusal::DISAGREE, n as u8 + message::PLAN_COUNT - 1);
     }
     NewRecord {
         refusal: refusal::NONE,
@@ -142,14 +162,14 @@ fn made_ready(old: &[u8], body: &[u8]) -> NewRecord
     }
 }
 
-// The record of a 5F 14: no greens.
+// The record of a 5F 14, which has its count and its times where a record has them: no greens.
 fn times_record(body: &[u8]) -> [u8; RECORD_LEN]
     requires { ⌜ (1 ≤ length (now body)) × (length (now body) ≤ recordLen) ⌝ }
     ensures { λ r. ⌜ r ≡ timesRecord (now (body .entry)) ⌝ }
 {
     let mut rec = [0u8; RECORD_LEN];
-    rec[0] = record::TIMES_SET;
-    octets::put(&body[1..], &mut rec, 1);
+    rec[record::STATE] = record::TIMES_SET;
+    octets::put(&body[record::COUNT..], &mut rec, record::COUNT);
     rec
 }
 
@@ -159,11 +179,11 @@ fn ready_record(old: &[u8], body: &[u8]) -> [u8; RECORD_LEN]
     ensures { λ r. ⌜ r ≡ readyRecord (now (old .entry)) (now (body .entry)) ⌝ }
 {
     let mut made = [0u8; RECORD_LEN];
-    made[0] = record::READY;
+    made[record::STATE] = record::READY;
     let end = record::times_end(old);
-    let p = octets::put(&old[1..end], &mut made, 1);
-    let q = octets::put(&body[1..3], &mut made, p);
-    octets::put(&body[4..], &mut made, q);
+    let p = octets::put(&old[record::COUNT..end], &mut made, record::COUNT);
+    let q = octets::put(&body[DIRECT_AT..COUNT_AT], &mut made, p);
+    octets::put(&body[GREENS_AT..], &mut made, q);
     made
 }
 

@@ -1,9 +1,12 @@
 -- `controller_calls::handling::carry_out` meets its contract: the octets of the code pick the law.
-use Prim.Native.Nat.{_<_}
+use Prim.Native.Nat.{_≤_, _<_}
+use mathlib.Core.Path.{_≡_}
+use mathlib.Core.Logic.{_⊎_, inl, inr}
 use native.Mathlib.Omega.{arith}
 use borrow.Author.Needs.{needs}
 use lib.ListN.{getD}
-use Rattle.controller_calls.proofs.Laws.{high-other, low-other, code-is, handles-times, handles-plan, handles-run, handles-query-times, handles-query-plan, handles-query-running, handles-other}
+use Rattle.controller_calls.specs.Handling.{Asks}
+use Rattle.controller_calls.proofs.Laws.{asks-end, asks-between, high-other, low-other, outside-range, code-is, handles-times, handles-plan, handles-asked, handles-other}
 use Rattle.controller_calls.proofs.handling.carry_out.Statement.{statement}
 use Rattle.controller_calls.proofs.handling.carry_out.Tie as tie
 
@@ -33,49 +36,35 @@ returns-3 c =
     let a = w .before .before .before .before .before .args in
     handles-plan (a .u) (a .requested) (a .book .now) (a .info .now) (w .word .ensures) (code-is (a .info .now) (i .if1 .left) (m .match .keys2)) (c .before .before .before .set-plan .ensures) (c .set2 .ensures)
 
+-- the second octet is one of the four
+one : (c : tie.At-match-came) → (let x = getD (c .before .before .before .before .before .before .before .before .before .args .info .now) 1 0 in
+    (x ≡ 0x18) ⊎ ((x ≡ 0x44) ⊎ ((x ≡ 0x45) ⊎ (x ≡ 0x48))))
+one c = elim (c .match .came) [ inl k ↦ asks-end (k .keys3) | inr r ↦ asks-between (r .1 .left) (r .2 .taken) ]
+
+asks : (c : tie.At-match-came) → (let w = c .before .before .before .before in Asks (w .word .result) (getD (w .before .before .before .before .before .args .info .now) 1 0))
+asks c = let i = c .before .before in record { octets = omega (arith, i .before .before .word .ensures, i .if1 .left); one = one c }
+
 returns-4 : tie.Need-returns-4
 returns-4 c =
     let m = c .before .before in
     let i = m .before .before in
     let w = i .before .before in
     let a = w .before .before .before .before .before .args in
-    handles-run (a .u) (a .requested) (a .book .now) (a .info .now) (w .word .ensures) (code-is (a .info .now) (i .if1 .left) (m .match .keys3)) (c .run .ensures)
+    let r = m .match .rest in
+    let e = i .if1 .left in
+    let o : (getD (a .info .now) 1 0 < 0x44) ⊎ (0x46 ≤ getD (a .info .now) 1 0) = elim (c .before .if2 .came) [ inl t ↦ inl (t .taken) | inr f ↦ inr (f .1 .left) ] in
+    handles-other (a .u) (a .requested) (a .book .now) (a .info .now) (w .word .ensures) (low-other (a .info .now) {j = 0x14} e (r .0 .0 .1)) (low-other (a .info .now) {j = 0x15} e (r .0 .1)) (low-other (a .info .now) {j = 0x18} e (λ z. r .1 (inl z)))
+    (low-other (a .info .now) {j = 0x44} e (outside-range o (omega arith) (omega arith)))
+    (low-other (a .info .now) {j = 0x45} e (outside-range o (omega arith) (omega arith)))
+    (low-other (a .info .now) {j = 0x48} e (λ z. r .1 (inr z)))
+    (c .refused2 .ensures)
 
 returns-5 : tie.Need-returns-5
 returns-5 c =
     let m = c .before .before in
-    let i = m .before .before in
-    let w = i .before .before in
+    let w = m .before .before .before .before in
     let a = w .before .before .before .before .before .args in
-    handles-query-times (a .u) (a .requested) (a .book .now) (a .info .now) (w .word .ensures) (code-is (a .info .now) (i .if1 .left) (m .match .keys4)) (c .query-times .ensures)
-
-returns-6 : tie.Need-returns-6
-returns-6 c =
-    let m = c .before .before in
-    let i = m .before .before in
-    let w = i .before .before in
-    let a = w .before .before .before .before .before .args in
-    handles-query-plan (a .u) (a .requested) (a .book .now) (a .info .now) (w .word .ensures) (code-is (a .info .now) (i .if1 .left) (m .match .keys5)) (c .query-plan .ensures)
-
-returns-7 : tie.Need-returns-7
-returns-7 c =
-    let m = c .before in
-    let i = m .before .before in
-    let w = i .before .before in
-    let a = w .before .before .before .before .before .args in
-    handles-query-running (a .u) (a .requested) (a .book .now) (a .info .now) (w .word .ensures) (code-is (a .info .now) (i .if1 .left) (m .match .keys6)) (c .query-running .ensures)
-
-returns-8 : tie.Need-returns-8
-returns-8 c =
-    let m = c .before in
-    let i = m .before .before in
-    let w = i .before .before in
-    let a = w .before .before .before .before .before .args in
-    let r = m .match .rest in
-    handles-other (a .u) (a .requested) (a .book .now) (a .info .now) (w .word .ensures) (low-other (a .info .now) (i .if1 .left) (r .0 .0 .0 .0 .0 .1)) (low-other (a .info .now) (i .if1 .left) (r .0 .0 .0 .0 .1)) (low-other (a .info .now) (i .if1 .left) (r .0 .0 .0 .1)) (low-other (a .info .now) (i .if1 .left) (r .0 .0 .1))
-    (low-other (a .info .now) (i .if1 .left) (r .0 .1))
-    (low-other (a .info .now) (i .if1 .left) (r .1))
-    (c .refused2 .ensures)
+    handles-asked (a .u) (a .requested) (a .book .now) (a .info .now) (w .word .ensures) (asks m) (c .asked .ensures)
 
 pub carry-out-spec : {M : Type 1} → statement M
-carry-out-spec = tie.close (tie.spec (λ c. search needs) (λ c. search needs) (λ c κs. search needs) (λ c. search needs) (λ c κs. search needs) returns (λ c. search needs) (λ c κs. search needs) (λ c κs. search needs) (λ c κs. search needs) (λ c κs. search needs) (λ c κs. search needs) (λ c κs. search needs) (λ c κs. search needs) (λ c κs. search needs) (λ c κs. search needs) (λ c. search needs) returns-2 (λ c. search needs) returns-3 (λ c. search needs) returns-4 (λ c. search needs) returns-5 (λ c. search needs) returns-6 returns-7 returns-8)
+carry-out-spec = tie.close (tie.spec (λ c. search needs) (λ c. search needs) (λ c κs. search needs) (λ c. search needs) (λ c κs. search needs) returns (λ c. search needs) (λ c κs. search needs) (λ c κs. search needs) (λ c κs. search needs) (λ c κs. search needs) (λ c κs. search needs) (λ c κs. (search needs, c .before .before .before .before .before .word .ensures, asks (c .before))) (λ c. search needs) returns-2 (λ c. search needs) returns-3 returns-4 (λ c. search needs) returns-5)

@@ -1,40 +1,23 @@
--- `controller_calls::handling::query_times` meets its contract: the message is read, and a plan that is not empty is reported.
+-- `controller_calls::handling::query_times` meets its contract: a plan whose times are reported is not empty.
 use mathlib.Core.Path.{_∙_}
 use borrow.Author.Needs.{needs}
-use Rattle.controller_calls.proofs.Laws.{times-unread, times-13, times-done}
+use Rattle.controller_calls.proofs.Laws.{times-13, times-done}
 use Rattle.controller_calls.proofs.handling.query_times.Statement.{statement}
 use Rattle.controller_calls.proofs.handling.query_times.Tie as tie
 
 returns : tie.Need-returns
 returns c =
-    let r = c .before .before .before in
-    let a = r .before .before .before .args in
-    c .refused .ensures ∙ times-unread (a .which) (a .code) (a .requested) (a .book .now) (a .info .now) (r .read .ensures) (c .before .if1 .taken)
+    let s = c .before .before .before in
+    let d = s .before in
+    let a = d .before .before .before .before in
+    c .refused .ensures ∙ times-13 (a .args .which) (a .args .code) (a .args .requested) _ _ _ (a .args .plan) (d .before .before .built-in .ensures) (a .pre .0) (a .pre .1) (d .plan-part .ensures) (s .report-times .ensures) (c .before .if1 .taken)
 
 returns-2 : tie.Need-returns-2
 returns-2 c =
-    let i = c .before in
-    let d = i .before .before in
-    let n = d .before .before .before in
-    let r = n .before .before .before in
-    let a = r .before .before .before .args in
-    c .refused2 .ensures
-    ∙ times-13 (a .which) (a .code) (a .requested) (a .book .now) (a .info .now) (r .read .ensures) (n .before .if1 .left) (n .plan-named .ensures) (d .before .before .built-in .ensures) (d .record-of .ensures)
-    (i .before .standing .ensures)
-    (i .if2 .taken)
-
-returns-3 : tie.Need-returns-3
-returns-3 c =
-    let i = c .before .before in
-    let d = i .before .before in
-    let n = d .before .before .before in
-    let r = n .before .before .before in
-    let a = r .before .before .before .args in
-    c .accepted .ensures
-    ∙ times-done (a .which) (a .code) (a .requested) (a .book .now) (a .info .now) (r .read .ensures) (n .before .if1 .left) (n .plan-named .ensures) (d .before .before .built-in .ensures) (d .record-of .ensures)
-    (i .before .standing .ensures)
-    (i .if2 .left)
-    (c .before .report-times .ensures)
+    let s = c .before .before .before in
+    let d = s .before in
+    let a = d .before .before .before .before in
+    c .accepted .ensures ∙ times-done (a .args .which) (a .args .code) (a .args .requested) _ _ _ (a .args .plan) (d .before .before .built-in .ensures) (a .pre .0) (a .pre .1) (d .plan-part .ensures) (s .report-times .ensures) (c .before .if1 .left)
 
 pub query-times-spec : {M : Type 1} → statement M
-query-times-spec = tie.close (tie.spec (λ c κs. search needs) (λ c κs. search needs) returns (λ c κs. search needs) (λ c κs. search needs) (λ c. search needs) (λ c κs. (search needs, (_, c .before .built-in .ensures))) (λ c κs. search needs) (λ c κs. search needs) returns-2 (λ c κs. search needs) (λ c κs. search needs) returns-3)
+query-times-spec = tie.close (tie.spec (λ c κs. search needs) (λ c. search needs) (λ c κs. search needs) (λ c κs. search needs) (λ c κs. search needs) returns (λ c κs. search needs) returns-2)

@@ -1,40 +1,25 @@
--- `controller_calls::handling::run` meets its contract: the message is read, and a plan that stands ready is noted.
+-- `controller_calls::handling::run` meets its contract: a plan whose record stands ready is noted.
 use mathlib.Core.Path.{_∙_}
 use borrow.Author.Needs.{needs}
-use Rattle.controller_calls.proofs.Laws.{run-unread, run-13, run-done}
+use Rattle.controller_calls.proofs.Laws.{run-13, run-done}
 use Rattle.controller_calls.proofs.handling.run.Statement.{statement}
 use Rattle.controller_calls.proofs.handling.run.Tie as tie
 
 returns : tie.Need-returns
 returns c =
-    let r = c .before .before .before in
-    let a = r .before .before .before .args in
-    c .refused .ensures ∙ run-unread (a .which) (a .code) (a .requested) (a .book .now) (a .info .now) (r .read .ensures) (c .before .if1 .taken)
+    let s = c .before .before in
+    let d = s .before in
+    let a = d .before .before .before .before in
+    c .refused .ensures ∙ run-13 (a .args .which) (a .args .code) (a .args .requested) _ _ _ (a .args .plan) (d .before .before .built-in .ensures) (a .pre .0) (a .pre .1) (d .plan-part .ensures) (s .standing .ensures) (c .before .if1 .taken)
 
 returns-2 : tie.Need-returns-2
 returns-2 c =
-    let i = c .before in
-    let d = i .before .before in
-    let n = d .before .before .before in
-    let r = n .before .before .before in
-    let a = r .before .before .before .args in
-    c .refused2 .ensures
-    ∙ run-13 (a .which) (a .code) (a .requested) (a .book .now) (a .info .now) (r .read .ensures) (n .before .if1 .left) (n .plan-named .ensures) (d .before .before .built-in .ensures) (d .record-of .ensures)
-    (i .before .standing .ensures)
-    (i .if2 .taken)
-
-returns-3 : tie.Need-returns-3
-returns-3 c =
-    let i = c .before .before in
-    let d = i .before .before in
-    let n = d .before .before .before in
-    let r = n .before .before .before in
-    let a = r .before .before .before .args in
+    let s = c .before .before .before in
+    let d = s .before in
+    let a = d .before .before .before .before in
     c .accepted .ensures
-    ∙ run-done (a .which) (a .code) (a .requested) (a .book .now) (a .info .now) (r .read .ensures) (n .before .if1 .left) (n .plan-named .ensures) (d .before .before .built-in .ensures) (d .record-of .ensures)
-    (i .before .standing .ensures)
-    (i .if2 .left)
+    ∙ run-done (a .args .which) (a .args .code) (a .args .requested) _ _ _ (a .args .plan) (d .before .before .built-in .ensures) (a .pre .0) (a .pre .1) (d .plan-part .ensures) (s .standing .ensures) (c .before .before .if1 .left)
     (c .before .carried-out-reply .ensures)
 
 pub run-spec : {M : Type 1} → statement M
-run-spec = tie.close (tie.spec (λ c κs. search needs) (λ c κs. search needs) returns (λ c κs. search needs) (λ c κs. search needs) (λ c. search needs) (λ c κs. (search needs, (_, c .before .built-in .ensures))) (λ c κs. search needs) (λ c κs. search needs) returns-2 (λ c κs. search needs) (λ c κs. search needs) returns-3)
+run-spec = tie.close (tie.spec (λ c κs. search needs) (λ c. search needs) (λ c κs. search needs) (λ c κs. search needs) (λ c κs. search needs) returns (λ c κs. search needs) (λ c κs. search needs) returns-2)

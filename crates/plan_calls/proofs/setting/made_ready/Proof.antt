@@ -19,36 +19,36 @@ returns c =
 returns-2 : tie.Need-returns-2
 returns-2 c =
     let k = c .before .before in
-    let d = k .before .before .before in
+    let d = k .before .before in
     let a = d .before .before .before .args in
     c .not-made2 .ensures
-    ∙ ready-count (a .old .now) (a .body .now) (d .standing .ensures) (k .before .before .if1 .left) (k .before .octet-at .ensures) (k .count .ensures) (c .before .if2 .taken)
+    ∙ ready-count (a .old .now) (a .body .now) (d .standing .ensures) (k .before .if1 .left) (d .before .before .before .pre .2) (k .count .ensures) (c .before .if2 .taken)
 
 ready-record-requires : tie.Need-ready-record-requires
 ready-record-requires c κs =
     let k = c .before in
-    let d = k .before .before .before .before .before .before in
-    (search needs, omega (arith, k .count .ensures, k .before .octet-at .ensures, d .pre .1 .count .most), omega (arith, k .count .ensures, k .before .octet-at .ensures, d .pre .1 .long))
+    let d = k .before .before .before .before .before in
+    (search needs, omega (arith, k .count .ensures, d .pre .2, d .pre .1 .count .most), omega (arith, k .count .ensures, d .pre .2, d .pre .1 .long))
 
 -- the record has the stored count, so it has at most eleven checks
 few : (c : tie.After-plan-disagree) → c .plan-disagree .result ≤ 11
 few c =
     let r = c .before .before in
     let k = r .before .before in
-    let d = k .before .before .before .before .before .before in
+    let d = k .before .before .before .before .before in
     let e = c .plan-disagree .ensures ∙ ap planDisagree (r .ready-record .ensures) in
-    let n = ready-k (d .args .old .now) (d .args .body .now) (omega (arith, k .count .ensures, k .before .octet-at .ensures, r .before .if2 .left, d .pre .1 .count .most, d .pre .0)) (omega (arith, d .pre .1 .long)) in
-    omega (arith, e, plan-first (readyRecord (d .args .old .now) (d .args .body .now)) .within, n, k .count .ensures, k .before .octet-at .ensures, r .before .if2 .left, d .pre .1 .count .most)
+    let n = ready-k (d .args .old .now) (d .args .body .now) (omega (arith, k .count .ensures, d .pre .2, r .before .if2 .left, d .pre .1 .count .most, d .pre .0)) (omega (arith, d .pre .1 .long)) in
+    omega (arith, e, plan-first (readyRecord (d .args .old .now) (d .args .body .now)) .within, n, k .count .ensures, d .pre .2, r .before .if2 .left, d .pre .1 .count .most)
 
 returns-3 : tie.Need-returns-3
 returns-3 c =
     let n = c .before .before in
     let r = n .before .before in
     let k = r .before .before in
-    let d = k .before .before .before in
+    let d = k .before .before in
     let a = d .before .before .before .args in
     c .not-made3 .ensures
-    ∙ ready-not (a .old .now) (a .body .now) (d .standing .ensures) (k .before .before .if1 .left) (k .before .octet-at .ensures) (k .count .ensures) (r .before .if2 .left)
+    ∙ ready-not (a .old .now) (a .body .now) (d .standing .ensures) (k .before .if1 .left) (d .before .before .before .pre .2) (k .count .ensures) (r .before .if2 .left)
     (n .plan-disagree .ensures ∙ ap planDisagree (r .ready-record .ensures))
     (c .before .if3 .taken)
     (omega arith)
@@ -58,9 +58,9 @@ returns-4 c =
     let n = c .before in
     let r = n .before .before in
     let k = r .before .before in
-    let d = k .before .before .before in
+    let d = k .before .before in
     let a = d .before .before .before .args in
-    ready-is (a .old .now) (a .body .now) (d .standing .ensures) (k .before .before .if1 .left) (k .before .octet-at .ensures) (k .count .ensures) (r .before .if2 .left)
+    ready-is (a .old .now) (a .body .now) (d .standing .ensures) (k .before .if1 .left) (d .before .before .before .pre .2) (k .count .ensures) (r .before .if2 .left)
     (n .plan-disagree .ensures ∙ ap planDisagree (r .ready-record .ensures))
     (c .if3 .left)
     (r .ready-record .ensures)
@@ -72,7 +72,6 @@ made-ready-spec =
     (λ c κs. search needs)
     (λ c κs. search needs)
     returns
-    (λ c κs. search needs)
     (λ c κs. search needs)
     (λ c κs. search needs)
     returns-2
