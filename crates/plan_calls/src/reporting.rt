@@ -9,8 +9,8 @@ ghost use Rattle.plan.specs.Reporting.{reportMost, reportTimesOf, reportsPlan, 
 use message::Message;
 use record::RECORD_LEN;
 
-// The most octets of a report, and room to spare: a code, a plan, and a record.
-const INFO_MOST: usize = RECORD_LEN + 6;
+// The most octets of a report, and room to spare: the code, the fields up to the count, and a record.
+const INFO_MOST: usize = octets::CODE_LEN + message::PLAN_COUNT as usize + RECORD_LEN;
 
 // The report 5F C4 of a record's times; no message of octets that read as empty.
 pub fn report_times(rec: &[u8], plan: u8) -> Message
