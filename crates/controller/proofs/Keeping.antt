@@ -11,10 +11,8 @@ use lib.ListN.{length}
 use Rattle.octets.specs.Choice.{pick, both}
 use Rattle.octets.specs.Refusal as refusal
 use Rattle.octets.proofs.Laws.{pick-by, clash}
-use Rattle.frame.specs.declared.decoder.Decoder.{Decoder}
-use Rattle.frame.specs.declared.decoder.Taken.{Taken}
 use Rattle.frame.specs.Frame.{message, ack, nak}
-use Rattle.frame.specs.Decoder.{takenOf, idledOf}
+use Rattle.frame.specs.Decoder.{Decoder, Taken, takenOf, idledOf}
 use Rattle.frame.specs.Run.{Outcome, nothing, refused, sound, outcomeOf}
 use Rattle.frame.proofs.Possible.{possible-kept}
 use Rattle.message.specs.Reader.{codeIn, bodyIn, readOf}

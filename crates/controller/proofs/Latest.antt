@@ -7,8 +7,7 @@ use native.Mathlib.Decide.{decLt}
 use native.Mathlib.Omega.{arith}
 use Rattle.octets.specs.Choice.{pick}
 use Rattle.octets.specs.Octet.{Octets}
-use Rattle.frame.specs.declared.decoder.Decoder.{Decoder}
-use Rattle.frame.specs.Decoder.{freshDecoder, takenOf, idledOf}
+use Rattle.frame.specs.Decoder.{Decoder, freshDecoder, takenOf, idledOf}
 use Rattle.record.specs.Record.{cycleOf}
 use Rattle.plan.specs.declared.Which.{Which}
 use Rattle.plan.proofs.Cases.{octets-built-in}

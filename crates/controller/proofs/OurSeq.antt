@@ -15,13 +15,11 @@ use Rattle.octets.specs.Octet.{Octets}
 use Rattle.octets.proofs.Laws.{pick-by, octets-zero}
 use Rattle.frame.specs.declared.Kind.{Kind}
 use Rattle.frame.specs.declared.Kind.the-variants.{Message, Ack, Nak}
-use Rattle.frame.specs.declared.decoder.Decoder.{Decoder}
-use Rattle.frame.specs.declared.decoder.Taken.{Taken}
 use Rattle.frame.specs.declared.decoder.Found.{Found}
 use Rattle.frame.specs.declared.decoder.Found.the-variants as found
 use Rattle.frame.specs.Frame.{Frame, message, ack, written}
 use Rattle.frame.specs.Promises.{InOctets, InfoFits}
-use Rattle.frame.specs.Decoder.{freshDecoder, takenOf}
+use Rattle.frame.specs.Decoder.{Decoder, Taken, freshDecoder, takenOf}
 use Rattle.frame.specs.Run.{Outcome, nothing, refused, sound, foundMeans, outcomeOf, outcomes, decoderAfter, AtRest}
 use Rattle.frame.proofs.Reading.{reading-undoes-writing}
 use Rattle.frame.proofs.Held.{HoldsOctets, OutcomeOctets, taken-octets, idled-octets}

@@ -16,9 +16,8 @@ use Rattle.octets.specs.Part.{codeLen}
 use Rattle.octets.specs.Refusal as refusal
 use Rattle.octets.specs.Word.{highOf, lowOf}
 use Rattle.octets.proofs.Laws.{pick-by}
-use Rattle.frame.specs.declared.decoder.Decoder.{Decoder}
 use Rattle.frame.specs.Frame.{ack, nak, infoMost, frontOf, sentOf, twice, doubled, written}
-use Rattle.frame.specs.Decoder.{possibleOf, takenOf}
+use Rattle.frame.specs.Decoder.{Decoder, possibleOf, takenOf}
 use Rattle.frame.proofs.Finding.{finds}
 use Rattle.message.specs.declared.Message as message
 use Rattle.message.specs.Layouts.{layouts, layoutAt, numberOf, rowsAt, layoutRows}

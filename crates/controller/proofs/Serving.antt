@@ -16,9 +16,8 @@ use Rattle.octets.specs.Writing.{Writing}
 use Rattle.octets.proofs.Laws.{pick-by, octets-part}
 use Rattle.frame.specs.declared.Kind.{Kind}
 use Rattle.frame.specs.declared.Kind.the-variants.{Message, Ack, Nak}
-use Rattle.frame.specs.declared.decoder.Decoder.{Decoder}
 use Rattle.frame.specs.Frame.{Frame, message, ack, nak, infoMost}
-use Rattle.frame.specs.Decoder.{takenOf}
+use Rattle.frame.specs.Decoder.{Decoder, takenOf}
 use Rattle.frame.specs.Run.{Outcome, sound, outcomeOf}
 use Rattle.message.specs.declared.Message as message
 use Rattle.message.specs.declared.Read.{Read}

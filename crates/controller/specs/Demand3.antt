@@ -15,10 +15,8 @@ use lib.Dec.{eqb, leb}
 use lib.ListN.{length, drop}
 use Rattle.octets.specs.Choice.{pick, both}
 use Rattle.octets.specs.Octet.{Octets}
-use Rattle.frame.specs.declared.decoder.Decoder.{Decoder}
-use Rattle.frame.specs.declared.decoder.Taken.{Taken}
 use Rattle.frame.specs.Frame.{message, ack, nak}
-use Rattle.frame.specs.Decoder.{freshDecoder, takenOf, idledOf}
+use Rattle.frame.specs.Decoder.{Decoder, Taken, freshDecoder, takenOf, idledOf}
 use Rattle.frame.specs.Run.{Outcome, nothing, refused, sound, outcomeOf}
 use Rattle.message.specs.Reader.{codeIn, bodyIn, readOf}
 use Rattle.record.specs.Record.{kOf, cycleOf, Ready}

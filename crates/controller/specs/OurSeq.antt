@@ -4,9 +4,9 @@ use Prim.Native.Nat.{ℕ, _+_, _%_, _<_}
 use mathlib.Core.Path.{_≡_}
 use mathlib.Core.List.{List, [], _∷_, _++_}
 use lib.ListN.{take}
-use Rattle.frame.specs.declared.decoder.Decoder.{Decoder}
 use Rattle.frame.specs.Frame.{Frame, message, ack, nak}
 use Rattle.frame.specs.Run.{Outcome, nothing, refused, sound, outcomes, AtRest}
+use Rattle.frame.specs.Decoder.{Decoder}
 use Rattle.plan.specs.declared.Which.{Which}
 use Rattle.controller.specs.declared.State.{State}
 use Rattle.controller.specs.Replies.{octetOf}

@@ -4,8 +4,7 @@ use mathlib.Core.Bool.{Bool, true, not}
 use mathlib.Core.List.{List}
 use lib.Dec.{eqb, ltb, leb}
 use Rattle.octets.specs.Choice.{pick, both}
-use Rattle.frame.specs.declared.decoder.Decoder.{Decoder}
-use Rattle.frame.specs.Decoder.{freshDecoder, possibleOf}
+use Rattle.frame.specs.Decoder.{Decoder, freshDecoder, possibleOf}
 use Rattle.record.specs.Record.{plansMost, ready, cycleOf}
 use Rattle.checks.specs.Standing.{standingOf}
 use Rattle.plan.specs.declared.Which.{Which}

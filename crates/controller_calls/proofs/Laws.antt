@@ -17,8 +17,7 @@ use Rattle.octets.specs.Part.{PartOf}
 use Rattle.octets.specs.Put.{Put}
 use Rattle.octets.specs.Refusal as refusal
 use Rattle.octets.proofs.Laws.{put-stored}
-use Rattle.frame.specs.declared.decoder.Taken.{Taken}
-use Rattle.frame.specs.Decoder.{idleDrops, possibleOf, takenOf}
+use Rattle.frame.specs.Decoder.{Taken, idleDrops, possibleOf, takenOf}
 use Rattle.frame.proofs.Laws.{taken-dropped}
 use Rattle.message.specs.declared.Message.{Message}
 use Rattle.message.specs.declared.Read.{Read}

@@ -16,10 +16,9 @@ use Rattle.octets.proofs.Laws.{stored-then}
 use Rattle.frame.specs.declared.Kind.{Kind}
 use Rattle.frame.specs.declared.Kind.the-variants.{Message, Ack, Nak}
 use Rattle.frame.specs.Frame.{Frame, message, ack, nak, infoFits, infoLeast, infoMost, written}
-use Rattle.frame.specs.declared.decoder.Decoder.{Decoder}
-use Rattle.frame.specs.declared.decoder.Taken.{Taken}
 use Rattle.frame.specs.Run.{outcomeOf}
 use Rattle.frame.specs.Writer as frame
+use Rattle.frame.specs.Decoder.{Decoder, Taken}
 use Rattle.message.specs.declared.Message as message
 use Rattle.message.specs.Writer.{writable, infoOf}
 use Rattle.message.specs.Writer as writer

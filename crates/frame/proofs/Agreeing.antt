@@ -17,13 +17,11 @@ use Rattle.frame.specs.declared.Kind.the-variants.{Message, Ack, Nak}
 use Rattle.frame.specs.declared.decoder.Place.{Place}
 use Rattle.frame.specs.declared.decoder.Place.the-variants.{Idle, LoneAa, Seq, AddrHigh, AddrLow, LenHigh, LenLow, Info, InfoAa, CloseAa, CloseCc, Err, Cks}
 use Rattle.frame.specs.declared.decoder.Head.{Head}
-use Rattle.frame.specs.declared.decoder.Decoder.{Decoder}
 use Rattle.frame.specs.declared.decoder.Found.{Found}
 use Rattle.frame.specs.declared.decoder.Found.the-variants as found
-use Rattle.frame.specs.declared.decoder.Taken.{Taken}
 use Rattle.frame.specs.declared.decoder.Stepped.{Stepped}
 use Rattle.frame.specs.Frame.{message, lenFits, infoMost, messageLen}
-use Rattle.frame.specs.Decoder.{headOf, possibleAt, possibleOf, hasInfo, infoDue, infoWhole, errDue, cksDue, afterLen, afterAa, kept, cksIn, frontIn, stepAt, stepOf, taken, takenAs}
+use Rattle.frame.specs.Decoder.{Decoder, Taken, headOf, possibleAt, possibleOf, hasInfo, infoDue, infoWhole, errDue, cksDue, afterLen, afterAa, kept, cksIn, frontIn, stepAt, stepOf, taken, takenAs}
 use Rattle.frame.specs.Run.{sound, foundMeans, outcomeOf}
 use Rattle.frame.specs.Promises.{kindOctet, partsAt, partsOf, SameFrom, PartsDecide}
 use Rattle.frame.proofs.Laws.{info-len, possible-at, taken-done}

@@ -15,12 +15,11 @@ use Rattle.frame.specs.declared.Kind.the-variants.{Message, Ack, Nak}
 use Rattle.frame.specs.declared.decoder.Place.{Place}
 use Rattle.frame.specs.declared.decoder.Place.the-variants.{Idle, LoneAa, Seq, AddrHigh, AddrLow, LenHigh, LenLow, Info, InfoAa, CloseAa, CloseCc, Err, Cks}
 use Rattle.frame.specs.declared.decoder.Head.{Head}
-use Rattle.frame.specs.declared.decoder.Decoder.{Decoder}
 use Rattle.frame.specs.declared.decoder.Found.{Found}
 use Rattle.frame.specs.declared.decoder.Found.the-variants as found
 use Rattle.frame.specs.declared.decoder.Stepped.{Stepped}
 use Rattle.frame.specs.Frame.{lenFits, messageLen, infoLeast, infoMost}
-use Rattle.frame.specs.Decoder.{headOf, possibleOf, cksDue, afterAa, cksIn, stepAt, stepOf, takenOf}
+use Rattle.frame.specs.Decoder.{Decoder, headOf, possibleOf, cksDue, afterAa, cksIn, stepAt, stepOf, takenOf}
 use Rattle.frame.proofs.Laws.{message-len, taken-done}
 
 pub record Findable (P : Found → Type 0) : Type 0 where

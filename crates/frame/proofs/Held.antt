@@ -10,13 +10,11 @@ use Rattle.frame.specs.declared.Kind.the-variants.{Message, Ack, Nak}
 use Rattle.frame.specs.declared.decoder.Place.{Place}
 use Rattle.frame.specs.declared.decoder.Place.the-variants.{Idle, LoneAa, Seq, AddrHigh, AddrLow, LenHigh, LenLow, Info, InfoAa, CloseAa, CloseCc, Err, Cks}
 use Rattle.frame.specs.declared.decoder.Head.{Head}
-use Rattle.frame.specs.declared.decoder.Decoder.{Decoder}
 use Rattle.frame.specs.declared.decoder.Found.{Found}
 use Rattle.frame.specs.declared.decoder.Found.the-variants as found
 use Rattle.frame.specs.declared.decoder.Stepped.{Stepped}
-use Rattle.frame.specs.declared.decoder.Taken.{Taken}
 use Rattle.frame.specs.Frame.{message, ack, nak, lenFits}
-use Rattle.frame.specs.Decoder.{possibleOf, refusedBy, afterAa, soundAs, cksIn, stepAt, infoThen, stepOf, takenOf, idledOf}
+use Rattle.frame.specs.Decoder.{Decoder, Taken, possibleOf, refusedBy, afterAa, soundAs, cksIn, stepAt, infoThen, stepOf, takenOf, idledOf}
 use Rattle.frame.specs.Run.{Outcome, nothing, refused, sound, foundMeans, outcomeOf}
 
 pub record HoldsOctets (d : Decoder) : Type 0 where

@@ -17,10 +17,9 @@ use Rattle.frame.specs.declared.Kind.{Kind}
 use Rattle.frame.specs.declared.Kind.the-variants.{Message, Ack, Nak}
 use Rattle.frame.specs.declared.decoder.Place.{Place}
 use Rattle.frame.specs.declared.decoder.Head.{Head}
-use Rattle.frame.specs.declared.decoder.Decoder.{Decoder}
 use Rattle.frame.specs.Frame.{Frame, message, ack, nak, infoLeast, infoMost, messageLen, ackLen, nakLen, lenFits, infoFits, front, frontOf, bodyOf, sentOf, cksOf, twice, doubled, written}
 use Rattle.frame.specs.Writer.{writeFrame}
-use Rattle.frame.specs.Decoder.{hasInfo, infoDue, idleDrops, possibleOf, possibleAt, stepped, headAt, ended, afterAa, stepOf, stepAt, cksIn, frontIn, taken, infoThen, takenAs, takenOf, idledOf, unsound, headOf, lenJudged, afterLen, refusedBy}
+use Rattle.frame.specs.Decoder.{Decoder, hasInfo, infoDue, idleDrops, possibleOf, possibleAt, stepped, headAt, ended, afterAa, stepOf, stepAt, cksIn, frontIn, taken, infoThen, takenAs, takenOf, idledOf, unsound, headOf, lenJudged, afterLen, refusedBy}
 use Rattle.frame.specs.declared.decoder.Place.the-variants.{Idle, LoneAa, Seq, AddrHigh, AddrLow, LenHigh, LenLow, Info, InfoAa, CloseAa, CloseCc, Err, Cks}
 use Rattle.frame.specs.declared.decoder.Stepped.{Stepped}
 use Rattle.frame.specs.declared.decoder.Found.{Found}

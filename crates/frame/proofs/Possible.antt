@@ -6,7 +6,6 @@ use mathlib.Core.List.{List}
 use native.Mathlib.Omega.{arith}
 use borrow.Author.Tests.{eq-eqb, lt-ltb, ltb-true, ltb-false}
 use lib.Dec.{eqb, ltb}
-use lib.ListN.{length-replicate}
 use Rattle.octets.specs.Refusal as refusal
 use Rattle.octets.specs.Word.{lowOf, wordOf}
 use Rattle.octets.proofs.Laws.{pick-by, both-left, both-right}
@@ -15,12 +14,11 @@ use Rattle.frame.specs.declared.Kind.the-variants.{Message, Ack, Nak}
 use Rattle.frame.specs.declared.decoder.Place.{Place}
 use Rattle.frame.specs.declared.decoder.Place.the-variants.{Idle, LoneAa, Seq, AddrHigh, AddrLow, LenHigh, LenLow, Info, InfoAa, CloseAa, CloseCc, Err, Cks}
 use Rattle.frame.specs.declared.decoder.Head.{Head}
-use Rattle.frame.specs.declared.decoder.Decoder.{Decoder}
 use Rattle.frame.specs.declared.decoder.Found.{Found}
 use Rattle.frame.specs.declared.decoder.Found.the-variants as found
 use Rattle.frame.specs.declared.decoder.Stepped.{Stepped}
 use Rattle.frame.specs.Frame.{lenFits, messageLen}
-use Rattle.frame.specs.Decoder.{headOf, possibleAt, possibleOf, freshDecoder, infoDue, infoWhole, errDue, cksDue, afterLen, afterAa, kept, stepAt, stepOf, cksIn}
+use Rattle.frame.specs.Decoder.{Decoder, headOf, possibleAt, possibleOf, freshHead, infoDue, infoWhole, errDue, cksDue, afterLen, afterAa, kept, stepAt, stepOf, cksIn}
 use Rattle.frame.specs.Promises.{CallsAnswered, FreshAtRest, PossibleKept}
 use Rattle.frame.proofs.Laws.{message-len, taken-7, taken-done, idled-7, idled-done}
 
@@ -100,11 +98,11 @@ calls-answered d =
     }
 
 pub fresh-at-rest : FreshAtRest
-unfolding freshDecoder
-fresh-at-rest = (record { idle = refl; long = length-replicate {A = ℕ} 256 0 }, refl)
+unfolding freshHead
+fresh-at-rest = (refl, λ info long. (record { idle = refl; long = long }, refl))
 
 pub possible-kept : PossibleKept
-unfolding possibleOf freshDecoder
+unfolding possibleOf freshHead
 possible-kept = (
   refl,
   λ d. record {

@@ -14,9 +14,8 @@ use Rattle.frame.specs.declared.Kind.{Kind}
 use Rattle.frame.specs.declared.Kind.the-variants.{Message, Ack, Nak}
 use Rattle.frame.specs.declared.decoder.Place.{Place}
 use Rattle.frame.specs.declared.decoder.Place.the-variants.{Idle, LoneAa, Seq, AddrHigh, AddrLow, LenHigh, LenLow, Info, InfoAa, CloseAa, CloseCc, Err, Cks}
-use Rattle.frame.specs.declared.decoder.Decoder.{Decoder}
 use Rattle.frame.specs.Frame.{messageLen, infoMost, ackLen, nakLen, lenFits, front, doubled}
-use Rattle.frame.specs.Decoder.{headOf, possibleOf, infoDue, infoWhole, stepOf, takenOf}
+use Rattle.frame.specs.Decoder.{Decoder, headOf, possibleOf, infoDue, infoWhole, stepOf, takenOf}
 use Rattle.frame.specs.Run.{decoderAfter}
 use Rattle.frame.specs.Promises.{partsOf, LedTo, PossibleExactly}
 use Rattle.frame.proofs.Laws.{info-len, possible-at}

@@ -17,11 +17,9 @@ use Rattle.frame.specs.declared.Kind.{Kind}
 use Rattle.frame.specs.declared.Kind.the-variants.{Message, Ack, Nak}
 use Rattle.frame.specs.declared.decoder.Place.{Place}
 use Rattle.frame.specs.declared.decoder.Place.the-variants.{Idle, LoneAa, Seq, AddrHigh, AddrLow, LenHigh, LenLow, Info, InfoAa, CloseAa, Cks}
-use Rattle.frame.specs.declared.decoder.Decoder.{Decoder}
 use Rattle.frame.specs.declared.decoder.Found.the-variants as found
-use Rattle.frame.specs.declared.decoder.Taken.{Taken}
 use Rattle.frame.specs.Frame.{Frame, message, ack, nak, ackLen, nakLen, infoLeast, kindOf, seqOf, addrOf, lenOf, messageLen, infoMost, lenFits, infoFits, opener, front, frontOf, bodyOf, sentOf, cksOf, twice, doubled, written}
-use Rattle.frame.specs.Decoder.{possibleOf, afterLen, afterInfo, opened, stepOf, takenOf, cksIn, frontIn, taken, takenAs}
+use Rattle.frame.specs.Decoder.{Decoder, Taken, possibleOf, afterLen, afterInfo, opened, stepOf, takenOf, cksIn, frontIn, taken, takenAs}
 use Rattle.frame.specs.Run.{Outcome, nothing, sound, outcomeOf, outcomes, decoderAfter, AtRest, drops, NothingDropped}
 use Rattle.frame.specs.Promises.{InOctets, ReadBack, ReadingFramesUndoesWriting}
 use Rattle.frame.proofs.Laws.{twice-aa, twice-other, taken-done}

@@ -17,12 +17,11 @@ use Rattle.frame.specs.declared.Kind.{Kind}
 use Rattle.frame.specs.declared.Kind.the-variants.{Message, Ack, Nak}
 use Rattle.frame.specs.declared.decoder.Place.{Place}
 use Rattle.frame.specs.declared.decoder.Place.the-variants.{Idle, LenLow, Info, InfoAa, CloseAa, CloseCc}
-use Rattle.frame.specs.declared.decoder.Decoder.{Decoder}
 use Rattle.frame.specs.declared.decoder.Found.{Found}
 use Rattle.frame.specs.declared.decoder.Found.the-variants as found
 use Rattle.frame.specs.declared.decoder.Stepped.{Stepped}
 use Rattle.frame.specs.Frame.{Frame, message, ack, nak, kindOf, seqOf, addrOf, lenOf, messageLen, infoMost, lenFits, infoFits, opener, front, frontOf, sentOf, cksOf, doubled}
-use Rattle.frame.specs.Decoder.{possibleOf, afterAa, stepOf, takenAs}
+use Rattle.frame.specs.Decoder.{Decoder, possibleOf, afterAa, stepOf, takenAs}
 use Rattle.frame.specs.Run.{Outcome, nothing, refused, foundMeans, outcomeOf, outcomes}
 use Rattle.frame.specs.Promises.{Refusable, lenMessage, lenAck, lenNak, doubling, closingAa, closingCc, cksMessage, cksAck, cksNak, RefusedWhen}
 use Rattle.frame.proofs.Laws.{message-len}

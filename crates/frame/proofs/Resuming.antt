@@ -10,12 +10,11 @@ use Rattle.octets.specs.Word.{lowOf, wordOf}
 use Rattle.octets.proofs.Laws.{pick-by, clash}
 use Rattle.frame.specs.declared.decoder.Place.{Place}
 use Rattle.frame.specs.declared.decoder.Place.the-variants.{Idle, LoneAa, Seq, AddrHigh, AddrLow, LenHigh, LenLow, Info, InfoAa, CloseAa, CloseCc, Err, Cks}
-use Rattle.frame.specs.declared.decoder.Decoder.{Decoder}
 use Rattle.frame.specs.declared.decoder.Found.{Found}
 use Rattle.frame.specs.declared.decoder.Found.the-variants as found
 use Rattle.frame.specs.declared.decoder.Stepped.{Stepped}
 use Rattle.frame.specs.Frame.{lenFits}
-use Rattle.frame.specs.Decoder.{possibleOf, idleDrops, afterAa, refusedBy, stepOf, stepAt, takenAs, takenOf, cksIn}
+use Rattle.frame.specs.Decoder.{Decoder, possibleOf, idleDrops, afterAa, refusedBy, stepOf, stepAt, takenAs, takenOf, cksIn}
 use Rattle.frame.specs.Run.{nothing, outcomeOf}
 use Rattle.frame.specs.Promises.{placedAt, Waits, resumedAt, Resumes}
 use Rattle.frame.proofs.Laws.{taken-done}

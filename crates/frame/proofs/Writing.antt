@@ -18,13 +18,11 @@ use Rattle.frame.specs.declared.Kind.{Kind}
 use Rattle.frame.specs.declared.Kind.the-variants.{Message, Ack, Nak}
 use Rattle.frame.specs.declared.decoder.Place.{Place}
 use Rattle.frame.specs.declared.decoder.Place.the-variants.{Idle, LoneAa, Seq, AddrHigh, AddrLow, LenHigh, LenLow, Info, InfoAa, CloseAa, CloseCc, Err, Cks}
-use Rattle.frame.specs.declared.decoder.Decoder.{Decoder}
 use Rattle.frame.specs.declared.decoder.Found.{Found}
 use Rattle.frame.specs.declared.decoder.Found.the-variants as found
-use Rattle.frame.specs.declared.decoder.Taken.{Taken}
 use Rattle.frame.specs.declared.decoder.Stepped.{Stepped}
 use Rattle.frame.specs.Frame.{Frame, message, ack, nak, kindOf, seqOf, addrOf, messageLen, ackLen, nakLen, infoLeast, infoMost, lenFits, infoFits, opener, front, frontOf, bodyOf, sentOf, cksOf, twice, doubled, written}
-use Rattle.frame.specs.Decoder.{headOf, possibleOf, infoDue, infoWhole, afterAa, afterLen, cksDue, soundBy, stepOf, stepAt, takenAs, takenOf, cksIn, frontIn}
+use Rattle.frame.specs.Decoder.{Decoder, Taken, headOf, possibleOf, infoDue, infoWhole, afterAa, afterLen, cksDue, soundBy, stepOf, stepAt, takenAs, takenOf, cksIn, frontIn}
 use Rattle.frame.specs.Decoder as decoder
 use Rattle.frame.specs.Run.{nothing, refused, sound, outcomeOf, decoderAfter, AtRest, drops, NothingDropped}
 use Rattle.frame.specs.Promises.{WrittenBack, WritingFramesUndoesReading, Refusable, lenMessage, lenAck, lenNak, doubling, closingAa, closingCc, cksMessage, cksAck, cksNak, RefusedFor, RefusedOnlyThen}

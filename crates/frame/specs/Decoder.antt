@@ -1,9 +1,10 @@
 -- 01, "Frames": "The decoder takes one octet a call."
 use Prim.Native.Nat.{ℕ, _+_, _-_}
+use mathlib.Core.Path.{_≡_}
 use mathlib.Core.Bool.{Bool, true, false, not}
 use mathlib.Core.List.{List, [], _∷_, _++_}
 use lib.Dec.{eqb, ltb}
-use lib.ListN.{take, set, replicate}
+use lib.ListN.{length, take, drop, set}
 use Rattle.octets.specs.Choice.{pick, both}
 use Rattle.octets.specs.ExclusiveOr.{exclusiveOr}
 use Rattle.octets.specs.Refusal as refusal
@@ -13,20 +14,33 @@ use Rattle.frame.specs.declared.Kind.the-variants.{Message, Ack, Nak}
 use Rattle.frame.specs.declared.decoder.Place.{Place}
 use Rattle.frame.specs.declared.decoder.Place.the-variants.{Idle, LoneAa, Seq, AddrHigh, AddrLow, LenHigh, LenLow, Info, InfoAa, CloseAa, CloseCc, Err, Cks}
 use Rattle.frame.specs.declared.decoder.Head.{Head}
-use Rattle.frame.specs.declared.decoder.Decoder.{Decoder}
 use Rattle.frame.specs.declared.decoder.Found.{Found}
 use Rattle.frame.specs.declared.decoder.Found.the-variants as found
-use Rattle.frame.specs.declared.decoder.Taken.{Taken}
+use Rattle.frame.specs.declared.decoder.HeadTaken.{HeadTaken}
 use Rattle.frame.specs.declared.decoder.Stepped.{Stepped}
 use Rattle.frame.specs.Frame.{lenFits, infoMost, messageLen, front}
+
+-- The decoder: its head, and the octets that it keeps for INFO
+pub record Decoder : Type 0 where
+  pub head : Head
+  pub info : List ℕ
+
+-- what a call of it leaves: the refusal, the decoder, and what was found
+pub record Taken : Type 0 where
+  pub refusal : ℕ
+  pub decoder : Decoder
+  pub found : Found
 
 -- A head with all its fields given
 abbrev pub headOf : Place → Kind → ℕ → ℕ → ℕ → ℕ → ℕ → Head
 headOf p k s e a n g = record { place = p; kind = k; seq = s; err = e; addr = a; len = n; filled = g }
 
--- a decoder at rest, with nothing kept
-unfoldable pub freshDecoder : Decoder
-freshDecoder = record { head = headOf Idle Message 0 0 0 0 0; info = replicate infoMost 0 }
+-- a decoder at rest, whatever octets are kept
+unfoldable pub freshHead : Head
+freshHead = headOf Idle Message 0 0 0 0 0
+
+abbrev pub freshDecoder : List ℕ → Decoder
+freshDecoder info = record { head = freshHead; info = info }
 
 -- Which decoders are possible
 
@@ -256,3 +270,31 @@ takenOf d b = pick (possibleOf (d .head)) (stepOf d b) (unsound d)
 -- "A line-idle call, made by the host, returns the decoder to idle and changes nothing else."
 unfoldable pub idledOf : Decoder → Taken
 idledOf d = pick (possibleOf (d .head)) (taken (headAt (d .head) Idle (d .head .kind)) (d .info) found.Nothing) (unsound d)
+
+-- The octets of INFO are lent: the first 256 are the decoder's, those beyond are nobody's
+
+abbrev pub joinedDecoder : Head → List ℕ → Decoder
+joinedDecoder h kept = record { head = h; info = take infoMost kept }
+
+-- with fewer the state handed in is unsound
+unfoldable pub octetLent : Decoder → ℕ → Taken
+octetLent d b = pick (eqb (length (d .info)) infoMost) (takenOf d b) (unsound d)
+
+unfoldable pub idleLent : Decoder → Taken
+idleLent d = pick (eqb (length (d .info)) infoMost) (idledOf d) (unsound d)
+
+-- what a call answers, by the head
+abbrev pub headUnsound : Head → HeadTaken
+headUnsound h = record { refusal = refusal.stateUnsound; head = h; found = found.Nothing }
+
+abbrev pub headTaken : Head → Found → HeadTaken
+headTaken h f = record { refusal = refusal.none; head = h; found = f }
+
+-- and with the octets that it leaves
+abbrev pub takenWith : HeadTaken → List ℕ → Taken
+takenWith r kept = record { refusal = r .refusal; decoder = joinedDecoder (r .head) kept; found = r .found }
+
+-- the call answered r and left the octets k of those that were lent, as it should
+pub record TakenLeaves (w : Taken) (lent : List ℕ) (r : HeadTaken) (k : List ℕ) : Type 0 where
+  pub answer : takenWith r k ≡ w
+  pub beyond : drop infoMost k ≡ drop infoMost lent

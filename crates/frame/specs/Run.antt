@@ -9,12 +9,10 @@ use Rattle.octets.specs.Choice.{both}
 use Rattle.frame.specs.declared.Kind.{Kind}
 use Rattle.frame.specs.declared.decoder.Place.{Place}
 use Rattle.frame.specs.declared.decoder.Place.the-variants.{Idle, LoneAa, Seq, AddrHigh, AddrLow, LenHigh, LenLow, Info, InfoAa, CloseAa, CloseCc, Err, Cks}
-use Rattle.frame.specs.declared.decoder.Decoder.{Decoder}
 use Rattle.frame.specs.declared.decoder.Found.{Found}
 use Rattle.frame.specs.declared.decoder.Found.the-variants as found
-use Rattle.frame.specs.declared.decoder.Taken.{Taken}
 use Rattle.frame.specs.Frame.{Frame, message, ack, nak}
-use Rattle.frame.specs.Decoder.{takenOf}
+use Rattle.frame.specs.Decoder.{Decoder, Taken, takenOf}
 
 -- what an octet brings, in 01's terms: nothing; a frame refused, with the refusal's number and the frame's kind, SEQ and
 -- ADDR; or a sound frame

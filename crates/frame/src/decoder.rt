@@ -1,5 +1,4 @@
-// 01, "Frames": the decoder, and what an octet brings it to.
-use crate::INFO_MOST;
+// 01, "Frames": the decoder, and what an octet brings it to. The octets of INFO are lent to it at each call and stand outside it.
 use crate::Kind;
 
 // What the next octet is to the decoder.
@@ -19,6 +18,7 @@ pub enum Place {
     Cks,
 }
 
+// CKS is worked out at the end from what is kept, so that no two fields can disagree.
 pub struct Head {
     pub place: Place,
     pub kind: Kind,
@@ -31,26 +31,21 @@ pub struct Head {
     pub filled: u16,
 }
 
-// CKS is worked out at the end from what is kept, so that no two fields can disagree.
-pub struct Decoder {
-    pub head: Head,
-    pub info: [u8; INFO_MOST],
-}
-
 // What an octet brought.
 pub enum Found {
     Nothing,
     // A frame was refused: the refusal, and the frame's kind, SEQ and ADDR.
     Refused(u8, Kind, u8, u16),
-    // A sound frame ended: its SEQ and ADDR, and how many octets of the decoder's `info` are its INFO, or its ERR.
+    // A sound frame ended: its SEQ and ADDR, and how many of the octets kept are its INFO, or its ERR.
     Message(u8, u16, u16),
     Ack(u8, u16),
     Nak(u8, u16, u8),
 }
 
-pub struct Taken {
+// What a call of the decoder answers.
+pub struct HeadTaken {
     pub refusal: u8,
-    pub decoder: Decoder,
+    pub head: Head,
     pub found: Found,
 }
 

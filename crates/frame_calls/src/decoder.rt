@@ -5,7 +5,7 @@ ghost use Prim.Native.Nat.{_≤_, _<_};
 ghost use lib.ListN.{take};
 ghost use Rattle.octets.specs.ExclusiveOr.{exclusiveOr};
 ghost use Rattle.frame.specs.Frame.{lenFits, infoMost};
-ghost use Rattle.frame.specs.Decoder.{freshDecoder, hasInfo, infoDue, infoWhole, errDue, cksDue, idleDrops, possibleOf, headAt, foundAt, moved, ended, opened, refusedBy, idleOctet, afterAa, afterLen, lenJudged, afterInfo, kept, infoOctet, infoAaOctet, closeAaOctet, closeCcOctet, cksIn, soundBy, cksOctet, stepAt, takenOf, idledOf};
+ghost use Rattle.frame.specs.Decoder.{freshHead, hasInfo, infoDue, infoWhole, errDue, cksDue, idleDrops, possibleOf, headAt, foundAt, moved, ended, opened, refusedBy, idleOctet, afterAa, afterLen, lenJudged, afterInfo, kept, infoOctet, infoAaOctet, closeAaOctet, closeCcOctet, cksIn, soundBy, cksOctet, stepAt, joinedDecoder, octetLent, idleLent, takenWith, TakenLeaves, headUnsound, headTaken};
 use crate::AA;
 use crate::ACK_LEN;
 use crate::BB;
@@ -17,78 +17,82 @@ use crate::MESSAGE_LEN;
 use crate::NAK_LEN;
 use frame::INFO_MOST;
 use frame::Kind;
-use frame::decoder::Decoder;
 use frame::decoder::Found;
 use frame::decoder::Head;
+use frame::decoder::HeadTaken;
 use frame::decoder::Place;
 use frame::decoder::Stepped;
-use frame::decoder::Taken;
 use octets::refusal;
 
-// A decoder at rest, with nothing kept.
-pub fn fresh() -> Decoder
-    ensures { λ r. ⌜ r ≡ freshDecoder ⌝ }
+// A decoder at rest. What the octets then hold that are lent for INFO does not matter.
+pub fn fresh() -> Head
+    ensures { λ r. ⌜ r ≡ freshHead ⌝ }
 {
-    Decoder {
-        head: Head {
-            place: Place::Idle,
-            kind: Kind::Message,
-            seq: 0,
-            err: 0,
-            addr: 0,
-            len: 0,
-            filled: 0,
-        },
-        info: [0u8; INFO_MOST],
+    Head {
+        place: Place::Idle,
+        kind: Kind::Message,
+        seq: 0,
+        err: 0,
+        addr: 0,
+        len: 0,
+        filled: 0,
     }
 }
 
-// Takes one octet. An impossible decoder is refused and comes back as it was.
-pub fn octet(d: Decoder, b: u8) -> Taken
-    ensures { λ r. ⌜ r ≡ takenOf d b ⌝ }
+// Takes one octet; the first 256 of `kept` are the decoder's octets of INFO. An impossible decoder, or one that is lent fewer, is
+// refused and comes back as it was.
+pub fn octet(h: Head, kept: &mut [u8], b: u8) -> HeadTaken
+    ensures { λ r. ⌜ TakenLeaves (octetLent (joinedDecoder h (now (kept .entry))) b) (now (kept .entry)) r (now (kept .exit)) ⌝ }
 {
-    let h = d.head;
-    if !possible(h) {
-        return Taken {
-            refusal: refusal::STATE_UNSOUND,
-            decoder: d,
-            found: Found::Nothing,
-        };
+    if kept.len() < INFO_MOST {
+        return unsound(h);
     }
-    let mut info = d.info;
-    let t = step(h, &info, b);
+    if !possible(h) {
+        return unsound(h);
+    }
+    let t = step(h, &kept[0..INFO_MOST], b);
     let head = t.head;
     let found = t.found;
     if t.keeps {
         let at = h.filled as usize;
-        info[at] = b;
+        kept[at] = b;
+        return taken(head, found);
     }
-    Taken {
-        refusal: refusal::NONE,
-        decoder: Decoder { head, info },
-        found,
-    }
+    taken(head, found)
 }
 
 // "A line-idle call, made by the host, returns the decoder to idle and changes nothing else."
-pub fn line_idle(d: Decoder) -> Taken
-    ensures { λ r. ⌜ r ≡ idledOf d ⌝ }
+pub fn line_idle(h: Head, kept: &[u8]) -> HeadTaken
+    ensures { λ r. ⌜ takenWith r (now (kept .entry)) ≡ idleLent (joinedDecoder h (now (kept .entry))) ⌝ }
 {
-    let h = d.head;
+    if kept.len() < INFO_MOST {
+        return unsound(h);
+    }
     if !possible(h) {
-        return Taken {
-            refusal: refusal::STATE_UNSOUND,
-            decoder: d,
-            found: Found::Nothing,
-        };
+        return unsound(h);
     }
     let k = h.kind;
-    let head = placed(h, Place::Idle, k);
-    let info = d.info;
-    Taken {
-        refusal: refusal::NONE,
-        decoder: Decoder { head, info },
+    taken(placed(h, Place::Idle, k), Found::Nothing)
+}
+
+// "state handed in is unsound": "same state"
+fn unsound(h: Head) -> HeadTaken
+    ensures { λ r. ⌜ r ≡ headUnsound h ⌝ }
+{
+    HeadTaken {
+        refusal: refusal::STATE_UNSOUND,
+        head: h,
         found: Found::Nothing,
+    }
+}
+
+fn taken(head: Head, found: Found) -> HeadTaken
+    ensures { λ r. ⌜ r ≡ headTaken head found ⌝ }
+{
+    HeadTaken {
+        refusal: refusal::NONE,
+        head,
+        found,
     }
 }
 

@@ -1,26 +1,51 @@
--- `frame_calls::decoder::octet` meets its contract: the test of the state is the one of the definition, the step is its own, and INFO changes where the step keeps the octet.
+-- `frame_calls::decoder::octet` meets its contract: the tests of the state are those of the definition, the step is its own, and an octet of INFO is stored where the step keeps it.
 use mathlib.Core.Path.{sym, ap, _∙_}
+use native.Mathlib.Omega.{arith}
 use borrow.Author.Tests.{not-true, not-false}
 use Rattle.frame.specs.declared.decoder.Stepped.{Stepped}
-use Rattle.frame.proofs.Laws.{keeps-room, taken-7, taken-as}
+use Rattle.frame.proofs.Laws.{keeps-room}
+use Rattle.frame.proofs.Lent.{leaves-short, leaves-7, leaves-kept, leaves-other}
 use borrow.Author.Needs.{needs}
 use Rattle.frame_calls.proofs.decoder.octet.Statement.{statement}
 use Rattle.frame_calls.proofs.decoder.octet.Tie as tie
 
 returns : tie.Need-returns
-returns c = let a = c .before .before .before .args in sym (taken-7 (a .d) (a .b) (sym (c .before .possible .ensures) ∙ not-true _ (c .if1 .taken)))
-
-step-requires : tie.Need-step-requires
-step-requires c κs = sym (c .before .before .before .possible .ensures) ∙ not-false _ (c .before .before .if1 .left)
-
-array-write-info : tie.Need-array-write-info
-array-write-info c = let a = c .before .before .before .before .before .before .before .before .before .args in keeps-room (a .d .head) (a .d .info) (a .b) (sym (c .before .before .before .before .before .before .before .possible .ensures) ∙ not-false _ (c .before .before .before .before .before .before .if1 .left)) (ap (λ (t : Stepped). t .keeps) (sym (c .before .before .before .step .ensures)) ∙ c .before .if2 .taken)
+returns c = let a = c .before .before .before .args in rw (c .unsound .ensures) (leaves-short (a .h) (a .kept .now) (a .b) (c .before .if1 .taken))
 
 returns-2 : tie.Need-returns-2
-returns-2 c = let a = c .before .before .before .before .before .before .before .before .before .args in sym (taken-as (a .d) (a .b) (sym (c .before .before .before .before .before .before .before .possible .ensures) ∙ not-false _ (c .before .before .before .before .before .before .if1 .left)) (c .before .before .before .step .ensures) (c .before .if2 .taken))
+returns-2 c =
+    let p = c .before .before in
+    let a = p .before .before .before .args in
+    rw (c .unsound2 .ensures) (leaves-7 (a .h) (a .kept .now) (a .b) (p .before .if1 .left) (sym (p .possible .ensures) ∙ not-true _ (c .before .if2 .taken)))
+
+step-requires : tie.Need-step-requires
+step-requires c κs = sym (c .before .before .before .possible .ensures) ∙ not-false _ (c .before .before .if2 .left)
+
+slice-write-kept : tie.Need-slice-write-kept
+slice-write-kept c =
+    let t = c .before .before .before in
+    let q = t .before .before .before in
+    let p = q .before in
+    let a = p .before .before .before .args in
+    let r = keeps-room (a .h) _ (a .b) (sym (p .possible .ensures) ∙ not-false _ (q .if2 .left)) (sym (ap (λ (u : Stepped). u .keeps) (t .step .ensures)) ∙ c .before .if3 .taken) in
+    let l = p .before .if1 .left in
+    omega arith
 
 returns-3 : tie.Need-returns-3
-returns-3 c = let a = c .before .before .before .before .before .before .before .before .args in sym (taken-as (a .d) (a .b) (sym (c .before .before .before .before .before .before .possible .ensures) ∙ not-false _ (c .before .before .before .before .before .if1 .left)) (c .before .before .step .ensures) (c .if2 .left))
+returns-3 c =
+    let t = c .before .before .before .before in
+    let q = t .before .before .before in
+    let p = q .before in
+    let a = p .before .before .before .args in
+    rw (c .taken .ensures) (leaves-kept (a .h) (a .kept .now) (a .b) (p .before .if1 .left) (sym (p .possible .ensures) ∙ not-false _ (q .if2 .left)) (t .step .ensures) (c .before .before .if3 .taken))
+
+returns-4 : tie.Need-returns-4
+returns-4 c =
+    let t = c .before .before .before in
+    let q = t .before .before .before in
+    let p = q .before in
+    let a = p .before .before .before .args in
+    rw (c .taken2 .ensures) (leaves-other (a .h) (a .kept .now) (a .b) (p .before .if1 .left) (sym (p .possible .ensures) ∙ not-false _ (q .if2 .left)) (t .step .ensures) (c .before .if3 .left))
 
 pub octet-spec : {M : Type 1} → statement M
 octet-spec =
@@ -28,9 +53,18 @@ octet-spec =
     (tie.spec
     (λ c κs. search needs)
     returns
+    (λ c κs. search needs)
+    (λ c κs. search needs)
+    returns-2
+    (λ c. search needs)
+    (λ c. search needs)
     (λ c. search needs)
     step-requires
     (λ c. search needs)
-    array-write-info
-    returns-2
-    returns-3)
+    slice-write-kept
+    (λ c κs. search needs)
+    (λ c. search needs)
+    returns-3
+    (λ c κs. search needs)
+    (λ c. search needs)
+    returns-4)

@@ -1,0 +1,93 @@
+-- The head and the octets lent make one decoder, and with the octets beyond it tells them both.
+use Prim.Native.Nat.{ℕ, _≤_, _<_}
+use mathlib.Core.Path.{_≡_, refl, sym, ap, _∙_}
+use mathlib.Core.Bool.{true, false}
+use mathlib.Core.List.{List, _++_}
+use native.Mathlib.Omega.{arith}
+use borrow.Author.Tests.{eq-eqb, ne-eqb}
+use lib.Dec.{eqb}
+use lib.ListN.{length, take, drop, set, take-append-drop, length-take}
+use lib.Seq.{length-take-le, take-set-lt, drop-set-lt}
+use Rattle.frame.specs.declared.decoder.Head.{Head}
+use Rattle.frame.specs.declared.decoder.HeadTaken.{HeadTaken}
+use Rattle.frame.specs.Frame.{infoMost}
+use Rattle.frame.specs.declared.decoder.Place.the-variants.{Idle}
+use Rattle.frame.specs.declared.decoder.Found.the-variants as found
+use Rattle.frame.specs.declared.decoder.Stepped.{Stepped}
+use Rattle.frame.specs.Decoder.{Taken, possibleOf, headAt, stepAt, joinedDecoder, octetLent, idleLent, headUnsound, headTaken, takenWith, TakenLeaves}
+use Rattle.frame.specs.Promises.{OctetsLent}
+use Rattle.frame.proofs.Laws.{idled-7, idled-done, taken-7, taken-as, keeps-room}
+
+-- a list is its first n and those beyond
+pub parted : (n : ℕ) (k l : List ℕ) → take n k ≡ take n l → drop n k ≡ drop n l → k ≡ l
+parted n k l e d = sym (take-append-drop n k) ∙ (λ i. e i ++ d i) ∙ take-append-drop n l
+
+pub taken-one-to-one : (r s : HeadTaken) (k l : List ℕ) → takenWith r k ≡ takenWith s l → drop infoMost k ≡ drop infoMost l → (r ≡ s) × (k ≡ l)
+taken-one-to-one r s k l e d =
+    ((λ i. record { refusal = e i .refusal; head = e i .decoder .head; found = e i .found }), parted infoMost k l (λ i. e i .decoder .info) d)
+
+take-short : (n : ℕ) (l : List ℕ) → length (take n l) ≤ length l
+take-short n l = omega (arith, length-take n l)
+
+-- are there enough?
+pub enough : (h : Head) (kept : List ℕ) → infoMost ≤ length kept → eqb (length (joinedDecoder h kept .info)) infoMost ≡ true
+enough h kept l = eq-eqb (length (take infoMost kept)) infoMost (length-take-le infoMost kept l)
+
+pub short : (h : Head) (kept : List ℕ) → length kept < infoMost → eqb (length (joinedDecoder h kept .info)) infoMost ≡ false
+short h kept l = ne-eqb (length (take infoMost kept)) infoMost (λ e. absurd (omega (arith, take-short infoMost kept)))
+
+pub octets-lent : OctetsLent
+unfolding octetLent idleLent
+octets-lent = (
+  λ h kept. record {
+    joined = refl;
+    octetShort = λ b l. rw (short h kept l);
+    octetEnough = λ b l. rw (enough h kept l);
+    idleShort = λ l. rw (short h kept l);
+    idleEnough = λ l. rw (enough h kept l);
+  },
+  λ w lent r k t. record {
+    refusal = ap (λ (x : Taken). x .refusal) (t .answer);
+    head = ap (λ (x : Taken). x .decoder .head) (t .answer);
+    found = ap (λ (x : Taken). x .found) (t .answer);
+    octets = sym (take-append-drop infoMost k) ∙ (λ i. t .answer i .decoder .info ++ t .beyond i);
+  },
+)
+
+-- What the code does, it did
+
+module _ (h : Head) (kept : List ℕ) where
+  pub idle-short : length kept < infoMost → takenWith (headUnsound h) kept ≡ idleLent (joinedDecoder h kept)
+  unfolding idleLent
+  idle-short l = rw (short h kept l)
+
+  pub idle-7 : infoMost ≤ length kept → possibleOf h ≡ false → takenWith (headUnsound h) kept ≡ idleLent (joinedDecoder h kept)
+  unfolding idleLent
+  idle-7 l p = rw (enough h kept l) (sym (idled-7 (joinedDecoder h kept) p))
+
+  pub idle-done : infoMost ≤ length kept → possibleOf h ≡ true → takenWith (headTaken (headAt h Idle (h .kind)) found.Nothing) kept ≡ idleLent (joinedDecoder h kept)
+  unfolding idleLent
+  idle-done l p = rw (enough h kept l) (sym (idled-done (joinedDecoder h kept) p))
+
+  module _ (b : ℕ) where
+    pub leaves-short : length kept < infoMost → TakenLeaves (octetLent (joinedDecoder h kept) b) kept (headUnsound h) kept
+    unfolding octetLent
+    leaves-short l = record { answer = rw (short h kept l); beyond = refl }
+
+    pub leaves-7 : infoMost ≤ length kept → possibleOf h ≡ false → TakenLeaves (octetLent (joinedDecoder h kept) b) kept (headUnsound h) kept
+    unfolding octetLent
+    leaves-7 l p = record { answer = rw (enough h kept l) (sym (taken-7 (joinedDecoder h kept) b p)); beyond = refl }
+
+    module _ {t : Stepped} (l : infoMost ≤ length kept) (p : possibleOf h ≡ true) (e : t ≡ stepAt (h .place) h (take infoMost kept) b) where
+      pub leaves-kept : t .keeps ≡ true → TakenLeaves (octetLent (joinedDecoder h kept) b) kept (headTaken (t .head) (t .found)) (set kept (h .filled) b)
+      unfolding octetLent
+      leaves-kept q =
+          let r = keeps-room h (take infoMost kept) b p (sym (ap (λ (u : Stepped). u .keeps) e) ∙ q) in
+          record {
+            answer = rw (enough h kept l, take-set-lt infoMost kept (h .filled) b r) (sym (taken-as (joinedDecoder h kept) b p e q));
+            beyond = drop-set-lt infoMost kept (h .filled) b r;
+          }
+
+      pub leaves-other : t .keeps ≡ false → TakenLeaves (octetLent (joinedDecoder h kept) b) kept (headTaken (t .head) (t .found)) kept
+      unfolding octetLent
+      leaves-other q = record { answer = rw (enough h kept l) (sym (taken-as (joinedDecoder h kept) b p e q)); beyond = refl }
