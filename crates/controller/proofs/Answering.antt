@@ -1,27 +1,29 @@
 -- Demand 1, but that soundness is kept: which states are sound, what each call refuses, and what is left alone.
 use Prim.Native.Nat.{ℕ, _≤_, _<_}
 use mathlib.Core.Path.{_≡_, refl, sym, ap, subst, _∙_}
-use mathlib.Core.Bool.{Bool, true, false}
+use mathlib.Core.Bool.{Bool, true, false, not}
 use mathlib.Core.Logic.{_⊎_, inl, inr}
 use mathlib.Core.List.{List, [], _++_}
 use native.Mathlib.Decide.{decLt, ℕ-discrete}
 use native.Mathlib.Nat.{zero-add}
 use native.Mathlib.Omega.{arith}
 use borrow.Author.Tests.{eq-eqb, ne-eqb}
-use lib.Dec.{eqb}
-use lib.ListN.{length, take, drop}
+use lib.Dec.{eqb, leb}
+use lib.ListN.{length, take, drop, take-append-drop}
 use lib.Seq.{sets, sets-eq, length-sets, take-at, drop-at}
-use Rattle.octets.specs.Choice.{pick}
+use Rattle.octets.specs.Choice.{pick, both}
 use Rattle.octets.specs.Refusal as refusal
 use Rattle.octets.proofs.Laws.{pick-by}
 use Rattle.frame.specs.declared.Kind.{Kind}
 use Rattle.frame.specs.declared.Kind.the-variants.{Message, Ack, Nak}
 use Rattle.frame.specs.declared.decoder.Found.{Found}
 use Rattle.frame.specs.declared.decoder.Found.the-variants as found
-use Rattle.frame.specs.Frame.{Frame}
-use Rattle.frame.specs.Decoder.{freshDecoder, takenOf}
+use Rattle.frame.specs.Frame.{Frame, infoMost}
+use Rattle.frame.specs.Decoder.{freshHead, possibleOf, takenOf}
 use Rattle.frame.specs.Run.{foundMeans, outcomeOf}
 use Rattle.frame.proofs.Laws.{idled-done}
+use Rattle.frame.proofs.Lent.{parted}
+use Rattle.frame.proofs.Lent as lent
 use Rattle.message.specs.declared.Read.{Read}
 use Rattle.message.specs.Reader as reader
 use Rattle.message.specs.Names.{planAt}
@@ -32,22 +34,24 @@ use Rattle.message.proofs.ReadSo.{read-so}
 use Rattle.plan.specs.declared.Which.{Which}
 use Rattle.plan.specs.declared.Which.the-variants.{New, Old}
 use Rattle.plan.specs.declared.setting.Answered.{Answered}
-use Rattle.record.specs.Record.{bookLen, empty, kOf}
+use Rattle.record.specs.Record.{bookLen, plansMost, empty, kOf}
 use Rattle.checks.specs.Standing.{timesDisagree, planDisagree, standingOf, Stands}
 use Rattle.plan.specs.Reading.{recordAt}
 use Rattle.plan.specs.Setting.{Setting, setTimesCode, setPlanCode, planIn, countIn, notMade, readyRecord, timesMade, readyMade, keptAs, otherCode, setFront, setOf, setTimesOf, setPlanOf}
 use Rattle.checks.proofs.Stands.{stands-as-it-is}
 use Rattle.controller.specs.declared.Running.{Running}
-use Rattle.controller.specs.declared.State.{State}
 use Rattle.controller.specs.declared.Event.{Event}
 use Rattle.controller.specs.declared.Event.the-variants as event
 use Rattle.controller.specs.declared.Handled.{Handled}
-use Rattle.controller.specs.State.{all, outputLen, planRecord, readyIn, freshOf, soundOf}
+use Rattle.controller.specs.declared.Held.{Held}
+use Rattle.controller.specs.declared.HeldAnswer.{HeldAnswer}
+use Rattle.controller.specs.declared.HeldShown.{HeldShown}
+use Rattle.controller.specs.State.{State, joined, runningSound, all, outputLen, planRecord, readyIn, freshOf, soundOf}
 use Rattle.controller.specs.Handling as handling
 use Rattle.controller.specs.Handling.{setAs, unlessUnread, runAs, queryTimesAs, queryPlanAs, queryRunningAs, handlingOf}
-use Rattle.controller.specs.Replies.{Call, sent, refusedCall, errOf, naks, acks, forUs, isAnswer, repliesOf, CanFind, ResultAndBook, unchanged, leaves, repliedOf, messageOf, eventFor, broughtOf, madeOf, octetOf}
-use Rattle.controller.specs.Seconds.{startedOf, secondOf, noSecond}
-use Rattle.controller.specs.Demand1.{Sound, SoundAsItIs, OctetRefused, CallRefused, InDone, OctetsAnswered, SecondRefused, ShownRefused, SecondsAnswered, IdlesAnswered, StartAnswered, StartsAnswered, RefusedLeavesBook, OutputsLeft, NumbersAsSaid, CallsLeaveSo}
+use Rattle.controller.specs.Replies.{Answer, Call, answerWith, sent, refusedCall, errOf, naks, acks, forUs, isAnswer, repliesOf, CanFind, ResultAndBook, unchanged, leaves, repliedOf, messageOf, eventFor, broughtOf, madeOf, octetOf}
+use Rattle.controller.specs.Seconds.{shownWith, startedOf, secondOf, noSecond}
+use Rattle.controller.specs.Demand1.{Sound, SoundAsItIs, OctetRefused, CallRefused, InDone, OctetsAnswered, SecondRefused, ShownRefused, SecondsAnswered, IdlesAnswered, StartAnswered, StartsAnswered, RefusedLeavesBook, OutputsLeft, NumbersAsSaid, JoinedSo, CallsLeaveSo, RefusedAsCame, FewerRefused}
 use Rattle.controller.proofs.Laws.{octet-7, octet-8, octet-9, octet-brings, idle-7, idle-done, second-7, second-8, second-done}
 use Rattle.controller.proofs.Judging.{RunningParts, SoundParts, sound-parts, parts-sound}
 use Rattle.controller.proofs.Keeping.{fresh-sound}
@@ -68,6 +72,7 @@ sound-as-it-is s o = record { from = λ h. from (sound-parts s h); to = λ h. pa
           own = p .own;
           requested = p .requested;
           decoder = p .decoder;
+          info = p .info;
           running = record { position = u .position; plan = u .plan; checks = stands .readyFrom (u .checks); zero = u .zero };
         }
 
@@ -78,25 +83,26 @@ sound-as-it-is s o = record { from = λ h. from (sound-parts s h); to = λ h. pa
           own = p .own;
           requested = p .requested;
           decoder = p .decoder;
+          info = p .info;
           running = record { position = u .position; plan = u .plan; checks = stands .readyTo (u .checks); zero = u .zero };
         }
 
 -- The fresh start
 
-start-answered : (which : Which) (own : ℕ) → StartAnswered which own (startedOf which own)
-unfolding startedOf soundOf freshOf freshDecoder
-start-answered which own =
+start-answered : (which : Which) (own : ℕ) (kept : List ℕ) → StartAnswered which own kept (startedOf which own kept)
+unfolding startedOf soundOf freshOf freshHead
+start-answered which own kept =
     record {
       state = refl;
       others = refl;
       refused = λ e. (rw (eq-eqb own all e), rw (eq-eqb own all e));
-      done = λ n. (rw (ne-eqb own all n), fresh-sound which own n);
+      done = λ n. (rw (ne-eqb own all n), fresh-sound which own kept n);
       fresh = refl;
       started = refl;
     }
 
 pub starts-answered : StartsAnswered
-starts-answered own = (start-answered New own, start-answered Old own)
+starts-answered own kept = (start-answered New own kept, start-answered Old own kept)
 
 -- The line-idle call
 
@@ -244,42 +250,42 @@ pub record Right (book : List ℕ) (w : ResultAndBook) : Type 0 where
   pub leaves : (w .result .refusal ≡ refusal.none → ⊥) → w .book ≡ book
   pub fits : FramesFit (w .result .frames)
 
-module _ (own ours requested : ℕ) (u : Running) (book : List ℕ) where
+module _ (s : State) (book : List ℕ) where
   -- a frame refused or dropped, an ACK, an event
-  unchanged-right : (n : ℕ) (e : Event) (fs : List Frame) → n ≤ refusal.lenWrong → FramesFit fs → Right book (leaves book (unchanged n e fs ours requested))
+  unchanged-right : (n : ℕ) (e : Event) (fs : List Frame) → n ≤ refusal.lenWrong → FramesFit fs → Right book (leaves book (unchanged s n e fs))
   unchanged-right n e fs l f = record { names = inl l; leaves = λ _. refl; fits = f }
 
-  module _ (p : RunningParts u) (hb : length book ≡ bookLen) where
-    message-right : (seq addr : ℕ) (info : List ℕ) → Right book (messageOf own ours requested u seq addr info book)
+  module _ (p : RunningParts (s .running)) (hb : length book ≡ bookLen) where
+    message-right : (seq addr : ℕ) (info : List ℕ) → Right book (messageOf s seq addr info book)
     unfolding messageOf repliedOf
     message-right seq addr info =
-        pick-by (Right book) (forUs own addr)
-        (λ _. pick-by (Right book) (isAnswer (codeIn info)) (λ _. unchanged-right refusal.none event.Nothing (acks own seq addr) (omega arith) (acks-fit own seq addr))
-        (λ _. record { names = handled-in-done u requested book info hb; leaves = handled-leaves u requested book info; fits = frames }))
+        pick-by (Right book) (forUs (s .own) addr)
+        (λ _. pick-by (Right book) (isAnswer (codeIn info)) (λ _. unchanged-right refusal.none event.Nothing (acks (s .own) seq addr) (omega arith) (acks-fit (s .own) seq addr))
+        (λ _. record { names = handled-in-done (s .running) (s .requested) book info hb; leaves = handled-leaves (s .running) (s .requested) book info; fits = frames }))
         (λ _. unchanged-right refusal.none event.Nothing [] (omega arith) none-fit)
       where
         reply : List ℕ
-        reply = infoOf (handlingOf u requested book info .handled .reply)
+        reply = infoOf (handlingOf (s .running) (s .requested) book info .handled .reply)
 
-        frames : FramesFit (pick (eqb addr own) (repliesOf seq ours own reply) [])
-        frames = pick-by FramesFit (eqb addr own) (λ _. sent-most seq ours own reply (reply-fits u requested book info (p .checks) (p .plan) hb)) (λ _. none-fit)
+        frames : FramesFit (pick (eqb addr (s .own)) (repliesOf seq (s .seq) (s .own) reply) [])
+        frames = pick-by FramesFit (eqb addr (s .own)) (λ _. sent-most seq (s .seq) (s .own) reply (reply-fits (s .running) (s .requested) book info (p .checks) (p .plan) hb)) (λ _. none-fit)
 
-    brought-right : (f : Found) (kept : List ℕ) → CanFind f → Right book (broughtOf (foundMeans f kept) own ours requested u book)
+    brought-right : (f : Found) (kept : List ℕ) → CanFind f → Right book (broughtOf (foundMeans f kept) s book)
     brought-right found.Nothing kept c = unchanged-right refusal.none event.Nothing [] (omega arith) none-fit
-    brought-right (found.Refused n k seq addr) kept c = unchanged-right n event.Nothing (naks k own n seq addr) c (naks-fit k own n seq addr)
+    brought-right (found.Refused n k seq addr) kept c = unchanged-right n event.Nothing (naks k (s .own) n seq addr) c (naks-fit k (s .own) n seq addr)
     brought-right (found.Message seq addr n) kept c = message-right seq addr (take n kept)
-    brought-right (found.Ack seq addr) kept c = unchanged-right refusal.none (eventFor own addr (event.Ack seq)) [] (omega arith) none-fit
-    brought-right (found.Nak seq addr err) kept c = unchanged-right refusal.none (eventFor own addr (event.Nak seq err)) [] (omega arith) none-fit
+    brought-right (found.Ack seq addr) kept c = unchanged-right refusal.none (eventFor (s .own) addr (event.Ack seq)) [] (omega arith) none-fit
+    brought-right (found.Nak seq addr err) kept c = unchanged-right refusal.none (eventFor (s .own) addr (event.Nak seq err)) [] (omega arith) none-fit
 
 module _ (s : State) (book out : List ℕ) (b : ℕ) where
   abbrev pub brought : ResultAndBook
-  brought = broughtOf (outcomeOf (takenOf (s .decoder) b)) (s .own) (s .seq) (s .requested) (s .running) book
+  brought = broughtOf (outcomeOf (takenOf (s .decoder) b)) s book
 
   pub octet-right : soundOf s ≡ true → length book ≡ bookLen → Right book brought
   octet-right h hb =
       let p = sound-parts s h in
       let t = takenOf (s .decoder) b in
-      brought-right (s .own) (s .seq) (s .requested) (s .running) book (p .running) hb (t .found) (t .decoder .info) (can-find (s .decoder) b (p .decoder))
+      brought-right s book (p .running) hb (t .found) (t .decoder .info) (can-find (s .decoder) b (p .decoder))
 
 pub octet-refused : (s : State) (book out : List ℕ) (b : ℕ) {n : ℕ} → OctetRefused s book out n → octetOf s book out b ≡ refusedCall s n book out
 octet-refused s book out b (OctetRefused.unsound h) = octet-7 s book out b h
@@ -316,7 +322,7 @@ octet-by P s book out b r d = by (octets-answered s book out b .either)
 -- What is left alone
 
 pub refused-leaves-book : RefusedLeavesBook
-refused-leaves-book s book out b = octet-by (λ w. (w .answer .refusal ≡ refusal.none → ⊥) → w .book ≡ book) s book out b (λ n _. refl) (λ _ w r. r .leaves)
+refused-leaves-book s book out b = octet-by (λ w. (w .answer .told .refusal ≡ refusal.none → ⊥) → w .book ≡ book) s book out b (λ n _. refl) (λ _ w r. r .leaves)
 
 -- the frames stand at the front of the output, and the rest of it stays
 module _ (vs out : List ℕ) (h : length vs ≤ length out) where
@@ -330,10 +336,10 @@ module _ (vs out : List ℕ) (h : length vs ≤ length out) where
   written-drop = rw written-front (drop-at vs (drop (length vs) out) (length vs) refl)
 
 record Leaves (out : List ℕ) (w : Call) : Type 0 where
-  beyond : drop (w .answer .count) (w .out) ≡ drop (w .answer .count) out
+  beyond : drop (w .answer .told .count) (w .out) ≡ drop (w .answer .told .count) out
   long : length (w .out) ≡ length out
-  within : w .answer .count ≤ length out
-  most : w .answer .count ≤ outputLen
+  within : w .answer .told .count ≤ length out
+  most : w .answer .told .count ≤ outputLen
 
 pub outputs-left : OutputsLeft
 outputs-left s book out b =
@@ -352,5 +358,50 @@ outputs-left s book out b =
 pub numbers-as-said : NumbersAsSaid
 numbers-as-said = (refl, refl, refl, refl, refl)
 
+-- The state by parts
+
+pub joined-so : JoinedSo
+joined-so s kept = refl
+
 pub calls-leave-so : CallsLeaveSo
-calls-leave-so w r b o l = (l .answer, l .book, l .out)
+calls-leave-so w lent r k b o l =
+    let e = l .answer in
+    record {
+      own = ap (λ (a : Answer). a .state .own) e;
+      seq = ap (λ (a : Answer). a .state .seq) e;
+      requested = ap (λ (a : Answer). a .state .requested) e;
+      head = ap (λ (a : Answer). a .state .decoder .head) e;
+      running = ap (λ (a : Answer). a .state .running) e;
+      told = ap (λ (a : Answer). a .told) e;
+      info = sym (take-append-drop infoMost k) ∙ (λ i. e i .state .decoder .info ++ l .beyond i);
+      book = l .book;
+      out = l .out;
+    }
+
+-- the struct in a state: that of `joined s kept` is s
+abbrev held : State → Held
+held s = record { own = s .own; seq = s .seq; requested = s .requested; head = s .decoder .head; running = s .running }
+
+pub one-to-one : (s t : Held) (k l : List ℕ) → joined s k ≡ joined t l → drop infoMost k ≡ drop infoMost l → (s ≡ t) × (k ≡ l)
+one-to-one s t k l e d = (ap held e, parted infoMost k l (ap (λ (s : State). s .decoder .info) e) d)
+
+pub answer-one-to-one : (r q : HeldAnswer) (k l : List ℕ) → answerWith r k ≡ answerWith q l → drop infoMost k ≡ drop infoMost l → (r ≡ q) × (k ≡ l)
+answer-one-to-one r q k l e d = ((λ i. record { state = held (e i .state); told = e i .told }), parted infoMost k l (λ i. e i .state .decoder .info) d)
+
+pub shown-one : (r q : HeldShown) (k : List ℕ) → shownWith r k ≡ shownWith q k → r ≡ q
+shown-one r q k e i = record { state = held (e i .state); told = e i .told; plan = e i .plan; row = e i .row }
+
+pub refused-as-came : RefusedAsCame
+refused-as-came s lent book out b n x r k b′ o l =
+    let e = octet-refused (joined s lent) book out b x in
+    let j = one-to-one (r .state) s k lent (ap (λ (a : Answer). a .state) (l .answer ∙ ap (λ (w : Call). w .answer) e)) (l .beyond) in
+    record { state = j .0; octets = j .1; plans = l .book ∙ ap (λ (w : Call). w .book) e; output = l .out ∙ ap (λ (w : Call). w .out) e }
+
+pub fewer-refused : FewerRefused
+unfolding soundOf
+fewer-refused s kept l = by (not (eqb (s .own) all)) (leb (s .requested) plansMost)
+  where
+    by : (a b : Bool) → both a (both b (both (eqb (length (take infoMost kept)) infoMost) (both (possibleOf (s .head)) (runningSound (s .running))))) ≡ false
+    by false b = refl
+    by true false = refl
+    by true true = rw (lent.short (s .head) kept l)

@@ -5,9 +5,11 @@ use mathlib.Core.Bool.{Bool, true, not}
 use mathlib.Core.List.{List}
 use borrow.Author.Tests.{eq-eqb, ne-eqb, lt-ltb, le-leb, eqb-true, ltb-true, leb-true}
 use lib.Dec.{eqb, ltb, leb}
+use lib.ListN.{length}
 use Rattle.octets.specs.Choice.{pick, both}
 use Rattle.octets.specs.Octet.{Octets}
 use Rattle.octets.proofs.Laws.{pick-by, both-left, both-right, clash, octets-part}
+use Rattle.frame.specs.Frame.{infoMost}
 use Rattle.frame.specs.Decoder.{possibleOf}
 use Rattle.record.specs.Record.{recordLen, plansMost, ready, cycleOf}
 use Rattle.checks.specs.Standing.{standingOf}
@@ -17,8 +19,7 @@ use Rattle.plan.specs.Reading.{recordStart, same}
 use Rattle.plan.proofs.Laws.{same-is, is-same}
 use Rattle.plan.proofs.Cases.{octets-built-in}
 use Rattle.controller.specs.declared.Running.{Running}
-use Rattle.controller.specs.declared.State.{State}
-use Rattle.controller.specs.State.{all, runningSound, soundOf, planRecord}
+use Rattle.controller.specs.State.{State, all, runningSound, soundOf, planRecord}
 
 pub four : (a b c d : Bool) → both a (both b (both c d)) ≡ true → (a ≡ true) × (b ≡ true) × (c ≡ true) × (d ≡ true)
 four a b c d h =
@@ -61,6 +62,7 @@ module _ (u : Running) where
 pub record SoundParts (s : State) : Type 0 where
   pub own : s .own ≡ all → ⊥
   pub requested : s .requested ≤ plansMost
+  pub info : length (s .decoder .info) ≡ infoMost
   pub decoder : possibleOf (s .decoder .head) ≡ true
   pub running : RunningParts (s .running)
 
@@ -68,17 +70,19 @@ module _ (s : State) where
   pub sound-parts : soundOf s ≡ true → SoundParts s
   unfolding soundOf
   sound-parts h =
-      let p = four (not (eqb (s .own) all)) (leb (s .requested) plansMost) (possibleOf (s .decoder .head)) (runningSound (s .running)) h in
+      let g = both (possibleOf (s .decoder .head)) (runningSound (s .running)) in
+      let p = four (not (eqb (s .own) all)) (leb (s .requested) plansMost) (eqb (length (s .decoder .info)) infoMost) g h in
       record {
         own = λ e. clash (ap not (eq-eqb (s .own) all e)) (p .0);
         requested = leb-true (s .requested) plansMost (p .1);
-        decoder = p .2;
-        running = running-parts (s .running) (p .3);
+        info = eqb-true (length (s .decoder .info)) infoMost (p .2);
+        decoder = both-left (possibleOf (s .decoder .head)) (runningSound (s .running)) (p .3);
+        running = running-parts (s .running) (both-right (possibleOf (s .decoder .head)) (runningSound (s .running)) (p .3));
       }
 
   pub parts-sound : SoundParts s → soundOf s ≡ true
   unfolding soundOf
-  parts-sound p = rw (ne-eqb (s .own) all (p .own), le-leb (s .requested) plansMost (p .requested), p .decoder) (parts-running (s .running) (p .running))
+  parts-sound p = rw (ne-eqb (s .own) all (p .own), le-leb (s .requested) plansMost (p .requested), eq-eqb (length (s .decoder .info)) infoMost (p .info), p .decoder) (parts-running (s .running) (p .running))
 
 -- The record of a plan is octets
 

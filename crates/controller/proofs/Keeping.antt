@@ -11,10 +11,11 @@ use lib.ListN.{length}
 use Rattle.octets.specs.Choice.{pick, both}
 use Rattle.octets.specs.Refusal as refusal
 use Rattle.octets.proofs.Laws.{pick-by, clash}
-use Rattle.frame.specs.Frame.{message, ack, nak}
+use Rattle.frame.specs.Frame.{message, ack, nak, infoMost}
 use Rattle.frame.specs.Decoder.{Decoder, Taken, takenOf, idledOf}
 use Rattle.frame.specs.Run.{Outcome, nothing, refused, sound, outcomeOf}
 use Rattle.frame.proofs.Possible.{possible-kept}
+use Rattle.frame.proofs.Lent.{taken-long, idled-long}
 use Rattle.message.specs.Reader.{codeIn, bodyIn, readOf}
 use Rattle.plan.specs.declared.setting.Answered.{Answered}
 use Rattle.record.specs.Record.{plansMost, bookLen, empty, ready, cycleOf}
@@ -27,14 +28,11 @@ use Rattle.checks.proofs.Stands.{plan-fits, ready-plan}
 use Rattle.plan.proofs.Cases.{built-in-stands}
 use Rattle.plan.proofs.Reportable.{standing-past}
 use Rattle.controller.specs.declared.Running.{Running}
-use Rattle.controller.specs.declared.State.{State}
 use Rattle.controller.specs.declared.Handled.{Handled}
-use Rattle.controller.specs.State.{all, outputLen, freshOf, soundOf, readyIn, planRecord, startedAt, withDecoder, withRunning}
+use Rattle.controller.specs.State.{State, all, outputLen, freshOf, soundOf, readyIn, planRecord, startedAt, withDecoder, withRunning}
 use Rattle.controller.specs.Handling.{Handling, unlessUnread, runCode, queryTimesCode, queryPlanCode, queryRunningCode, setAs, runAs, queryTimesAs, queryPlanAs, queryRunningAs, handlingOf}
-use Rattle.controller.specs.Replies.{refusedCall, forUs, isAnswer, ResultAndBook, repliedOf, messageOf, broughtOf, doneOf, octetOf, lineIdleOf}
-use Rattle.controller.specs.Seconds.{pickedOf, movedOn, secondShown, noSecond, secondOf}
-use Rattle.controller.specs.declared.Answer.{Answer}
-use Rattle.controller.specs.declared.Shown.{Shown}
+use Rattle.controller.specs.Replies.{Answer, refusedCall, forUs, isAnswer, ResultAndBook, repliedOf, messageOf, broughtOf, doneOf, octetOf, lineIdleOf}
+use Rattle.controller.specs.Seconds.{Shown, pickedOf, movedOn, secondShown, noSecond, secondOf}
 use Rattle.controller.specs.Demand1.{SoundKept}
 use Rattle.controller.specs.Demand3.{mayRun, runIn, latestAfter}
 use Rattle.controller.proofs.Judging.{four, RunningParts, sound-parts, parts-sound}
@@ -115,21 +113,21 @@ may-run which book p = by (eqb p 0)
     by true = sym (eq-eqb (standingOf (builtIn which)) ready (built-in-stands which))
     by false = refl
 
-module _ (own ours requested : ℕ) (u : Running) (book : List ℕ) where
+module _ (s : State) (book : List ℕ) where
   message-asks : (seq addr : ℕ) (info : List ℕ)
-      → messageOf own ours requested u seq addr info book .result .requested ≡ latestAfter own book requested (sound (message seq addr info))
+      → messageOf s seq addr info book .result .requested ≡ latestAfter (s .own) book (s .requested) (sound (message seq addr info))
   unfolding messageOf repliedOf
   message-asks seq addr info =
-      let P : ResultAndBook → Type 0 = λ w. w .result .requested ≡ latestAfter own book requested (sound (message seq addr info)) in
-      pick-by P (forUs own addr)
-      (λ f. pick-by P (isAnswer (codeIn info)) (λ a. rw (f, ne-eqb (codeIn info) runCode (answers a))) (λ _. rw (f, may-run (u .which) book (planIn (bodyIn info))) (handled-leaves u requested book info)))
+      let P : ResultAndBook → Type 0 = λ w. w .result .requested ≡ latestAfter (s .own) book (s .requested) (sound (message seq addr info)) in
+      pick-by P (forUs (s .own) addr)
+      (λ f. pick-by P (isAnswer (codeIn info)) (λ a. rw (f, ne-eqb (codeIn info) runCode (answers a))) (λ _. rw (f, may-run (s .running .which) book (planIn (bodyIn info))) (handled-leaves (s .running) (s .requested) book info)))
       (λ f. rw f)
     where
       answers : isAnswer (codeIn info) ≡ true → codeIn info ≡ runCode → ⊥
       answers a e = clash refl (rw e at a)
 
   -- what an octet brings requests the latest run message carried out
-  brought-asks : (o : Outcome) → broughtOf o own ours requested u book .result .requested ≡ latestAfter own book requested o
+  brought-asks : (o : Outcome) → broughtOf o s book .result .requested ≡ latestAfter (s .own) book (s .requested) o
   brought-asks nothing = refl
   brought-asks (refused n k seq addr) = refl
   brought-asks (sound (message seq addr info)) = message-asks seq addr info
@@ -141,7 +139,7 @@ pub done-left : (s : State) (t : Taken) (book out : List ℕ)
     → Left (s .own) (s .running) (t .decoder) (latestAfter (s .own) book (s .requested) (outcomeOf t)) (doneOf s t book out .answer .state)
 unfolding doneOf
 done-left s t book out =
-    record { own = refl; running = refl; decoder = refl; requested = brought-asks (s .own) (s .seq) (s .requested) (s .running) book (outcomeOf t) }
+    record { own = refl; running = refl; decoder = refl; requested = brought-asks s book (outcomeOf t) }
 
 module _ (s : State) (book out : List ℕ) (b : ℕ) where
   -- was the octet taken? Where not, the state is as it was
@@ -198,6 +196,7 @@ octet-sound s book out b l h =
     parts-sound w (record {
       own = rw (k .own) (g .own);
       requested = rw (k .requested) (latest-most (s .own) book (s .requested) (outcomeOf t) n (g .requested));
+      info = rw (k .decoder) (taken-long (s .decoder) (g .info) b);
       decoder = rw (k .decoder) (possible-kept .1 (s .decoder) .octet b l (g .decoder));
       running = rw (k .running) (g .running);
     }))
@@ -217,6 +216,7 @@ module _ (s : State) where
       (parts-sound (withDecoder s (idledOf (s .decoder) .decoder)) (record {
         own = g .own;
         requested = g .requested;
+        info = idled-long (s .decoder) (g .info);
         decoder = possible-kept .1 (s .decoder) .lineIdle (g .decoder);
         running = g .running;
       }))
@@ -286,6 +286,7 @@ module _ (s : State) (book : List ℕ) where
       (λ _. parts-sound (withRunning s u) (record {
         own = g .own;
         requested = g .requested;
+        info = g .info;
         decoder = g .decoder;
         running = moved-sound (s .running) (s .requested) book (g .requested) (g .running);
       }))
@@ -296,12 +297,13 @@ sound-kept s = record { octet = octet-sound s; lineIdle = idle-sound s; second =
 
 -- The fresh start
 
-pub fresh-sound : (which : Which) (own : ℕ) → (own ≡ all → ⊥) → soundOf (freshOf which own) ≡ true
+pub fresh-sound : (which : Which) (own : ℕ) (kept : List ℕ) → (own ≡ all → ⊥) → length kept ≡ infoMost → soundOf (freshOf which own kept) ≡ true
 unfolding freshOf
-fresh-sound which own n =
-    parts-sound (freshOf which own) (record {
+fresh-sound which own kept n long =
+    parts-sound (freshOf which own kept) (record {
       own = n;
       requested = omega arith;
+      info = long;
       decoder = possible-kept .0;
       running = record { position = ready-cycle (builtIn which) (built-in-stands which); plan = omega arith; checks = built-in-stands which; zero = λ _. refl };
     })

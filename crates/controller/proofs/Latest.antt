@@ -6,17 +6,18 @@ use mathlib.Core.List.{List, [], _∷_}
 use native.Mathlib.Decide.{decLt}
 use native.Mathlib.Omega.{arith}
 use Rattle.octets.specs.Choice.{pick}
+use lib.ListN.{length}
 use Rattle.octets.specs.Octet.{Octets}
+use Rattle.frame.specs.Frame.{infoMost}
 use Rattle.frame.specs.Decoder.{Decoder, freshDecoder, takenOf, idledOf}
 use Rattle.record.specs.Record.{cycleOf}
 use Rattle.plan.specs.declared.Which.{Which}
 use Rattle.plan.proofs.Cases.{octets-built-in}
-use Rattle.controller.specs.declared.Answer.{Answer}
 use Rattle.controller.specs.declared.Running.{Running}
-use Rattle.controller.specs.declared.State.{State}
-use Rattle.controller.specs.State.{all, freshOf, soundOf}
+use Rattle.controller.specs.State.{State, all, freshOf, soundOf}
 use Rattle.controller.specs.Seconds.{startedOf, movedOn, pickedOf, noSecond}
 use Rattle.controller.specs.Demand3.{HostCall, octet, lineIdle, second, next, goesOn, run, Heard, hearsOctet, hears, hearsOn, LatestKept}
+use Rattle.controller.specs.Replies.{Answer}
 use Rattle.controller.proofs.Laws.{idle-done, moved-within, moved-ends}
 use Rattle.controller.proofs.Judging.{record-octets}
 use Rattle.controller.proofs.Keeping.{done-left, by-octet, octet-own, octet-running, idle-left, by-picked, second-left, by-second, sound-kept, fresh-sound}
@@ -83,11 +84,11 @@ kept-on : (own : ℕ) (s : State) (h : Heard) (es : List HostCall) → Kept own 
 kept-on own s h [] k = k
 kept-on own s h (e ∷ es) k = kept-on own (next s e) (hears own h e) es (kept-next own s h e k)
 
-pub run-kept : (which : Which) (own : ℕ) → (own ≡ all → ⊥) → (es : List HostCall) → Kept own (run which own es) (hearsOn own (record { decoder = freshDecoder; latest = 0 }) es)
+pub run-kept : (which : Which) (own : ℕ) (kept : List ℕ) → (own ≡ all → ⊥) → length kept ≡ infoMost → (es : List HostCall) → Kept own (run which own kept es) (hearsOn own (record { decoder = freshDecoder kept; latest = 0 }) es)
 unfolding startedOf freshOf
-run-kept which own n es =
-    kept-on own (freshOf which own) (record { decoder = freshDecoder; latest = 0 }) es
-    (record { own = refl; sound = fresh-sound which own n; octets = octets-built-in which; decoder = refl; latest = refl })
+run-kept which own kept n long es =
+    kept-on own (freshOf which own kept) (record { decoder = freshDecoder kept; latest = 0 }) es
+    (record { own = refl; sound = fresh-sound which own kept n long; octets = octets-built-in which; decoder = refl; latest = refl })
 
 pub latest-kept : LatestKept
-latest-kept which own n es = run-kept which own n es .latest
+latest-kept which own kept n long es = run-kept which own kept n long es .latest

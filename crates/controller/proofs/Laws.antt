@@ -11,9 +11,8 @@ use Rattle.frame.specs.Run.{Outcome, outcomeOf}
 use Rattle.message.specs.Reader.{codeIn}
 use Rattle.record.specs.Record.{bookLen, cycleOf}
 use Rattle.controller.specs.declared.Running.{Running}
-use Rattle.controller.specs.declared.State.{State}
 use Rattle.controller.specs.declared.Event.the-variants as event
-use Rattle.controller.specs.State.{outputLen, soundOf, readyIn, planRecord, startedAt, withDecoder}
+use Rattle.controller.specs.State.{State, outputLen, soundOf, readyIn, planRecord, startedAt, withDecoder}
 use Rattle.controller.specs.Handling.{handlingOf}
 use Rattle.controller.specs.Replies.{refusedCall, quiet, acks, forUs, isAnswer, unchanged, leaves, handledOf, messageOf, broughtOf, madeOf, doneOf, octetOf, lineIdleOf}
 use Rattle.controller.specs.Seconds.{pickedOf, movedOn, noSecond, secondShown, secondOf}
@@ -39,25 +38,25 @@ module _ (s : State) (book out : List ℕ) (b : ℕ) where
 
   -- what the octet ended decides what the call makes of the state
   pub octet-brings : soundOf s ≡ true → length book ≡ bookLen → outputLen ≤ length out → {o : Outcome} → outcomeOf (takenOf (s .decoder) b) ≡ o
-      → octetOf s book out b ≡ madeOf s (takenOf (s .decoder) b .decoder) (broughtOf o (s .own) (s .seq) (s .requested) (s .running) book) out
+      → octetOf s book out b ≡ madeOf s (takenOf (s .decoder) b .decoder) (broughtOf o s book) out
   unfolding doneOf
   octet-brings h n l e = octet-done h n l ∙ rw e
 
 -- A message frame
 
-module _ (own ours requested : ℕ) (u : Running) (seq addr : ℕ) (info book : List ℕ) where
-  pub message-other : forUs own addr ≡ false → messageOf own ours requested u seq addr info book ≡ leaves book (unchanged refusal.none event.Nothing [] ours requested)
+module _ (s : State) (seq addr : ℕ) (info book : List ℕ) where
+  pub message-other : forUs (s .own) addr ≡ false → messageOf s seq addr info book ≡ leaves book (unchanged s refusal.none event.Nothing [])
   unfolding messageOf
   message-other f = rw f
 
-  module _ (f : forUs own addr ≡ true) where
+  module _ (f : forUs (s .own) addr ≡ true) where
     pub message-answer : isAnswer (codeIn info) ≡ true
-        → messageOf own ours requested u seq addr info book ≡ leaves book (unchanged refusal.none event.Nothing (acks own seq addr) ours requested)
+        → messageOf s seq addr info book ≡ leaves book (unchanged s refusal.none event.Nothing (acks (s .own) seq addr))
     unfolding messageOf
     message-answer a = rw (f, a)
 
     pub message-handled : isAnswer (codeIn info) ≡ false
-        → messageOf own ours requested u seq addr info book ≡ handledOf own ours seq addr (handlingOf u requested book info)
+        → messageOf s seq addr info book ≡ handledOf s seq addr (handlingOf (s .running) (s .requested) book info)
     unfolding messageOf
     message-handled a = rw (f, a)
 

@@ -19,7 +19,7 @@ use Rattle.frame.specs.declared.decoder.Found.{Found}
 use Rattle.frame.specs.declared.decoder.Found.the-variants as found
 use Rattle.frame.specs.Frame.{Frame, message, ack, written}
 use Rattle.frame.specs.Promises.{InOctets, InfoFits}
-use Rattle.frame.specs.Decoder.{Decoder, Taken, freshDecoder, takenOf}
+use Rattle.frame.specs.Decoder.{Decoder, Taken, freshHead, freshDecoder, takenOf}
 use Rattle.frame.specs.Run.{Outcome, nothing, refused, sound, foundMeans, outcomeOf, outcomes, decoderAfter, AtRest}
 use Rattle.frame.proofs.Reading.{reading-undoes-writing}
 use Rattle.frame.proofs.Held.{HoldsOctets, OutcomeOctets, taken-octets, idled-octets}
@@ -36,12 +36,10 @@ use Rattle.record.specs.Record.{bookLen, plansMost, ready}
 use Rattle.record.proofs.Laws.{octet-below}
 use Rattle.checks.specs.Standing.{standingOf}
 use Rattle.plan.proofs.Cases.{octets-built-in}
-use Rattle.controller.specs.declared.Answer.{Answer}
 use Rattle.controller.specs.declared.Running.{Running}
-use Rattle.controller.specs.declared.State.{State}
-use Rattle.controller.specs.State.{all, outputLen, freshOf, soundOf}
+use Rattle.controller.specs.State.{State, all, outputLen, freshOf, soundOf}
 use Rattle.controller.specs.Handling.{carriedOutReply, refusedReply, handlingOf}
-use Rattle.controller.specs.Replies.{Call, CanFind, ResultAndBook, sent, errOf, naks, acks, forUs, isAnswer, repliedOf, messageOf, broughtOf, octetOf, lineIdleOf}
+use Rattle.controller.specs.Replies.{Answer, Call, CanFind, ResultAndBook, sent, errOf, naks, acks, forUs, isAnswer, repliedOf, messageOf, broughtOf, octetOf, lineIdleOf}
 use Rattle.controller.specs.Seconds.{startedOf, secondOf}
 use Rattle.controller.specs.Demand1.{OctetRefused}
 use Rattle.controller.specs.Demand2.{onLine}
@@ -51,7 +49,7 @@ use Rattle.controller.proofs.Laws.{octet-brings, idle-done}
 use Rattle.controller.proofs.Judging.{RunningParts, sound-parts}
 use Rattle.controller.proofs.Replying.{can-find, info-fits, by-reply}
 use Rattle.controller.proofs.Answering.{octets-answered, octet-refused, octet-right, written-take}
-use Rattle.controller.proofs.Keeping.{done-left, by-octet, second-left, fresh-sound}
+use Rattle.controller.proofs.Keeping.{done-left, by-octet, idle-left, second-left, fresh-sound}
 use Rattle.controller.proofs.Latest.{Kept, kept-next}
 
 -- Frames that are read back
@@ -147,26 +145,26 @@ record Sends (n : ℕ) (fs : List Frame) (seq : ℕ) : Type 0 where
   next : seq ≡ more % 256
   then : (gs : List Frame) → CountsFrom more gs → CountsFrom n (fs ++ gs)
 
-module _ (own n ours : ℕ) (hw : own < 65535) (e : ours ≡ n % 256) where
-  none-sent : Sends n [] ours
+module _ (n : ℕ) (s : State) (hw : s .own < 65535) (e : s .seq ≡ n % 256) where
+  none-sent : Sends n [] (s .seq)
   none-sent = record { more = n; readable = tt; next = e; then = λ gs c. c }
 
-  ack-sent : (seq addr : ℕ) → seq < 256 → Sends n (acks own seq addr) ours
+  ack-sent : (seq addr : ℕ) → seq < 256 → Sends n (acks (s .own) seq addr) (s .seq)
   ack-sent seq addr h =
-      pick-by (λ (fs : List Frame). Sends n fs ours) (eqb addr own)
+      pick-by (λ (fs : List Frame). Sends n fs (s .seq)) (eqb addr (s .own))
       (λ _. record { more = n; readable = (((h, omega arith), tt), tt); next = e; then = λ gs c. c }) (λ _. none-sent)
 
-  nak-sent : (k : Kind) (m seq addr : ℕ) → m ≤ 3 → seq < 256 → Sends n (naks k own m seq addr) ours
+  nak-sent : (k : Kind) (m seq addr : ℕ) → m ≤ 3 → seq < 256 → Sends n (naks k (s .own) m seq addr) (s .seq)
   nak-sent Message m seq addr l h =
       let err : errOf m < 256 = pick-by (λ (x : ℕ). x < 256) (eqb m 3) (λ _. omega arith) (λ _. omega arith) in
-      pick-by (λ (fs : List Frame). Sends n fs ours) (eqb addr own)
+      pick-by (λ (fs : List Frame). Sends n fs (s .seq)) (eqb addr (s .own))
       (λ _. record { more = n; readable = (((h, omega arith, err), tt), tt); next = e; then = λ gs c. c }) (λ _. none-sent)
   nak-sent Ack m seq addr l h = none-sent
   nak-sent Nak m seq addr l h = none-sent
 
   -- the ACK and the message frame with our SEQ, where they are due
   reply-sent : (t : Bool) (seq : ℕ) (i : List ℕ) → seq < 256 → GoodInfo i
-      → Sends n (pick t (ack seq own ∷ message ours own i ∷ []) []) (pick t ((ours + 1) % 256) ours)
+      → Sends n (pick t (ack seq (s .own) ∷ message (s .seq) (s .own) i ∷ []) []) (pick t ((s .seq + 1) % 256) (s .seq))
   reply-sent true seq i h g =
       record {
         more = n + 1;
@@ -176,19 +174,19 @@ module _ (own n ours : ℕ) (hw : own < 65535) (e : ours ≡ n % 256) where
       }
   reply-sent false seq i h g = none-sent
 
-  module _ (requested : ℕ) (u : Running) (p : RunningParts u) (book : List ℕ) (hb : length book ≡ bookLen) where
+  module _ (p : RunningParts (s .running)) (book : List ℕ) (hb : length book ≡ bookLen) where
     abbrev Sent : ResultAndBook → Type 0
     Sent w = Sends n (w .result .frames) (w .result .seq)
 
-    message-sent : (seq addr : ℕ) (info : List ℕ) → seq < 256 → Octets info → Sent (messageOf own ours requested u seq addr info book)
+    message-sent : (seq addr : ℕ) (info : List ℕ) → seq < 256 → Octets info → Sent (messageOf s seq addr info book)
     unfolding messageOf repliedOf
     message-sent seq addr info h o =
-        pick-by Sent (forUs own addr)
+        pick-by Sent (forUs (s .own) addr)
         (λ _. pick-by Sent (isAnswer (codeIn info)) (λ _. ack-sent seq addr h)
-        (λ _. reply-sent (eqb addr own) seq _ h (reply-good u requested book info (p .checks) (p .plan) hb o)))
+        (λ _. reply-sent (eqb addr (s .own)) seq _ h (reply-good (s .running) (s .requested) book info (p .checks) (p .plan) hb o)))
         (λ _. none-sent)
 
-    brought-sent : (f : Found) (kept : List ℕ) → CanFind f → OutcomeOctets (foundMeans f kept) → Sent (broughtOf (foundMeans f kept) own ours requested u book)
+    brought-sent : (f : Found) (kept : List ℕ) → CanFind f → OutcomeOctets (foundMeans f kept) → Sent (broughtOf (foundMeans f kept) s book)
     brought-sent found.Nothing kept c o = none-sent
     brought-sent (found.Refused m k seq addr) kept c o = nak-sent k m seq addr c o
     brought-sent (found.Message seq addr m) kept c o = message-sent seq addr (take m kept) (o .0) (o .1)
@@ -209,33 +207,33 @@ module _ (own : ℕ) (hw : own < 65535) where
     seq : s .seq ≡ n % 256
 
   octet-sends : (n : ℕ) (s : State) (b : ℕ) → b < 256 → (book out : List ℕ) → Able n s
-      → CallSends n (let w = octetOf s book out b in take (w .answer .count) (w .out)) (octetOf s book out b .answer .state .seq)
+      → CallSends n (let w = octetOf s book out b in take (w .answer .told .count) (w .out)) (octetOf s book out b .answer .state .seq)
   octet-sends n s b l book out a = by (octets-answered s book out b .either)
     where
       t : Taken
       t = takenOf (s .decoder) b
 
       Out : Call → Type 0
-      Out w = CallSends n (take (w .answer .count) (w .out)) (w .answer .state .seq)
+      Out w = CallSends n (take (w .answer .told .count) (w .out)) (w .answer .state .seq)
 
       by : ((m : ℕ) × OctetRefused s book out m) ⊎ ((soundOf s ≡ true) × (length book ≡ bookLen) × (outputLen ≤ length out)) → Out (octetOf s book out b)
-      by (inl x) = rw (octet-refused s book out b (x .1)) (record { frames = []; written = refl; sends = none-sent own n (s .seq) hw (a .seq) })
+      by (inl x) = rw (octet-refused s book out b (x .1)) (record { frames = []; written = refl; sends = none-sent n s (rw (a .kept .own) hw) (a .seq) })
       by (inr x) =
           let p = sound-parts s (x .0) in
-          let w = broughtOf (outcomeOf t) (s .own) (s .seq) (s .requested) (s .running) book in
+          let w = broughtOf (outcomeOf t) s book in
           let fs = w .result .frames in
           let fits : length (sent fs) ≤ length out = omega (arith, octet-right s book out b (x .0) (x .1) .fits, x .2) in
           let v =
-          brought-sent (s .own) n (s .seq) (rw (a .kept .own) hw) (a .seq) (s .requested) (s .running) (p .running) book (x .1) (t .found) (t .decoder .info)
+          brought-sent n s (rw (a .kept .own) hw) (a .seq) (p .running) book (x .1) (t .found) (t .decoder .info)
           (can-find (s .decoder) b (p .decoder)) (taken-octets (s .decoder) b l (a .octets) .1) in
           rw (octet-brings s book out b (x .0) (x .1) (x .2) refl) (record { frames = fs; written = written-take (sent fs) out fits ∙ sent-line fs; sends = v })
 
   call-sends : (n : ℕ) (s : State) (e : HostCall) → Able n s → CallSends n (writes s e) (next s e .seq)
   call-sends n s (octet b l book out o) a = octet-sends n s b l book out a
   call-sends n s lineIdle a =
-      record { frames = []; written = refl; sends = none-sent own n (lineIdleOf s .state .seq) hw (ap (λ (w : Answer). w .state .seq) (idle-done s (a .kept .sound)) ∙ a .seq) }
+      record { frames = []; written = refl; sends = none-sent n (lineIdleOf s .state) (rw (idle-left s, a .kept .own) hw) (ap (λ (w : Answer). w .state .seq) (idle-done s (a .kept .sound)) ∙ a .seq) }
   call-sends n s (second book o) a =
-      record { frames = []; written = refl; sends = none-sent own n (secondOf s book .state .seq) hw (ap (λ (t : State). t .seq) (second-left s book) ∙ a .seq) }
+      record { frames = []; written = refl; sends = none-sent n (secondOf s book .state) (rw (second-left s book, a .kept .own) hw) (ap (λ (t : State). t .seq) (second-left s book) ∙ a .seq) }
 
   holds-next : (n : ℕ) (s : State) (e : HostCall) → Able n s → HoldsOctets (next s e .decoder)
   holds-next n s (octet b l book out o) a =
@@ -265,16 +263,16 @@ module _ (own : ℕ) (hw : own < 65535) where
       }
 
 pub our-seq-counts : OurSeqCounts
-unfolding startedOf freshOf freshDecoder
-our-seq-counts which own hw es =
+unfolding startedOf freshOf freshHead
+our-seq-counts which own hw kept each long es =
     let n : own ≡ all → ⊥ = λ e. omega arith in
-    let fresh : Able own hw 0 (freshOf which own) = record {
-      heard = record { decoder = freshDecoder; latest = 0 };
-      kept = record { own = refl; sound = fresh-sound which own n; octets = octets-built-in which; decoder = refl; latest = refl };
-      octets = record { seq = omega arith; info = octets-zero 256 };
+    let fresh : Able own hw 0 (freshOf which own kept) = record {
+      heard = record { decoder = freshDecoder kept; latest = 0 };
+      kept = record { own = refl; sound = fresh-sound which own kept n long; octets = octets-built-in which; decoder = refl; latest = refl };
+      octets = record { seq = omega arith; info = each };
       seq = refl;
     } in
-    let r = run-sends own hw 0 (freshOf which own) es fresh in
+    let r = run-sends own hw 0 (freshOf which own kept) es fresh in
     record {
       frames = r .frames;
       octets = r .written;

@@ -12,6 +12,7 @@ use lib.ListN.{length, drop, length-map, length-drop, length-append, drop-of-len
 use lib.Seq.{drop-cons}
 use Rattle.octets.specs.Octet.{Octets}
 use Rattle.octets.proofs.Laws.{octets-part}
+use Rattle.frame.specs.Frame.{infoMost}
 use Rattle.record.specs.Record.{recordLen, bookLen, ready, cycleOf, Ready}
 use Rattle.checks.specs.Standing.{standingOf, Stands}
 use Rattle.plan.specs.declared.Which.{Which}
@@ -29,11 +30,9 @@ use Rattle.cycles.proofs.Laws.{answers-append}
 use Rattle.cycles.proofs.Run as cycles-run
 use Rattle.cycles.proofs.Window.{window}
 use Rattle.controller.specs.declared.Running.{Running}
-use Rattle.controller.specs.declared.Shown.{Shown}
-use Rattle.controller.specs.declared.State.{State}
-use Rattle.controller.specs.State.{all, freshOf, soundOf, readyIn}
+use Rattle.controller.specs.State.{State, all, freshOf, soundOf, readyIn}
 use Rattle.controller.specs.Replies.{octetOf, lineIdleOf}
-use Rattle.controller.specs.Seconds.{startedOf, pickedOf, noSecond, secondOf}
+use Rattle.controller.specs.Seconds.{Shown, startedOf, pickedOf, noSecond, secondOf}
 use Rattle.controller.specs.Demand3.{HostCall, octet, lineIdle, second, next, goesOn, run, WhichKept, PlanZeroThroughout, Second, secondOfPlan, secondAccepted, says, saysOn, SecondsInARow, seconds, latestRun, cycleOfPlan, Chosen, OneChoice, SecondsLeave, CyclesInRun, unfinished, whole, RunsWholeCycles, HoldsWhole, AnyWindow, NoSecond, SetsNeverAlter, leftOf, crossing, CrossingCycles, CrossingHolds}
 use Rattle.plan.proofs.Cases.{built-in-stands}
 use Rattle.controller.proofs.Laws.{picked-ready, picked-stays, moved-within, moved-ends, second-8, second-done}
@@ -161,56 +160,56 @@ goes-on-which s (e ∷ es) = goes-on-which (next s e) es ∙ next-which s e
 
 pub which-kept : WhichKept
 unfolding startedOf freshOf
-which-kept = (next-which, λ which own es. goes-on-which (startedOf which own .state) es)
+which-kept = (next-which, λ which own kept es. goes-on-which (startedOf which own kept .state) es)
 
-module _ (which : Which) (own : ℕ) where
-  run-next : (past : List HostCall) (e : HostCall) → run which own (past ++ (e ∷ [])) ≡ next (run which own past) e
-  run-next past e = goes-on-append (startedOf which own .state) past (e ∷ [])
+module _ (which : Which) (own : ℕ) (kept : List ℕ) where
+  run-next : (past : List HostCall) (e : HostCall) → run which own kept (past ++ (e ∷ [])) ≡ next (run which own kept past) e
+  run-next past e = goes-on-append (startedOf which own kept .state) past (e ∷ [])
 
-  after-is : (past es : List HostCall) → after (crossing which own) past es ≡ past ++ es
+  after-is : (past es : List HostCall) → after (crossing which own kept) past es ≡ past ++ es
   after-is past [] = sym (append-nil past)
   after-is past (e ∷ es) = after-is (past ++ (e ∷ [])) es ∙ append-assoc past (e ∷ []) es
 
-  answers-are : (past es : List HostCall) → answers (crossing which own) past es ≡ seconds which own past es
+  answers-are : (past es : List HostCall) → answers (crossing which own kept) past es ≡ seconds which own kept past es
   answers-are past [] = refl
-  answers-are past (e ∷ es) = ap (rowThen (says (run which own past) e)) (answers-are (past ++ (e ∷ [])) es ∙ ap (λ (s : State). saysOn s es) (run-next past e))
+  answers-are past (e ∷ es) = ap (rowThen (says (run which own kept past) e)) (answers-are (past ++ (e ∷ [])) es ∙ ap (λ (s : State). saysOn s es) (run-next past e))
 
 -- The ways that an event goes
 
-module _ (which : Which) (own : ℕ) (n : own ≡ all → ⊥) where
+module _ (which : Which) (own : ℕ) (kept : List ℕ) (n : own ≡ all → ⊥) (long : length kept ≡ infoMost) where
   abbrev running : List HostCall → Running
-  running past = run which own past .running
+  running past = run which own kept past .running
 
-  sound : (past : List HostCall) → soundOf (run which own past) ≡ true
-  sound past = run-kept which own n past .sound
+  sound : (past : List HostCall) → soundOf (run which own kept past) ≡ true
+  sound past = run-kept which own kept n long past .sound
 
   parts : (past : List HostCall) → RunningParts (running past)
-  parts past = sound-parts (run which own past) (sound past) .running
+  parts past = sound-parts (run which own kept past) (sound past) .running
 
   zero-is : (past : List HostCall) → running past .plan ≡ 0 → running past .copy ≡ builtIn which
-  zero-is past z = parts past .zero z ∙ ap builtIn (which-kept .1 which own past)
+  zero-is past z = parts past .zero z ∙ ap builtIn (which-kept .1 which own kept past)
 
   stands-ready : (past : List HostCall) → Ready (running past .copy)
-  stands-ready past = stands-as-it-is (running past .copy) (run-kept which own n past .octets) .readyFrom (parts past .checks)
+  stands-ready past = stands-as-it-is (running past .copy) (run-kept which own kept n long past .octets) .readyFrom (parts past .checks)
 
   -- nothing is answered and the running plan is as it was; the cycle goes on; or its last second is answered and a plan picked
   data Turn (past : List HostCall) : HostCall → Type 0 where
-    still : {e : HostCall} → says (run which own past) e ≡ none → running (past ++ (e ∷ [])) ≡ running past → Turn past e
-    onward : {e : HostCall} → says (run which own past) e ≡ some (shownBy (running past)) → running past .position + 1 < cycleOf (running past .copy)
+    still : {e : HostCall} → says (run which own kept past) e ≡ none → running (past ++ (e ∷ [])) ≡ running past → Turn past e
+    onward : {e : HostCall} → says (run which own kept past) e ≡ some (shownBy (running past)) → running past .position + 1 < cycleOf (running past .copy)
         → running (past ++ (e ∷ [])) ≡ record { which = running past .which; plan = running past .plan; position = running past .position + 1; copy = running past .copy } → Turn past e
-    over : (book : List ℕ) (o : Octets book) → says (run which own past) (second book o) ≡ some (shownBy (running past))
+    over : (book : List ℕ) (o : Octets book) → says (run which own kept past) (second book o) ≡ some (shownBy (running past))
         → cycleOf (running past .copy) ≤ running past .position + 1
-        → running (past ++ (second book o ∷ [])) ≡ pickedOf (running past) (latestRun own past) book → Turn past (second book o)
+        → running (past ++ (second book o ∷ [])) ≡ pickedOf (running past) (latestRun own kept past) book → Turn past (second book o)
 
-  ran : (past : List HostCall) (e : HostCall) {u : Running} → next (run which own past) e .running ≡ u → running (past ++ (e ∷ [])) ≡ u
-  ran past e h = ap (λ (s : State). s .running) (run-next which own past e) ∙ h
+  ran : (past : List HostCall) (e : HostCall) {u : Running} → next (run which own kept past) e .running ≡ u → running (past ++ (e ∷ [])) ≡ u
+  ran past e h = ap (λ (s : State). s .running) (run-next which own kept past e) ∙ h
 
   turn : (past : List HostCall) (e : HostCall) → Turn past e
   unfolding noSecond
-  turn past (octet b l book out o) = still refl (ran past (octet b l book out o) (octet-running (run which own past) book out b))
-  turn past lineIdle = still refl (ran past lineIdle (ap (λ (s : State). s .running) (idle-left (run which own past))))
+  turn past (octet b l book out o) = still refl (ran past (octet b l book out o) (octet-running (run which own kept past) book out b))
+  turn past lineIdle = still refl (ran past lineIdle (ap (λ (s : State). s .running) (idle-left (run which own kept past))))
   turn past (second book o) =
-      let s = run which own past in
+      let s = run which own kept past in
       let u = running past in
       elim (ℕ-discrete (length book) bookLen) [
         | yes d ↦ let a = second-done s book (sound past) d in
@@ -218,7 +217,7 @@ module _ (which : Which) (own : ℕ) (n : own ≡ all → ⊥) where
             elim (decLt (u .position + 1) (cycleOf (u .copy))) [
               | yes l ↦ onward (ap secondAccepted a) l (m ∙ moved-within u (s .requested) book l)
               | no l ↦ over book o (ap secondAccepted a) (omega arith)
-                  (m ∙ moved-ends u (s .requested) book (omega arith) ∙ ap (λ (p : ℕ). pickedOf u p book) (run-kept which own n past .latest))
+                  (m ∙ moved-ends u (s .requested) book (omega arith) ∙ ap (λ (p : ℕ). pickedOf u p book) (run-kept which own kept n long past .latest))
             ]
         | no d ↦ let a = second-8 s book (sound past) d in
             still (ap secondAccepted a) (ran past (second book o) (ap (λ (w : Shown). w .state .running) a))
@@ -230,17 +229,17 @@ module _ (which : Which) (own : ℕ) (n : own ≡ all → ⊥) where
   unfolding leftOf
   left-next past l m = let u = running past in left-cons u (stands-ready past) (omega arith) ∙ ap (λ (v : Running). shownBy u ∷ leftOf v) (sym m)
 
-  way-of : (past : List HostCall) (e : HostCall) → Turn past e → Way (crossing which own) past e
+  way-of : (past : List HostCall) (e : HostCall) → Turn past e → Way (crossing which own kept) past e
   way-of past e (still q m) = way.quiet q (ap leftOf m) (λ z. ap (λ (u : Running). u .position) (sym m) ∙ z)
   way-of past e (onward q l m) =
       way.goesOn (shownBy (running past)) q (left-next past l m) (λ z. omega (arith, ap (λ (v : Running). v .position) m))
   way-of past e (over book o q l m) =
       let u = running past in
-      let p = latestRun own past in
-      way.ends (shownBy u) q (left-last u (stands-ready past) (parts past .position) l) (chosen which book p o u _ (which-kept .1 which own past) m)
+      let p = latestRun own kept past in
+      way.ends (shownBy u) q (left-last u (stands-ready past) (parts past .position) l) (chosen which book p o u _ (which-kept .1 which own kept past) m)
       (ap (λ (v : Running). v .position) m ∙ by-picked u p book (λ v. v .position ≡ 0) (λ _. refl) (λ _. refl))
 
-  ways : Ways (crossing which own) (λ past. Unit)
+  ways : Ways (crossing which own kept) (λ past. Unit)
   ways =
       record {
         way = λ past e _. way-of past e (turn past e);
@@ -254,8 +253,8 @@ module _ (which : Which) (own : ℕ) (n : own ≡ all → ⊥) where
   -- until its last second is answered a cycle is of one plan and one record
   abbrev OnePlan : List HostCall → List HostCall → Type 0
   OnePlan past es =
-      length (answers (crossing which own) past es) < length (leftOf (running past))
-      → (running (after (crossing which own) past es) .plan ≡ running past .plan) × (running (after (crossing which own) past es) .copy ≡ running past .copy)
+      length (answers (crossing which own kept) past es) < length (leftOf (running past))
+      → (running (after (crossing which own kept) past es) .plan ≡ running past .plan) × (running (after (crossing which own kept) past es) .copy ≡ running past .copy)
 
   one-plan-on : (past : List HostCall) (e : HostCall) (es : List HostCall) → Turn past e → OnePlan (past ++ (e ∷ [])) es → OnePlan past (e ∷ es)
   one-plan-on past e es (still q m) i h =
@@ -276,56 +275,56 @@ module _ (which : Which) (own : ℕ) (n : own ≡ all → ⊥) where
   -- Whole cycles
 
   abbrev Due : List HostCall → List HostCall → Type 0
-  Due past es = CyclesInRun which own (running past .plan) (running past .copy) past es
+  Due past es = CyclesInRun which own kept (running past .plan) (running past .copy) past es
 
   -- a whole cycle put before
-  put-before : (past before : List HostCall) (e : HostCall) (es : List HostCall) → Whole (crossing which own) past before e → running past .position ≡ 0
-      → Due (after (crossing which own) past before ++ (e ∷ [])) es → Due past (before ++ (e ∷ es))
+  put-before : (past before : List HostCall) (e : HostCall) (es : List HostCall) → Whole (crossing which own kept) past before e → running past .position ≡ 0
+      → Due (after (crossing which own kept) past before ++ (e ∷ [])) es → Due past (before ++ (e ∷ es))
   put-before past before (octet b l book out o) es w z c = absurd (w .picks)
   put-before past before lineIdle es w z c = absurd (w .picks)
   put-before past before (second book o) es w z c =
-      let now = after (crossing which own) past before in
+      let now = after (crossing which own kept) past before in
       let later = now ++ (second book o ∷ []) in
       let u = running past in
       let v = running later in
-      let q = after-is which own past before in
+      let q = after-is which own kept past before in
       let r = ap (λ (a : List HostCall). a ++ (second book o ∷ [])) q ∙ append-assoc past before (second book o ∷ []) in
-      let m = one-plan past before (omega (arith, ap length (w .rows), length-append (answers (crossing which own) past before) (w .last ∷ []))) in
-      let rule : Chosen which (latestRun own now) book (u .plan) (u .copy) (v .plan) (v .copy) = rw (m .0, m .1) at (w .picks) in
+      let m = one-plan past before (omega (arith, ap length (w .rows), length-append (answers (crossing which own kept) past before) (w .last ∷ []))) in
+      let rule : Chosen which (latestRun own kept now) book (u .plan) (u .copy) (v .plan) (v .copy) = rw (m .0, m .1) at (w .picks) in
       whole before book o (w .last) (v .plan) (v .copy)
-      (subst (λ (a : List HostCall). says (run which own a) (second book o) ≡ some (w .last)) q (w .answered))
-      (ap (λ (xs : List Second). xs ++ (w .last ∷ [])) (sym (answers-are which own past before)) ∙ w .rows ∙ left-starts u z)
-      (subst (λ (a : List HostCall). Chosen which (latestRun own a) book (u .plan) (u .copy) (v .plan) (v .copy)) q rule)
+      (subst (λ (a : List HostCall). says (run which own kept a) (second book o) ≡ some (w .last)) q (w .answered))
+      (ap (λ (xs : List Second). xs ++ (w .last ∷ [])) (sym (answers-are which own kept past before)) ∙ w .rows ∙ left-starts u z)
+      (subst (λ (a : List HostCall). Chosen which (latestRun own kept a) book (u .plan) (u .copy) (v .plan) (v .copy)) q rule)
       (stands-ready later)
-      (subst (λ (a : List HostCall). CyclesInRun which own (v .plan) (v .copy) a es) r c)
+      (subst (λ (a : List HostCall). CyclesInRun which own kept (v .plan) (v .copy) a es) r c)
 
-  cycles-due : {past es : List HostCall} → Cycles (crossing which own) past es → running past .position ≡ 0 → Due past es
+  cycles-due : {past es : List HostCall} → Cycles (crossing which own kept) past es → running past .position ≡ 0 → Due past es
   cycles-due {past} {es} (cycles.unfinished u) z =
-      unfinished (u .rest) (ap (λ (xs : List Second). xs ++ u .rest) (sym (answers-are which own past es)) ∙ u .rows ∙ left-starts (running past) z) (u .more)
+      unfinished (u .rest) (ap (λ (xs : List Second). xs ++ u .rest) (sym (answers-are which own kept past es)) ∙ u .rows ∙ left-starts (running past) z) (u .more)
   cycles-due {past} (cycles.whole {before} {second = e} {es} w c) z = put-before past before e es w z (cycles-due c (w .start))
   cycles-due {past} (cycles.altered a c) z = absurd (a .alters)
 
 pub crossing-cycles : CrossingCycles
-crossing-cycles which own n es = cycles-run.whole-cycles (crossing which own) (λ past. Unit) (ways which own n) [] tt es
+crossing-cycles which own kept n long es = cycles-run.whole-cycles (crossing which own kept) (λ past. Unit) (ways which own kept n long) [] tt es
 
 pub runs-whole-cycles : RunsWholeCycles
 unfolding startedOf freshOf
-runs-whole-cycles which own n es = cycles-due which own n (crossing-cycles which own n es) refl
+runs-whole-cycles which own kept n long es = cycles-due which own kept n long (crossing-cycles which own kept n long es) refl
 
 pub plan-zero-throughout : PlanZeroThroughout
-plan-zero-throughout which own n es = zero-is which own n es
+plan-zero-throughout which own kept n long es = zero-is which own kept n long es
 
 -- Any 1,799
 
 pub crossing-holds : CrossingHolds
 unfolding startedOf freshOf
-crossing-holds which own n es = window 900 (crossing which own) (λ past. Unit) (ways which own n) (λ past _. most which own n past) [] tt refl es
+crossing-holds which own kept n long es = window 900 (crossing which own kept) (λ past. Unit) (ways which own kept n long) (λ past _. most which own kept n long past) [] tt refl es
 
-holds-whole : (which : Which) (own : ℕ) → (own ≡ all → ⊥) → (es : List HostCall) (n : ℕ) → HoldsCycle (crossing which own) [] es n 900 1799 → HoldsWhole which own es n
-holds-whole which own a es n h =
-    let M = crossing which own in
+holds-whole : (which : Which) (own : ℕ) (kept : List ℕ) → (own ≡ all → ⊥) → length kept ≡ infoMost → (es : List HostCall) (n : ℕ) → HoldsCycle (crossing which own kept) [] es n 900 1799 → HoldsWhole which own kept es n
+holds-whole which own kept a long es n h =
+    let M = crossing which own kept in
     let start = after M [] (h .before) in
-    let u = running which own a start in
+    let u = running which own kept a long start in
     let cycle : answers M start (h .during) ≡ cycleOfPlan (u .plan) (u .copy) = h .whole ∙ left-starts u (h .start) in
     record {
       plan = u .plan;
@@ -333,7 +332,7 @@ holds-whole which own a es n h =
       before = answers M [] (h .before);
       later = answers M (after M start (h .during)) (h .later);
       run =
-          sym (answers-are which own [] es) ∙ ap (answers M []) (h .run ∙ append-assoc (h .before) (h .during) (h .later))
+          sym (answers-are which own kept [] es) ∙ ap (answers M []) (h .run ∙ append-assoc (h .before) (h .during) (h .later))
           ∙ answers-append M [] (h .before) (h .during ++ h .later) ∙ rw (answers-append M start (h .during) (h .later), cycle);
       from = h .from;
       soon = h .soon;
@@ -345,12 +344,12 @@ holds-whole which own a es n h =
             length-append (answers M [] (h .before)) (answers M start (h .during)),
             ap length cycle,
           );
-      stands = stands-ready which own a start;
-      phases = λ i l. whole-phases (u .copy) i (stands-ready which own a start) l;
+      stands = stands-ready which own kept a long start;
+      phases = λ i l. whole-phases (u .copy) i (stands-ready which own kept a long start) l;
     }
 
 pub any-window : AnyWindow
-any-window which own a es n l = holds-whole which own a es n (crossing-holds which own a es n (rw (answers-are which own [] es) l))
+any-window which own kept a long es n l = holds-whole which own kept a long es n (crossing-holds which own kept a long es n (rw (answers-are which own kept [] es) l))
 
 -- Sets
 
@@ -371,6 +370,6 @@ between-running s (lineIdle ∷ es) q = between-running (lineIdleOf s .state) es
 between-running s (second book o ∷ es) q = absurd q
 
 pub sets-never-alter : SetsNeverAlter
-sets-never-alter which own n past between book o q =
-    same-shown (run which own (past ++ between)) (run which own past) book (sound which own n (past ++ between)) (sound which own n past)
-    (ap (λ (s : State). s .running) (goes-on-append (startedOf which own .state) past between) ∙ between-running (run which own past) between q)
+sets-never-alter which own kept n long past between book o q =
+    same-shown (run which own kept (past ++ between)) (run which own kept past) book (sound which own kept n long (past ++ between)) (sound which own kept n long past)
+    (ap (λ (s : State). s .running) (goes-on-append (startedOf which own kept .state) past between) ∙ between-running (run which own kept past) between q)

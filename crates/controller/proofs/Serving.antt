@@ -46,9 +46,8 @@ use Rattle.plan.proofs.Reportable.{reports-read}
 use Rattle.lamps.proofs.Second.{lamps-of-step}
 use Rattle.lamps.proofs.Cycle.{cycle-long}
 use Rattle.controller.specs.declared.Running.{Running}
-use Rattle.controller.specs.declared.State.{State}
 use Rattle.controller.specs.declared.Event.the-variants as event
-use Rattle.controller.specs.State.{all, outputLen, planRecord, soundOf}
+use Rattle.controller.specs.State.{State, all, outputLen, planRecord, soundOf}
 use Rattle.controller.specs.Handling as handling
 use Rattle.controller.specs.Handling.{Handling, carriedOutCode, refusedCode, runCode, queryTimesCode, queryPlanCode, queryRunningCode, carriedOutReply, setAs, runAs, queryTimesAs, queryPlanAs, queryRunningAs, handlingOf}
 use Rattle.controller.specs.Replies.{Call, sent, errOf, naks, forUs, isAnswer, repliesOf, ResultAndBook, repliedOf, handledOf, messageOf, broughtOf, madeOf, octetOf}
@@ -71,12 +70,12 @@ module _ (own addr : ℕ) where
   for-another n m = rw (ne-eqb addr own n, ne-eqb addr all m)
 
 -- whatever a message does, it is no event
-message-event : (own ours requested : ℕ) (u : Running) (seq addr : ℕ) (info book : List ℕ)
-    → messageOf own ours requested u seq addr info book .result .event ≡ event.Nothing
+message-event : (s : State) (seq addr : ℕ) (info book : List ℕ)
+    → messageOf s seq addr info book .result .event ≡ event.Nothing
 unfolding messageOf repliedOf
-message-event own ours requested u seq addr info book =
+message-event s seq addr info book =
     let P : ResultAndBook → Type 0 = λ w. w .result .event ≡ event.Nothing in
-    pick-by P (forUs own addr) (λ _. pick-by P (isAnswer (codeIn info)) (λ _. refl) (λ _. refl)) (λ _. refl)
+    pick-by P (forUs (s .own) addr) (λ _. pick-by P (isAnswer (codeIn info)) (λ _. refl) (λ _. refl)) (λ _. refl)
 
 -- 0F 80 and 0F 81
 is-answer : (info : List ℕ) → IsAnswer info → isAnswer (codeIn info) ≡ true
@@ -94,16 +93,16 @@ err-so Err.len = refl
 -- What is written
 
 wrote : {w : Call} (out : List ℕ) (fs : List Frame) → outputLen ≤ length out → length (sent fs) ≤ outputLen
-    → w .answer .count ≡ length (sent fs) → w .out ≡ sets out 0 (sent fs) → Wrote w fs
+    → w .answer .told .count ≡ length (sent fs) → w .out ≡ sets out 0 (sent fs) → Wrote w fs
 wrote out fs ho h c e = record { count = c; octets = rw (c, e) (written-take (sent fs) out (omega arith)) }
 
-wrote-none : {w : Call} → w .answer .count ≡ 0 → Wrote w []
+wrote-none : {w : Call} → w .answer .told .count ≡ 0 → Wrote w []
 wrote-none c = record { count = c; octets = rw c }
 
 -- a message handled, and its reply where it was for us, with our address and SEQ
 pub record Served (own ours seq addr : ℕ) (h : Handling) (w : Call) : Type 0 where
-  pub names : w .answer .refusal ≡ h .handled .refusal
-  pub parameter : w .answer .parameter ≡ h .handled .parameter
+  pub names : w .answer .told .refusal ≡ h .handled .refusal
+  pub parameter : w .answer .told .parameter ≡ h .handled .parameter
   pub requested : w .answer .state .requested ≡ h .handled .requested
   pub book : w .book ≡ h .book
   pub reply : addr ≡ own → Wrote w (repliesOf seq ours own (infoOf (h .handled .reply))) × (w .answer .state .seq ≡ (ours + 1) % 256)
@@ -111,7 +110,7 @@ pub record Served (own ours seq addr : ℕ) (h : Handling) (w : Call) : Type 0 w
 
 module _ (s : State) (d : Decoder) (seq addr : ℕ) (h : Handling) (out : List ℕ) (ho : outputLen ≤ length out) where
   abbrev made : Call
-  made = madeOf s d (handledOf (s .own) (s .seq) seq addr h) out
+  made = madeOf s d (handledOf s seq addr h) out
 
   served : length (infoOf (h .handled .reply)) ≤ infoMost → Served (s .own) (s .seq) seq addr h made
   unfolding repliedOf
@@ -139,7 +138,7 @@ module _ (s : State) (book out : List ℕ) (b : ℕ) (h : soundOf s ≡ true) (h
   abbrev Ends : Outcome → Type 0
   Ends o = outcomeOf (takenOf (s .decoder) b) ≡ o
 
-  brings : {o : Outcome} → Ends o → w ≡ madeOf s d (broughtOf o (s .own) (s .seq) (s .requested) (s .running) book) out
+  brings : {o : Outcome} → Ends o → w ≡ madeOf s d (broughtOf o s book) out
   brings e = octet-brings s book out b h hb ho e
 
   other : all ≡ s .own → ⊥
@@ -149,7 +148,7 @@ module _ (s : State) (book out : List ℕ) (b : ℕ) (h : soundOf s ≡ true) (h
       → isAnswer (codeIn info) ≡ false → Served (s .own) (s .seq) seq addr (handlingOf (s .running) (s .requested) book info) w
   message-served seq addr info e a n =
       let u = sound-parts s h .running in
-      rw (brings e, message-handled (s .own) (s .seq) (s .requested) (s .running) seq addr info book (for-us (s .own) addr a) n)
+      rw (brings e, message-handled s seq addr info book (for-us (s .own) addr a) n)
       (served s d seq addr (handlingOf (s .running) (s .requested) book info) out ho (reply-fits (s .running) (s .requested) book info (u .checks) (u .plan) hb))
 
   no-naks : (n : ℕ) (k : Kind) (seq addr : ℕ) → (k ≡ Message → ⊥) ⊎ (addr ≡ s .own → ⊥) → naks k (s .own) n seq addr ≡ []
@@ -159,7 +158,7 @@ module _ (s : State) (book out : List ℕ) (b : ℕ) (h : soundOf s ≡ true) (h
   no-naks n Nak seq addr g = refl
 
   for-all : (seq : ℕ) (info : List ℕ) → Ends (sound (message seq all info)) → (t : Bool) → isAnswer (codeIn info) ≡ t → Wrote w [] × (w .answer .state .seq ≡ s .seq)
-  for-all seq info e true a = rw (brings e, message-answer (s .own) (s .seq) (s .requested) (s .running) seq all info book (for-us (s .own) all (inr refl)) a, ne-eqb all (s .own) other) (wrote-none refl, refl)
+  for-all seq info e true a = rw (brings e, message-answer s seq all info book (for-us (s .own) all (inr refl)) a, ne-eqb all (s .own) other) (wrote-none refl, refl)
   for-all seq info e false a = message-served seq all info e (inr refl) a .silent other
 
   octet-replies : RepliesSo s book b (outcomeOf (takenOf (s .decoder) b)) w
@@ -170,15 +169,15 @@ module _ (s : State) (book out : List ℕ) (b : ℕ) (h : soundOf s ≡ true) (h
         noNak = λ n k seq addr e g. rw (brings e, no-naks n k seq addr g) (wrote-none refl);
         named = λ n k seq addr e. rw (brings e) (refl, record { state = refl; book = refl; parameter = refl }, refl);
         ackOnly = λ seq info e a.
-            rw (brings e, message-answer (s .own) (s .seq) (s .requested) (s .running) seq (s .own) info book (for-us (s .own) (s .own) (inl refl)) (is-answer info a), eq-eqb (s .own) (s .own) refl)
+            rw (brings e, message-answer s seq (s .own) info book (for-us (s .own) (s .own) (inl refl)) (is-answer info a), eq-eqb (s .own) (s .own) refl)
             (wrote out (ack seq (s .own) ∷ []) ho (ack-fits seq (s .own)) refl refl, refl, record { state = refl; book = refl; parameter = refl });
         replied = λ seq info e a.
             let v = message-served seq (s .own) info e (inl refl) (no-answer info a) .reply refl in
             (infoOf (handlingOf (s .running) (s .requested) book info .handled .reply), v .0, v .1);
         forAll = λ seq info e. for-all seq info e (isAnswer (codeIn info)) refl;
-        answerForAll = λ seq info e a. rw (brings e, message-answer (s .own) (s .seq) (s .requested) (s .running) seq all info book (for-us (s .own) all (inr refl)) (is-answer info a)) (refl, record { state = refl; book = refl; parameter = refl });
-        dropped = λ seq addr info e n m. rw (brings e, message-other (s .own) (s .seq) (s .requested) (s .running) seq addr info book (for-another (s .own) addr n m)) (wrote-none refl, refl, record { state = refl; book = refl; parameter = refl });
-        noEvent = λ seq addr info e. rw (brings e, message-event (s .own) (s .seq) (s .requested) (s .running) seq addr info book);
+        answerForAll = λ seq info e a. rw (brings e, message-answer s seq all info book (for-us (s .own) all (inr refl)) (is-answer info a)) (refl, record { state = refl; book = refl; parameter = refl });
+        dropped = λ seq addr info e n m. rw (brings e, message-other s seq addr info book (for-another (s .own) addr n m)) (wrote-none refl, refl, record { state = refl; book = refl; parameter = refl });
+        noEvent = λ seq addr info e. rw (brings e, message-event s seq addr info book);
         ackEvent = λ seq e. rw (brings e, eq-eqb (s .own) (s .own) refl);
         nakEvent = λ seq err e. rw (brings e, eq-eqb (s .own) (s .own) refl);
         ackQuiet = λ seq addr e. rw (brings e) (wrote-none refl, refl, record { state = refl; book = refl; parameter = refl });

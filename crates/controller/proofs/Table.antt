@@ -5,7 +5,7 @@ use Rattle.octets.specs.First.{firstOf}
 use Rattle.diagram.specs.Rows as table
 use Rattle.diagram.specs.Table as diagram
 use Rattle.frame.specs.Frame.{frontOf, bodyOf, sentOf, cksOf, twice, doubled, written}
-use Rattle.frame.specs.Decoder.{freshDecoder, possibleOf, frontIn, cksIn, stepOf, takenOf}
+use Rattle.frame.specs.Decoder.{freshHead, possibleOf, frontIn, cksIn, stepOf, takenOf}
 use Rattle.message.specs.Layouts.{layouts, layoutAt, known, numberOf, rowsAt, layoutRows}
 use Rattle.message.specs.Values.{zeros, placed, firstOut}
 use Rattle.message.specs.Reader.{noMessage, notRead, partOf, rangedOf, readPartOf, readOf}
@@ -21,5 +21,5 @@ use Rattle.controller.specs.Replies.{repliedOf, messageOf, doneOf, octet
 use Rattle.controller.specs.Table.{cameOut, stateAfter, rows, due, OneTable}
 
 pub one-table : OneTable
-unfolding xor exclusiveOr firstOf diagram.find table.directory diagram.diagramOf table.lampRows diagram.rowNumber diagram.lampRowOf frontOf bodyOf sentOf cksOf twice doubled written freshDecoder possibleOf frontIn cksIn stepOf takenOf layouts layoutAt known numberOf rowsAt layoutRows zeros placed firstOut noMessage notRead partOf rangedOf readPartOf readOf infoAs timesDisagree planDisagree ranged timesStand planStands readyStands allZero standingOf padded builtIn same planInfo reportPlanOf phaseTable secondsOf freshOf runningSound soundOf carriedOutReply refusedReply runAs queryRunningAs handlingOf repliedOf messageOf doneOf octetOf cameOut stateAfter rows due
+unfolding xor exclusiveOr firstOf diagram.find table.directory diagram.diagramOf table.lampRows diagram.rowNumber diagram.lampRowOf frontOf bodyOf sentOf cksOf twice doubled written freshHead possibleOf frontIn cksIn stepOf takenOf layouts layoutAt known numberOf rowsAt layoutRows zeros placed firstOut noMessage notRead partOf rangedOf readPartOf readOf infoAs timesDisagree planDisagree ranged timesStand planStands readyStands allZero standingOf padded builtIn same planInfo reportPlanOf phaseTable secondsOf freshOf runningSound soundOf carriedOutReply refusedReply runAs queryRunningAs handlingOf repliedOf messageOf doneOf octetOf cameOut stateAfter rows due
 one-table = refl

@@ -5,8 +5,8 @@ use Prim.Native.Nat.{ℕ, _≤_, _<_}
 use mathlib.Core.Path.{_≡_}
 use mathlib.Core.Bool.{true, false}
 use mathlib.Core.Logic.{_⊎_}
-use mathlib.Core.List.{List}
-use lib.ListN.{length, drop, replicate}
+use mathlib.Core.List.{List, _++_}
+use lib.ListN.{length, take, drop}
 use Rattle.octets.specs.Octet.{Octets}
 use Rattle.frame.specs.declared.Kind.the-variants.{Message}
 use Rattle.frame.specs.declared.decoder.Place.the-variants.{Idle}
@@ -16,14 +16,12 @@ use Rattle.plan.specs.declared.Which.{Which}
 use Rattle.plan.specs.declared.Which.the-variants.{New, Old}
 use Rattle.plan.specs.BuiltIn.{builtIn}
 use Rattle.controller.specs.declared.Running.{Running}
-use Rattle.controller.specs.declared.State.{State}
-use Rattle.controller.specs.declared.Started.{Started}
+use Rattle.controller.specs.declared.Held.{Held}
+use Rattle.controller.specs.declared.HeldAnswer.{HeldAnswer}
 use Rattle.controller.specs.declared.Event.the-variants as event
-use Rattle.controller.specs.declared.Answer.{Answer}
-use Rattle.controller.specs.declared.Shown.{Shown}
-use Rattle.controller.specs.State.{all, outputLen, freshOf, soundOf}
-use Rattle.controller.specs.Replies.{Call, CallLeaves, octetOf, lineIdleOf}
-use Rattle.controller.specs.Seconds.{startedOf, plainStartOf, oldStartOf, secondOf}
+use Rattle.controller.specs.State.{State, joined, all, outputLen, freshOf, soundOf}
+use Rattle.controller.specs.Replies.{Answer, Call, CallLeaves, octetOf, lineIdleOf}
+use Rattle.controller.specs.Seconds.{Shown, startedOf, plainStartOf, oldStartOf, secondOf}
 
 -- Which states are sound
 
@@ -35,11 +33,12 @@ pub record RunningSound (u : Running) : Type 0 where
   pub checks : Ready (u .copy)
   pub zero : u .plan ≡ 0 → u .copy ≡ builtIn (u .which)
 
--- nor "own address FFFF, requested plan over 48, .. impossible decoder place"
+-- nor "own address FFFF, requested plan over 48, .. impossible decoder place"; its decoder has its 256 octets of INFO
 pub record Sound (s : State) : Type 0 where
   pub own : s .own ≡ 0xFFFF → ⊥
   pub requested : s .requested ≤ 48
   pub decoder : possibleOf (s .decoder .head) ≡ true
+  pub info : length (s .decoder .info) ≡ 256
   pub running : RunningSound (s .running)
 
 pub record SoundJudged (s : State) : Type 0 where
@@ -63,7 +62,7 @@ pub data OctetRefused (s : State) (book out : List ℕ) : ℕ → Type 0 where
 
 -- "same state, nothing written"; "Other numbers in a refused call's result are 0": no parameter, no count, and no event
 abbrev pub AnswerRefused : State → ℕ → Answer → Type 0
-AnswerRefused s n a = a ≡ record { state = s; refusal = n; parameter = 0; event = event.Nothing; count = 0 }
+AnswerRefused s n a = a ≡ record { state = s; told = record { refusal = n; parameter = 0; event = event.Nothing; count = 0 } }
 
 -- "leaves book and output as they came"
 pub record CallRefused (s : State) (lent output : List ℕ) (n : ℕ) (w : Call) : Type 0 where
@@ -77,7 +76,7 @@ InDone n = (n ≤ 3) ⊎ ((10 ≤ n) × (n ≤ 14))
 
 pub record OctetAnswered (s : State) (book out : List ℕ) (b : ℕ) : Type 0 where
   pub refused : (n : ℕ) → OctetRefused s book out n → CallRefused s book out n (octetOf s book out b)
-  pub done : soundOf s ≡ true → length book ≡ 3840 → 544 ≤ length out → InDone (octetOf s book out b .answer .refusal)
+  pub done : soundOf s ≡ true → length book ≡ 3840 → 544 ≤ length out → InDone (octetOf s book out b .answer .told .refusal)
   -- every call is one or the other
   pub either : ((n : ℕ) × OctetRefused s book out n) ⊎ ((soundOf s ≡ true) × (length book ≡ 3840) × (544 ≤ length out))
 
@@ -93,11 +92,17 @@ pub data SecondRefused (s : State) (book : List ℕ) : ℕ → Type 0 where
 
 -- "same state"; "Other numbers in a refused call's result are 0": no plan, no step, no seconds left, and all lamps dark
 abbrev pub ShownRefused : State → ℕ → Shown → Type 0
-ShownRefused s n w = w ≡ record { state = s; refusal = n; plan = 0; row = record { step = 0; left = 0; steady = 0; flashing = 0 } }
+ShownRefused s n w =
+    w ≡ record {
+      state = s;
+      told = record { refusal = n; parameter = 0; event = event.Nothing; count = 0 };
+      plan = 0;
+      row = record { step = 0; left = 0; steady = 0; flashing = 0 };
+    }
 
 pub record SecondAnswered (s : State) (book : List ℕ) : Type 0 where
   pub refused : (n : ℕ) → SecondRefused s book n → ShownRefused s n (secondOf s book)
-  pub done : soundOf s ≡ true → length book ≡ 3840 → secondOf s book .refusal ≡ 0
+  pub done : soundOf s ≡ true → length book ≡ 3840 → secondOf s book .told .refusal ≡ 0
   pub either : ((n : ℕ) × SecondRefused s book n) ⊎ ((soundOf s ≡ true) × (length book ≡ 3840))
 
 abbrev pub SecondsAnswered : Type 0
@@ -122,7 +127,7 @@ AtIdle s t =
 
 pub record IdleDone (s : State) (a : Answer) : Type 0 where
   pub state : AtIdle s (a .state)
-  pub others : a ≡ record { state = a .state; refusal = 0; parameter = 0; event = event.Nothing; count = 0 }
+  pub others : a ≡ record { state = a .state; told = record { refusal = 0; parameter = 0; event = event.Nothing; count = 0 } }
 
 -- refusal 7 of it
 pub record IdleAnswered (s : State) : Type 0 where
@@ -134,45 +139,46 @@ IdlesAnswered = (s : State) → IdleAnswered s
 
 -- The fresh start
 
--- "A fresh start runs and requests plan 0 at position 0"; "Our SEQ starts at 0"; its decoder is idle, and nothing is kept in it; 02, E1:
--- "The state keeps which one", and plan 0 is that one
-abbrev pub FreshAt : Which → ℕ → State → Type 0
-FreshAt which own t =
+-- "A fresh start runs and requests plan 0 at position 0"; "Our SEQ starts at 0"; its decoder is idle, whatever its octets of INFO hold;
+-- 02, E1: "The state keeps which one", and plan 0 is that one
+abbrev pub FreshAt : Which → ℕ → List ℕ → State → Type 0
+FreshAt which own kept t =
     t ≡ record {
       own = own;
       seq = 0;
       requested = 0;
-      decoder = record { head = record { place = Idle; kind = Message; seq = 0; err = 0; addr = 0; len = 0; filled = 0 }; info = replicate 256 0 };
+      decoder = record { head = record { place = Idle; kind = Message; seq = 0; err = 0; addr = 0; len = 0; filled = 0 }; info = kept };
       running = record { which = which; plan = 0; position = 0; copy = builtIn which };
     }
 
 -- what a start call answers; "fresh start with address FFFF": "a fresh state but for own address FFFF, so unsound", and which one is kept
 -- there too
-pub record StartAnswered (which : Which) (own : ℕ) (a : Started) : Type 0 where
-  pub state : FreshAt which own (a .state)
-  pub others : a ≡ record { refusal = a .refusal; state = a .state }
-  pub refused : own ≡ 0xFFFF → (a .refusal ≡ 6) × (soundOf (a .state) ≡ false)
-  pub done : (own ≡ 0xFFFF → ⊥) → (a .refusal ≡ 0) × (soundOf (a .state) ≡ true)
+pub record StartAnswered (which : Which) (own : ℕ) (kept : List ℕ) (a : Answer) : Type 0 where
+  pub state : FreshAt which own kept (a .state)
+  pub others : a ≡ record { state = a .state; told = record { refusal = a .told .refusal; parameter = 0; event = event.Nothing; count = 0 } }
+  pub refused : own ≡ 0xFFFF → (a .told .refusal ≡ 6) × (soundOf (a .state) ≡ false)
+  pub done : (own ≡ 0xFFFF → ⊥) → (a .told .refusal ≡ 0) × (length kept ≡ 256 → soundOf (a .state) ≡ true)
   -- and what runs and listings begin with
-  pub fresh : FreshAt which own (freshOf which own)
-  pub started : startedOf which own ≡ a
+  pub fresh : FreshAt which own kept (freshOf which own kept)
+  pub started : startedOf which own kept ≡ a
 
 -- 02, E1: "A start call that names the old built-in plan stays for those lessons; the plain start takes the new one."
 abbrev pub StartsAnswered : Type 0
-StartsAnswered = (own : ℕ) → StartAnswered New own (plainStartOf own) × StartAnswered Old own (oldStartOf own)
+StartsAnswered =
+    (own : ℕ) (kept : List ℕ) → StartAnswered New own kept (plainStartOf own kept) × StartAnswered Old own kept (oldStartOf own kept)
 
 -- What is left alone
 
 -- "a refused message alters no plan", nor does a refused frame or call: whatever is refused, the book is as it came
 abbrev pub RefusedLeavesBook : Type 0
-RefusedLeavesBook = (s : State) (book out : List ℕ) (b : ℕ) → (octetOf s book out b .answer .refusal ≡ 0 → ⊥) → octetOf s book out b .book ≡ book
+RefusedLeavesBook = (s : State) (book out : List ℕ) (b : ℕ) → (octetOf s book out b .answer .told .refusal ≡ 0 → ⊥) → octetOf s book out b .book ≡ book
 
 -- "A call writes only the octets that its result counts; the output beyond them stays."
 pub record OutputLeft (s : State) (book out : List ℕ) (b : ℕ) : Type 0 where
-  pub beyond : (let n = octetOf s book out b .answer .count in drop n (octetOf s book out b .out) ≡ drop n out)
+  pub beyond : (let n = octetOf s book out b .answer .told .count in drop n (octetOf s book out b .out) ≡ drop n out)
   pub long : length (octetOf s book out b .out) ≡ length out
-  pub within : octetOf s book out b .answer .count ≤ length out
-  pub most : octetOf s book out b .answer .count ≤ 544
+  pub within : octetOf s book out b .answer .told .count ≤ length out
+  pub most : octetOf s book out b .answer .told .count ≤ 544
 
 abbrev pub OutputsLeft : Type 0
 OutputsLeft = (s : State) (book out : List ℕ) (b : ℕ) → OutputLeft s book out b
@@ -186,9 +192,52 @@ pub record SoundKeptBy (s : State) : Type 0 where
 abbrev pub SoundKept : Type 0
 SoundKept = (s : State) → SoundKeptBy s
 
--- What the contract of the octet call says: it answers what is due, the event too, and leaves the book and the output that are due.
+-- The state by parts
+
+-- The code's struct and the octets lent make the state: each field is the struct's, and the octets of INFO are the first 256 of those lent.
+abbrev pub JoinedSo : Type 0
+JoinedSo =
+    (s : Held) (kept : List ℕ)
+    → joined s kept
+    ≡ record {
+      own = s .own;
+      seq = s .seq;
+      requested = s .requested;
+      decoder = record { head = s .head; info = take 256 kept };
+      running = s .running;
+    }
+
+-- What the contract of the octet call says: it answers what is due, the event too, and leaves the octets of INFO, the book and the output
+-- that are due; of more octets than 256 lent for INFO those beyond are as they came.
+pub record LeavesSo (w : Call) (lent : List ℕ) (r : HeldAnswer) (k b o : List ℕ) : Type 0 where
+  pub own : r .state .own ≡ w .answer .state .own
+  pub seq : r .state .seq ≡ w .answer .state .seq
+  pub requested : r .state .requested ≡ w .answer .state .requested
+  pub head : r .state .head ≡ w .answer .state .decoder .head
+  pub running : r .state .running ≡ w .answer .state .running
+  pub told : r .told ≡ w .answer .told
+  pub info : k ≡ w .answer .state .decoder .info ++ drop 256 lent
+  pub book : b ≡ w .book
+  pub out : o ≡ w .out
+
 abbrev pub CallsLeaveSo : Type 0
-CallsLeaveSo = (w : Call) (r : Answer) (b o : List ℕ) → CallLeaves w r b o → (r ≡ w .answer) × (b ≡ w .book) × (o ≡ w .out)
+CallsLeaveSo = (w : Call) (lent : List ℕ) (r : HeldAnswer) (k b o : List ℕ) → CallLeaves w lent r k b o → LeavesSo w lent r k b o
+
+-- "A refused call gives back its state and leaves book and output as they came": the struct, every octet that was lent, the book and the
+-- output; fewer than 256 octets lent are refused so
+pub record AsCame (s : Held) (lent book out : List ℕ) (r : HeldAnswer) (k b o : List ℕ) : Type 0 where
+  pub state : r .state ≡ s
+  pub octets : k ≡ lent
+  pub plans : b ≡ book
+  pub output : o ≡ out
+
+abbrev pub RefusedAsCame : Type 0
+RefusedAsCame =
+    (s : Held) (lent book out : List ℕ) (b n : ℕ) → OctetRefused (joined s lent) book out n → (r : HeldAnswer) (k b′ o : List ℕ)
+    → CallLeaves (octetOf (joined s lent) book out b) lent r k b′ o → AsCame s lent book out r k b′ o
+
+abbrev pub FewerRefused : Type 0
+FewerRefused = (s : Held) (lent : List ℕ) → length lent < 256 → soundOf (joined s lent) ≡ false
 
 -- The numbers that have names: "Plan p, 1 to 48, has 80 octets", "plan book is not 3,840 octets", "544 for an octet call", "FFFF is
 -- for all"

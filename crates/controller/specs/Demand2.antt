@@ -24,10 +24,9 @@ use Rattle.plan.specs.Setting.{setTimesOf, setPlanOf, planIn}
 use Rattle.plan.specs.Reporting.{timesInfo, planInfo}
 use Rattle.lamps.specs.Rows.{secondsOf, stepsOfPlan}
 use Rattle.lamps.specs.Promises.{Due}
-use Rattle.controller.specs.declared.State.{State}
 use Rattle.controller.specs.declared.Event.{Event}
 use Rattle.controller.specs.declared.Event.the-variants as event
-use Rattle.controller.specs.State.{soundOf}
+use Rattle.controller.specs.State.{State, soundOf}
 use Rattle.controller.specs.Replies.{Call, octetOf}
 use Rattle.controller.specs.Seconds.{secondOf}
 
@@ -40,8 +39,8 @@ onLine (f ∷ fs) = written f ++ onLine fs
 
 -- the call wrote these frames, and counts them
 pub record Wrote (w : Call) (fs : List Frame) : Type 0 where
-  pub count : w .answer .count ≡ length (onLine fs)
-  pub octets : take (w .answer .count) (w .out) ≡ onLine fs
+  pub count : w .answer .told .count ≡ length (onLine fs)
+  pub octets : take (w .answer .told .count) (w .out) ≡ onLine fs
 
 -- "NAK, ERR 01", "NAK, ERR 02", "NAK, ERR 04": the ERR that answers a refusal
 pub data Err : ℕ → ℕ → Type 0 where
@@ -58,7 +57,7 @@ pub record OnlyTaken (s : State) (before : List ℕ) (b : ℕ) (w : Call) : Type
   pub state : w .answer .state
       ≡ record { own = s .own; seq = s .seq; requested = s .requested; decoder = takenOf (s .decoder) b .decoder; running = s .running }
   pub book : w .book ≡ before
-  pub parameter : w .answer .parameter ≡ 0
+  pub parameter : w .answer .told .parameter ≡ 0
 
 -- the frames that an event hands to the host: none, or one
 abbrev pub eventFrames : ℕ → Event → List Frame
@@ -68,20 +67,20 @@ eventFrames own (event.Nak seq err) = nak seq own err ∷ []
 
 -- the call hands these frames to the host as its event
 abbrev pub Hands : State → List Frame → Call → Type 0
-Hands s fs w = eventFrames (s .own) (w .answer .event) ≡ fs
+Hands s fs w = eventFrames (s .own) (w .answer .told .event) ≡ fs
 
 -- an octet call that is done, by what the octet brought, `o`
 pub record RepliesSo (s : State) (book : List ℕ) (b : ℕ) (o : Outcome) (w : Call) : Type 0 where
-  pub quiet : o ≡ nothing → Wrote w [] × (w .answer .refusal ≡ 0) × OnlyTaken s book b w × Hands s [] w
+  pub quiet : o ≡ nothing → Wrote w [] × (w .answer .told .refusal ≡ 0) × OnlyTaken s book b w × Hands s [] w
   -- "Refusals 1 to 3 of a message frame write one NAK with the received SEQ, if the received ADDR is ours"
   pub nakForUs : (n err seq : ℕ) → Err n err → o ≡ refused n Message seq (s .own) → Wrote w (nak seq (s .own) err ∷ [])
   -- "Faulty ACK and NAK frames are never replied to."
   pub noNak : (n : ℕ) (k : Kind) (seq addr : ℕ) → o ≡ refused n k seq addr → ((k ≡ Message → ⊥) ⊎ (addr ≡ s .own → ⊥)) → Wrote w []
   -- "the result names the refusal for any address"
-  pub named : (n : ℕ) (k : Kind) (seq addr : ℕ) → o ≡ refused n k seq addr → (w .answer .refusal ≡ n) × OnlyTaken s book b w × Hands s [] w
+  pub named : (n : ℕ) (k : Kind) (seq addr : ℕ) → o ≡ refused n k seq addr → (w .answer .told .refusal ≡ n) × OnlyTaken s book b w × Hands s [] w
   -- "A received 0F 80 or 0F 81 of any length gets the ACK only (nothing for FFFF) and is no refusal."
   pub ackOnly : (seq : ℕ) (info : List ℕ) → o ≡ sound (message seq (s .own) info) → IsAnswer info
-      → Wrote w (ack seq (s .own) ∷ []) × (w .answer .refusal ≡ 0) × OnlyTaken s book b w
+      → Wrote w (ack seq (s .own) ∷ []) × (w .answer .told .refusal ≡ 0) × OnlyTaken s book b w
   -- "A sound message frame for us writes an ACK with the received SEQ, then one message frame with our next SEQ .. grows by one per
   -- message frame written, and after 255 comes 0."
   pub replied : (seq : ℕ) (info : List ℕ) → o ≡ sound (message seq (s .own) info) → (IsAnswer info → ⊥)
@@ -89,17 +88,17 @@ pub record RepliesSo (s : State) (book : List ℕ) (b : ℕ) (o : Outcome) (w : 
   -- "FFFF is for all: carried out, never replied to."
   pub forAll : (seq : ℕ) (info : List ℕ) → o ≡ sound (message seq 0xFFFF info) → Wrote w [] × (w .answer .state .seq ≡ s .seq)
   -- of 0F 80 and 0F 81: "(nothing for FFFF) and is no refusal"
-  pub answerForAll : (seq : ℕ) (info : List ℕ) → o ≡ sound (message seq 0xFFFF info) → IsAnswer info → (w .answer .refusal ≡ 0) × OnlyTaken s book b w
+  pub answerForAll : (seq : ℕ) (info : List ℕ) → o ≡ sound (message seq 0xFFFF info) → IsAnswer info → (w .answer .told .refusal ≡ 0) × OnlyTaken s book b w
   -- "A sound frame for another address is dropped silently."; "Address is judged after CKS."
   pub dropped : (seq addr : ℕ) (info : List ℕ) → o ≡ sound (message seq addr info) → (addr ≡ s .own → ⊥) → (addr ≡ 0xFFFF → ⊥)
-      → Wrote w [] × (w .answer .refusal ≡ 0) × OnlyTaken s book b w
+      → Wrote w [] × (w .answer .told .refusal ≡ 0) × OnlyTaken s book b w
   -- no message is an event
   pub noEvent : (seq addr : ℕ) (info : List ℕ) → o ≡ sound (message seq addr info) → Hands s [] w
   -- "A sound ACK or NAK for us is handed to the host as an event and changes nothing; one to FFFF is dropped."
   pub ackEvent : (seq : ℕ) → o ≡ sound (ack seq (s .own)) → Hands s (ack seq (s .own) ∷ []) w
   pub nakEvent : (seq err : ℕ) → o ≡ sound (nak seq (s .own) err) → Hands s (nak seq (s .own) err ∷ []) w
-  pub ackQuiet : (seq addr : ℕ) → o ≡ sound (ack seq addr) → Wrote w [] × (w .answer .refusal ≡ 0) × OnlyTaken s book b w
-  pub nakQuiet : (seq addr err : ℕ) → o ≡ sound (nak seq addr err) → Wrote w [] × (w .answer .refusal ≡ 0) × OnlyTaken s book b w
+  pub ackQuiet : (seq addr : ℕ) → o ≡ sound (ack seq addr) → Wrote w [] × (w .answer .told .refusal ≡ 0) × OnlyTaken s book b w
+  pub nakQuiet : (seq addr err : ℕ) → o ≡ sound (nak seq addr err) → Wrote w [] × (w .answer .told .refusal ≡ 0) × OnlyTaken s book b w
   pub ackOther : (seq addr : ℕ) → o ≡ sound (ack seq addr) → (addr ≡ s .own → ⊥) → Hands s [] w
   pub nakOther : (seq addr err : ℕ) → o ≡ sound (nak seq addr err) → (addr ≡ s .own → ⊥) → Hands s [] w
   -- whatever it brought: the octet is taken, and own address and running plan stay
@@ -122,8 +121,8 @@ info81 code n parameter = 0x0F ∷ 0x81 ∷ highOf code ∷ lowOf code ∷ n ∷
 
 -- The call names refusal n and its parameter, and where the message was for us its reply is this INFO.
 pub record Answers (s : State) (seq addr n m : ℕ) (info : List ℕ) (w : Call) : Type 0 where
-  pub names : w .answer .refusal ≡ n
-  pub parameter : w .answer .parameter ≡ m
+  pub names : w .answer .told .refusal ≡ n
+  pub parameter : w .answer .told .parameter ≡ m
   pub reply : addr ≡ s .own → Wrote w (ack seq (s .own) ∷ message (s .seq) (s .own) info ∷ [])
 
 -- "carried out": 0F 80, the plan p then requested, and the book then so

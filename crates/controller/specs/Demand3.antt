@@ -31,11 +31,9 @@ use Rattle.lamps.specs.Promises.{PhaseWhole}
 use Rattle.cycles.specs.Machine.{Machine, rowThen, answers}
 use Rattle.cycles.specs.Cycles.{Cycles, HoldsCycle}
 use Rattle.controller.specs.declared.Running.{Running}
-use Rattle.controller.specs.declared.State.{State}
-use Rattle.controller.specs.declared.Shown.{Shown}
-use Rattle.controller.specs.State.{soundOf}
+use Rattle.controller.specs.State.{State, soundOf}
 use Rattle.controller.specs.Replies.{octetOf, lineIdleOf}
-use Rattle.controller.specs.Seconds.{startedOf, secondOf}
+use Rattle.controller.specs.Seconds.{Shown, startedOf, secondOf}
 
 -- A run
 
@@ -45,7 +43,7 @@ pub data HostCall : Type 0 where
   lineIdle : HostCall
   second : (book : List ℕ) → Octets book → HostCall
 
--- "states handed back as given": the state after the events, from a fresh start
+-- "states handed back as given": the state after the events, from a fresh start with any 256 octets kept for INFO
 abbrev pub next : State → HostCall → State
 next s (octet b _ book out _) = octetOf s book out b .answer .state
 next s lineIdle = lineIdleOf s .state
@@ -55,8 +53,8 @@ abbrev pub goesOn : State → List HostCall → State
 goesOn s [] = s
 goesOn s (e ∷ es) = goesOn (next s e) es
 
-abbrev pub run : Which → ℕ → List HostCall → State
-run which own es = goesOn (startedOf which own .state) es
+abbrev pub run : Which → ℕ → List ℕ → List HostCall → State
+run which own kept es = goesOn (startedOf which own kept .state) es
 
 -- what an accepted second shows: the plan, the step, the seconds left and both words
 pub record Second : Type 0 where
@@ -67,7 +65,7 @@ abbrev pub secondOfPlan : ℕ → Row → Second
 secondOfPlan p r = record { plan = p; row = r }
 
 abbrev pub secondAccepted : Shown → Option Second
-secondAccepted a = pick (eqb (a .refusal) 0) (some (secondOfPlan (a .plan) (a .row))) none
+secondAccepted a = pick (eqb (a .told .refusal) 0) (some (secondOfPlan (a .plan) (a .row))) none
 
 abbrev pub says : State → HostCall → Option Second
 says s (octet b _ book out _) = none
@@ -88,20 +86,20 @@ abbrev pub SecondsInARow : Type 0
 SecondsInARow = (s : State) → InARow s
 
 -- the accepted seconds of the events es, after those of `past`
-abbrev pub seconds : Which → ℕ → List HostCall → List HostCall → List Second
-seconds which own past es = saysOn (run which own past) es
+abbrev pub seconds : Which → ℕ → List ℕ → List HostCall → List HostCall → List Second
+seconds which own kept past es = saysOn (run which own kept past) es
 
 -- "The state keeps which one": no call changes it, whatever it is handed and whether it is refused or done; over any run it is that of the start
 abbrev pub WhichKept : Type 0
 WhichKept =
     ((s : State) (e : HostCall) → next s e .running .which ≡ s .running .which)
-    × ((which : Which) (own : ℕ) (es : List HostCall) → run which own es .running .which ≡ which)
+    × ((which : Which) (own : ℕ) (kept : List ℕ) (es : List HostCall) → run which own kept es .running .which ≡ which)
 
 -- "and plan 0 means that one throughout": whenever plan 0 runs, after whatever calls, its record is that of the start
 abbrev pub PlanZeroThroughout : Type 0
 PlanZeroThroughout =
-    (which : Which) (own : ℕ) → (own ≡ 0xFFFF → ⊥) → (es : List HostCall)
-    → run which own es .running .plan ≡ 0 → run which own es .running .copy ≡ builtIn which
+    (which : Which) (own : ℕ) (kept : List ℕ) → (own ≡ 0xFFFF → ⊥) → length kept ≡ 256 → (es : List HostCall)
+    → run which own kept es .running .plan ≡ 0 → run which own kept es .running .copy ≡ builtIn which
 
 -- "The latest run message carried out", told from the octets handed in
 
@@ -143,12 +141,12 @@ abbrev pub hearsOn : ℕ → Heard → List HostCall → Heard
 hearsOn own h [] = h
 hearsOn own h (e ∷ es) = hearsOn own (hears own h e) es
 
-abbrev pub latestRun : ℕ → List HostCall → ℕ
-latestRun own es = hearsOn own (record { decoder = freshDecoder; latest = 0 }) es .latest
+abbrev pub latestRun : ℕ → List ℕ → List HostCall → ℕ
+latestRun own kept es = hearsOn own (record { decoder = freshDecoder kept; latest = 0 }) es .latest
 
 -- it is what the state keeps
 abbrev pub LatestKept : Type 0
-LatestKept = (which : Which) (own : ℕ) → (own ≡ 0xFFFF → ⊥) → (es : List HostCall) → run which own es .requested ≡ latestRun own es
+LatestKept = (which : Which) (own : ℕ) (kept : List ℕ) → (own ≡ 0xFFFF → ⊥) → length kept ≡ 256 → (es : List HostCall) → run which own kept es .requested ≡ latestRun own kept es
 
 -- Whole cycles
 
@@ -187,32 +185,32 @@ SecondsLeave = (s : State) (book : List ℕ) → soundOf s ≡ true → length b
 
 -- After the events `past` a cycle of plan p with record rec is due; the accepted seconds of the events es are that cycle and
 -- others after it, one by one.
-pub data CyclesInRun (which : Which) (own : ℕ) : ℕ → List ℕ → List HostCall → List HostCall → Type 0 where
+pub data CyclesInRun (which : Which) (own : ℕ) (kept : List ℕ) : ℕ → List ℕ → List HostCall → List HostCall → Type 0 where
   -- "the last perhaps unfinished": rows of it are still to come
-  unfinished : {p : ℕ} {rec : List ℕ} {past es : List HostCall} (rest : List Second) → seconds which own past es ++ rest ≡ cycleOfPlan p rec → 0 < length rest
-      → CyclesInRun which own p rec past es
+  unfinished : {p : ℕ} {rec : List ℕ} {past es : List HostCall} (rest : List Second) → seconds which own kept past es ++ rest ≡ cycleOfPlan p rec → 0 < length rest
+      → CyclesInRun which own kept p rec past es
   -- `before` and then the second call with `book` answer the whole cycle, that call its last second; it chooses the next
   whole : {p : ℕ} {rec : List ℕ} {past es : List HostCall} (before : List HostCall) (book : List ℕ) (o : Octets book) (last : Second) (p′ : ℕ) (rec′ : List ℕ)
-      → says (run which own (past ++ before)) (second book o) ≡ some last
-      → seconds which own past before ++ (last ∷ []) ≡ cycleOfPlan p rec
-      → Chosen which (latestRun own (past ++ before)) book p rec p′ rec′ → Ready rec′
-      → CyclesInRun which own p′ rec′ (past ++ (before ++ (second book o ∷ []))) es
-      → CyclesInRun which own p rec past (before ++ (second book o ∷ es))
+      → says (run which own kept (past ++ before)) (second book o) ≡ some last
+      → seconds which own kept past before ++ (last ∷ []) ≡ cycleOfPlan p rec
+      → Chosen which (latestRun own kept (past ++ before)) book p rec p′ rec′ → Ready rec′
+      → CyclesInRun which own kept p′ rec′ (past ++ (before ++ (second book o ∷ []))) es
+      → CyclesInRun which own kept p rec past (before ++ (second book o ∷ es))
 
 -- "The first is plan 0", that of its start
 abbrev pub RunsWholeCycles : Type 0
-RunsWholeCycles = (which : Which) (own : ℕ) → (own ≡ 0xFFFF → ⊥) → (es : List HostCall) → CyclesInRun which own 0 (builtIn which) [] es
+RunsWholeCycles = (which : Which) (own : ℕ) (kept : List ℕ) → (own ≡ 0xFFFF → ⊥) → length kept ≡ 256 → (es : List HostCall) → CyclesInRun which own kept 0 (builtIn which) [] es
 
 -- Any 1,799
 
 -- of the accepted seconds of the run, counted from 0, those from number n on hold a whole cycle, which begins within the first
 -- 900 and ends within the first 1,799; each of its phases stands whole in it
-pub record HoldsWhole (which : Which) (own : ℕ) (es : List HostCall) (n : ℕ) : Type 0 where
+pub record HoldsWhole (which : Which) (own : ℕ) (kept : List ℕ) (es : List HostCall) (n : ℕ) : Type 0 where
   pub plan : ℕ
   pub rec : List ℕ
   pub before : List Second
   pub later : List Second
-  pub run : seconds which own [] es ≡ before ++ (cycleOfPlan plan rec ++ later)
+  pub run : seconds which own kept [] es ≡ before ++ (cycleOfPlan plan rec ++ later)
   pub from : n ≤ length before
   pub soon : length before < n + 900
   pub within : length before + length (cycleOfPlan plan rec) ≤ n + 1799
@@ -221,7 +219,7 @@ pub record HoldsWhole (which : Which) (own : ℕ) (es : List HostCall) (n : ℕ)
 
 abbrev pub AnyWindow : Type 0
 AnyWindow =
-    (which : Which) (own : ℕ) → (own ≡ 0xFFFF → ⊥) → (es : List HostCall) (n : ℕ) → n + 1799 ≤ length (seconds which own [] es) → HoldsWhole which own es n
+    (which : Which) (own : ℕ) (kept : List ℕ) → (own ≡ 0xFFFF → ⊥) → length kept ≡ 256 → (es : List HostCall) (n : ℕ) → n + 1799 ≤ length (seconds which own kept [] es) → HoldsWhole which own kept es n
 
 -- Sets
 
@@ -236,8 +234,8 @@ NoSecond (second book _ ∷ es) = ⊥
 -- without them
 abbrev pub SetsNeverAlter : Type 0
 SetsNeverAlter =
-    (which : Which) (own : ℕ) → (own ≡ 0xFFFF → ⊥) → (past between : List HostCall) (book : List ℕ) (o : Octets book) → NoSecond between
-    → says (run which own (past ++ between)) (second book o) ≡ says (run which own past) (second book o)
+    (which : Which) (own : ℕ) (kept : List ℕ) → (own ≡ 0xFFFF → ⊥) → length kept ≡ 256 → (past between : List HostCall) (book : List ℕ) (o : Octets book) → NoSecond between
+    → says (run which own kept (past ++ between)) (second book o) ≡ says (run which own kept past) (second book o)
 
 -- The controller as a machine of the crate `cycles`, from whose theorems whole cycles and the window follow
 
@@ -246,32 +244,32 @@ unfoldable pub leftOf : Running → List Second
 leftOf u = map (secondOfPlan (u .plan)) (drop (u .position) (rowsOf (u .copy)))
 
 -- the rule at the call that answers a cycle's last second, after the events `past`; `later` are these and that call
-abbrev pub Picks : Which → ℕ → List HostCall → HostCall → List HostCall → Type 0
-Picks which own past (octet b _ book out _) later = ⊥
-Picks which own past lineIdle later = ⊥
-Picks which own past (second book _) later =
-    let u = run which own past .running in
-    let v = run which own later .running in
-    Chosen which (latestRun own past) book (u .plan) (u .copy) (v .plan) (v .copy)
+abbrev pub Picks : Which → ℕ → List ℕ → List HostCall → HostCall → List HostCall → Type 0
+Picks which own kept past (octet b _ book out _) later = ⊥
+Picks which own kept past lineIdle later = ⊥
+Picks which own kept past (second book _) later =
+    let u = run which own kept past .running in
+    let v = run which own kept later .running in
+    Chosen which (latestRun own kept past) book (u .plan) (u .copy) (v .plan) (v .copy)
 
 -- its states are the events so far; no event alters a cycle under way
-abbrev pub crossing : Which → ℕ → Machine
-crossing which own = record {
+abbrev pub crossing : Which → ℕ → List ℕ → Machine
+crossing which own kept = record {
   State = List HostCall;
   Event = HostCall;
   Row = Second;
   next = λ past e. past ++ (e ∷ []);
-  says = λ past e. says (run which own past) e;
-  left = λ past. leftOf (run which own past .running);
-  Start = λ past. run which own past .running .position ≡ 0;
-  Picks = Picks which own;
+  says = λ past e. says (run which own kept past) e;
+  left = λ past. leftOf (run which own kept past .running);
+  Start = λ past. run which own kept past .running .position ≡ 0;
+  Picks = Picks which own kept;
   Alters = λ past e later. ⊥;
 }
 
 abbrev pub CrossingCycles : Type 0
-CrossingCycles = (which : Which) (own : ℕ) → (own ≡ 0xFFFF → ⊥) → (es : List HostCall) → Cycles (crossing which own) [] es
+CrossingCycles = (which : Which) (own : ℕ) (kept : List ℕ) → (own ≡ 0xFFFF → ⊥) → length kept ≡ 256 → (es : List HostCall) → Cycles (crossing which own kept) [] es
 
 abbrev pub CrossingHolds : Type 0
 CrossingHolds =
-    (which : Which) (own : ℕ) → (own ≡ 0xFFFF → ⊥) → (es : List HostCall) (n : ℕ) → n + 1799 ≤ length (answers (crossing which own) [] es)
-    → HoldsCycle (crossing which own) [] es n 900 1799
+    (which : Which) (own : ℕ) (kept : List ℕ) → (own ≡ 0xFFFF → ⊥) → length kept ≡ 256 → (es : List HostCall) (n : ℕ) → n + 1799 ≤ length (answers (crossing which own kept) [] es)
+    → HoldsCycle (crossing which own kept) [] es n 900 1799

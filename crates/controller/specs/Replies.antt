@@ -5,7 +5,7 @@ use mathlib.Core.Path.{_≡_}
 use mathlib.Core.Bool.{Bool, true, not}
 use mathlib.Core.List.{List, [], _∷_, _++_}
 use lib.Dec.{eqb, leb}
-use lib.ListN.{length}
+use lib.ListN.{length, drop}
 use lib.Seq.{sets}
 use Rattle.octets.specs.Choice.{pick}
 use Rattle.octets.specs.Part.{codeLen}
@@ -20,16 +20,20 @@ use Rattle.frame.specs.Run.{Outcome, nothing, refused, sound, outcomeOf}
 use Rattle.message.specs.Reader.{codeIn}
 use Rattle.message.specs.Writer.{infoOf}
 use Rattle.record.specs.Record.{bookLen}
-use Rattle.controller.specs.declared.Running.{Running}
-use Rattle.controller.specs.declared.State.{State}
 use Rattle.controller.specs.declared.Event.{Event}
 use Rattle.controller.specs.declared.Event.the-variants as event
-use Rattle.controller.specs.declared.Answer.{Answer}
+use Rattle.controller.specs.declared.Told.{Told}
+use Rattle.controller.specs.declared.HeldAnswer.{HeldAnswer}
 use Rattle.controller.specs.declared.Handled.{Handled}
-use Rattle.controller.specs.State.{all, outputLen, soundOf, withDecoder}
+use Rattle.controller.specs.State.{State, joined, all, outputLen, soundOf, withDecoder}
 use Rattle.controller.specs.Handling.{Handling, carriedOutCode, refusedCode, handlingOf}
 
 -- The octet call
+
+-- what a call answers: the state, and what it tells
+pub record Answer : Type 0 where
+  pub state : State
+  pub told : Told
 
 -- what a call leaves: its answer, the book and the output
 pub record Call : Type 0 where
@@ -37,9 +41,15 @@ pub record Call : Type 0 where
   pub book : List ℕ
   pub out : List ℕ
 
--- the call answered r and left b in the book and o in the output, as it should
-pub record CallLeaves (w : Call) (r : Answer) (b o : List ℕ) : Type 0 where
-  pub answer : r ≡ w .answer
+-- the answer of the code, with the octets that are then kept for INFO
+abbrev pub answerWith : HeldAnswer → List ℕ → Answer
+answerWith r kept = record { state = joined (r .state) kept; told = r .told }
+
+-- the call answered r and left k of the octets lent for INFO, b in the book and o in the output, as it should; of more octets than are
+-- wanted those beyond stay
+pub record CallLeaves (w : Call) (lent : List ℕ) (r : HeldAnswer) (k b o : List ℕ) : Type 0 where
+  pub answer : answerWith r k ≡ w .answer
+  pub beyond : drop infoMost k ≡ drop infoMost lent
   pub book : b ≡ w .book
   pub out : o ≡ w .out
 
@@ -50,7 +60,7 @@ sent (f ∷ fs) = written f ++ sent fs
 
 -- the answer of a call that leaves the state s, names refusal n and its parameter, hands e to the host and writes the frames fs
 abbrev pub answerOf : State → ℕ → ℕ → Event → List Frame → Answer
-answerOf s n parameter e fs = record { state = s; refusal = n; parameter = parameter; event = e; count = length (sent fs) }
+answerOf s n parameter e fs = record { state = s; told = record { refusal = n; parameter = parameter; event = e; count = length (sent fs) } }
 
 abbrev pub callOf : State → ℕ → ℕ → Event → List Frame → List ℕ → List ℕ → Call
 callOf s n parameter e fs book out = record { answer = answerOf s n parameter e fs; book = book; out = sets out 0 (sent fs) }
@@ -113,47 +123,47 @@ pub record ResultAndBook : Type 0 where
   pub book : List ℕ
 
 -- where no message is handled there is no parameter; SEQ, request and book stay
-abbrev pub unchanged : ℕ → Event → List Frame → ℕ → ℕ → Result
-unchanged n e fs ours requested = record { refusal = n; parameter = 0; event = e; frames = fs; seq = ours; requested = requested }
+abbrev pub unchanged : State → ℕ → Event → List Frame → Result
+unchanged s n e fs = record { refusal = n; parameter = 0; event = e; frames = fs; seq = s .seq; requested = s .requested }
 
 abbrev pub leaves : List ℕ → Result → ResultAndBook
 leaves book w = record { result = w; book = book }
 
 -- "Our SEQ .. grows by one per message frame written, and after 255 comes 0."
-unfoldable pub repliedOf : ℕ → ℕ → ℕ → ℕ → Handled → Result
-repliedOf own ours seq addr h =
+unfoldable pub repliedOf : State → ℕ → ℕ → Handled → Result
+repliedOf s seq addr h =
     record {
       refusal = h .refusal;
       parameter = h .parameter;
       event = event.Nothing;
-      frames = pick (eqb addr own) (repliesOf seq ours own (infoOf (h .reply))) [];
-      seq = pick (eqb addr own) ((ours + 1) % 256) ours;
+      frames = pick (eqb addr (s .own)) (repliesOf seq (s .seq) (s .own) (infoOf (h .reply))) [];
+      seq = pick (eqb addr (s .own)) ((s .seq + 1) % 256) (s .seq);
       requested = h .requested;
     }
 
 -- a message carried out and replied to
-abbrev pub handledOf : ℕ → ℕ → ℕ → ℕ → Handling → ResultAndBook
-handledOf own ours seq addr h = record { result = repliedOf own ours seq addr (h .handled); book = h .book }
+abbrev pub handledOf : State → ℕ → ℕ → Handling → ResultAndBook
+handledOf s seq addr h = record { result = repliedOf s seq addr (h .handled); book = h .book }
 
 -- a sound message frame; "A sound frame for another address is dropped silently."
-unfoldable pub messageOf : ℕ → ℕ → ℕ → Running → ℕ → ℕ → List ℕ → List ℕ → ResultAndBook
-messageOf own ours requested u seq addr info book =
-    pick (forUs own addr)
-    (pick (isAnswer (codeIn info)) (leaves book (unchanged refusal.none event.Nothing (acks own seq addr) ours requested))
-    (handledOf own ours seq addr (handlingOf u requested book info)))
-    (leaves book (unchanged refusal.none event.Nothing [] ours requested))
+unfoldable pub messageOf : State → ℕ → ℕ → List ℕ → List ℕ → ResultAndBook
+messageOf s seq addr info book =
+    pick (forUs (s .own) addr)
+    (pick (isAnswer (codeIn info)) (leaves book (unchanged s refusal.none event.Nothing (acks (s .own) seq addr)))
+    (handledOf s seq addr (handlingOf (s .running) (s .requested) book info)))
+    (leaves book (unchanged s refusal.none event.Nothing []))
 
 -- "A sound ACK or NAK for us is handed to the host as an event and changes nothing; one to FFFF is dropped."
 abbrev pub eventFor : ℕ → ℕ → Event → Event
 eventFor own addr e = pick (eqb addr own) e event.Nothing
 
--- by what the octet ended, at this own address, with our SEQ, the requested and the running plan so
-abbrev pub broughtOf : Outcome → ℕ → ℕ → ℕ → Running → List ℕ → ResultAndBook
-broughtOf nothing own ours requested u book = leaves book (unchanged refusal.none event.Nothing [] ours requested)
-broughtOf (refused n k seq addr) own ours requested u book = leaves book (unchanged n event.Nothing (naks k own n seq addr) ours requested)
-broughtOf (sound (message seq addr info)) own ours requested u book = messageOf own ours requested u seq addr info book
-broughtOf (sound (ack seq addr)) own ours requested u book = leaves book (unchanged refusal.none (eventFor own addr (event.Ack seq)) [] ours requested)
-broughtOf (sound (nak seq addr err)) own ours requested u book = leaves book (unchanged refusal.none (eventFor own addr (event.Nak seq err)) [] ours requested)
+-- by what the octet ended
+abbrev pub broughtOf : Outcome → State → List ℕ → ResultAndBook
+broughtOf nothing s book = leaves book (unchanged s refusal.none event.Nothing [])
+broughtOf (refused n k seq addr) s book = leaves book (unchanged s n event.Nothing (naks k (s .own) n seq addr))
+broughtOf (sound (message seq addr info)) s book = messageOf s seq addr info book
+broughtOf (sound (ack seq addr)) s book = leaves book (unchanged s refusal.none (eventFor (s .own) addr (event.Ack seq)) [])
+broughtOf (sound (nak seq addr err)) s book = leaves book (unchanged s refusal.none (eventFor (s .own) addr (event.Nak seq err)) [])
 
 -- the call that the state s makes of it, whose decoder is then d
 abbrev pub madeOf : State → Decoder → ResultAndBook → List ℕ → Call
@@ -163,7 +173,7 @@ madeOf s d w out =
     callOf t (r .refusal) (r .parameter) (r .event) (r .frames) (w .book) out
 
 unfoldable pub doneOf : State → Taken → List ℕ → List ℕ → Call
-doneOf s t book out = madeOf s (t .decoder) (broughtOf (outcomeOf t) (s .own) (s .seq) (s .requested) (s .running) book) out
+doneOf s t book out = madeOf s (t .decoder) (broughtOf (outcomeOf t) s book) out
 
 -- "Order: 7, 8, 9 in a call"
 unfoldable pub octetOf : State → List ℕ → List ℕ → ℕ → Call

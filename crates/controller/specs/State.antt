@@ -3,15 +3,30 @@ use Prim.Native.Nat.{ℕ}
 use mathlib.Core.Bool.{Bool, true, not}
 use mathlib.Core.List.{List}
 use lib.Dec.{eqb, ltb, leb}
+use lib.ListN.{length}
 use Rattle.octets.specs.Choice.{pick, both}
-use Rattle.frame.specs.Decoder.{Decoder, freshDecoder, possibleOf}
+use Rattle.frame.specs.Frame.{infoMost}
+use Rattle.frame.specs.Decoder.{Decoder, freshDecoder, possibleOf, joinedDecoder}
 use Rattle.record.specs.Record.{plansMost, ready, cycleOf}
 use Rattle.checks.specs.Standing.{standingOf}
 use Rattle.plan.specs.declared.Which.{Which}
 use Rattle.plan.specs.BuiltIn.{builtIn}
 use Rattle.plan.specs.Reading.{recordAt, same}
 use Rattle.controller.specs.declared.Running.{Running}
-use Rattle.controller.specs.declared.State.{State}
+use Rattle.controller.specs.declared.Held.{Held}
+
+-- own address, our SEQ, the requested plan, the decoder with the octets that it keeps for INFO, the running plan
+pub record State : Type 0 where
+  pub own : ℕ
+  pub seq : ℕ
+  pub requested : ℕ
+  pub decoder : Decoder
+  pub running : Running
+
+-- In the code these are a struct, and the octets of INFO, which are lent to the calls: the first 256 of those lent. Those beyond are no part
+-- of the state.
+abbrev pub joined : Held → List ℕ → State
+joined s kept = record { own = s .own; seq = s .seq; requested = s .requested; decoder = joinedDecoder (s .head) kept; running = s .running }
 
 -- "FFFF is for all"
 abbrev pub all : ℕ
@@ -26,9 +41,9 @@ abbrev pub startedAt : Which → ℕ → List ℕ → Running
 startedAt which plan rec = record { which = which; plan = plan; position = 0; copy = rec }
 
 -- "A fresh start runs and requests plan 0 at position 0"; "Our SEQ starts at 0"; 02, E1: "A start call that names the old built-in plan
--- stays .. the plain start takes the new one. The state keeps which one"
-unfoldable pub freshOf : Which → ℕ → State
-freshOf which own = record { own = own; seq = 0; requested = 0; decoder = freshDecoder; running = startedAt which 0 (builtIn which) }
+-- stays .. the plain start takes the new one. The state keeps which one"; what the octets of INFO hold does not matter
+unfoldable pub freshOf : Which → ℕ → List ℕ → State
+freshOf which own info = record { own = own; seq = 0; requested = 0; decoder = freshDecoder info; running = startedAt which 0 (builtIn which) }
 
 -- the state with another decoder, another running plan
 abbrev pub withDecoder : State → Decoder → State
@@ -49,7 +64,8 @@ abbrev pub readyIn : Which → List ℕ → ℕ → Bool
 readyIn which book p = eqb (standingOf (planRecord which book p)) ready
 
 -- "state handed in is unsound (own address FFFF, requested plan over 48, position outside the cycle, running plan over 48,
--- failing the checks, or numbered 0 and unlike the built-in, impossible decoder place)"; the built-in is the one that is kept
+-- failing the checks, or numbered 0 and unlike the built-in, impossible decoder place)"; the built-in is the one that is kept, and a
+-- decoder without its 256 octets of INFO is impossible
 unfoldable pub runningSound : Running → Bool
 runningSound u =
     both (ltb (u .position) (cycleOf (u .copy)))
@@ -61,5 +77,6 @@ unfoldable pub soundOf : State → Bool
 soundOf s =
     both (not (eqb (s .own) all))
     (both (leb (s .requested) plansMost)
+    (both (eqb (length (s .decoder .info)) infoMost)
     (both (possibleOf (s .decoder .head))
-    (runningSound (s .running))))
+    (runningSound (s .running)))))

@@ -11,8 +11,7 @@ use Rattle.plan.specs.declared.Which.{Which}
 use Rattle.plan.specs.declared.Which.the-variants.{New, Old}
 use Rattle.plan.specs.BuiltIn.{builtIn}
 use Rattle.lamps.specs.Rows.{secondsOf}
-use Rattle.controller.specs.declared.State.{State}
-use Rattle.controller.specs.State.{outputLen, freshOf}
+use Rattle.controller.specs.State.{State, outputLen, freshOf}
 use Rattle.controller.specs.Replies.{Call, octetOf}
 
 -- octets go in one by one, each with an empty book and an output of zeros; what comes out of each call, one after another
@@ -20,7 +19,7 @@ abbrev pub emptyOut : List ℕ
 emptyOut = replicate outputLen 0
 
 abbrev pub writtenBy : Call → List ℕ
-writtenBy w = take (w .answer .count) (w .out)
+writtenBy w = take (w .answer .told .count) (w .out)
 
 unfoldable pub cameOut : State → List ℕ → List ℕ
 cameOut s [] = []
@@ -46,8 +45,8 @@ abbrev pub rowsOfStart : Which → List (List ℕ)
 rowsOfStart which =
     let step = stepRow which in
     step 1 ∷ step 2 ∷ step 3 ∷ step 4 ∷ step 5 ∷ step 6 ∷ step 7 ∷ step 8 ∷ step 9 ∷ step 10
-    ∷ cameOut (freshOf which 0x0001) p1
-    ∷ cameOut (stateAfter (freshOf which 0x0001) p1) p4
+    ∷ cameOut (freshOf which 0x0001 (replicate 256 0)) p1
+    ∷ cameOut (stateAfter (freshOf which 0x0001 (replicate 256 0)) p1) p4
     ∷ []
 
 unfoldable pub rows : List (List ℕ)

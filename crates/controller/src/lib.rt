@@ -1,7 +1,7 @@
 // 01, "Replies" and "Lamps and seconds": the controller's state, and what its calls answer. There is nothing to run: what each
 // call makes of state, book and output is defined in specs/, and demands 1 to 3 are proved of it in proofs/. The functions that
 // are proved to do so are the crate `controller_calls`.
-use frame::decoder::Decoder;
+use frame::decoder::Head;
 use lamps::Row;
 use message::Message;
 use plan::Which;
@@ -21,17 +21,13 @@ pub struct Running {
     pub copy: [u8; RECORD_LEN],
 }
 
-pub struct State {
+// The state, but for the decoder's octets of INFO: these are lent to the calls, and both together are the state of 01.
+pub struct Held {
     pub own: u16,
     pub seq: u8,
     pub requested: u8,
-    pub decoder: Decoder,
+    pub head: Head,
     pub running: Running,
-}
-
-pub struct Started {
-    pub refusal: u8,
-    pub state: State,
 }
 
 // "A sound ACK or NAK for us is handed to the host as an event": its SEQ, and a NAK's ERR.
@@ -41,20 +37,25 @@ pub enum Event {
     Nak(u8, u8),
 }
 
-// What an octet call or a line-idle call answers. The refusal is that of the call, or of the frame or message that the
-// octet ended; the parameter is the field that a refused message's reply names; the count is of octets written.
-pub struct Answer {
-    pub state: State,
+// What every call tells. The refusal is that of the call, or of the frame or message that the octet ended; the parameter is the
+// field that a refused message's reply names; the count is of octets written.
+pub struct Told {
     pub refusal: u8,
     pub parameter: u8,
     pub event: Event,
     pub count: usize,
 }
 
+// What a fresh start, an octet call or a line-idle call answers.
+pub struct HeldAnswer {
+    pub state: Held,
+    pub told: Told,
+}
+
 // "A second call answers the current plan, step, seconds left in the step (this one counted) and both words".
-pub struct Shown {
-    pub state: State,
-    pub refusal: u8,
+pub struct HeldShown {
+    pub state: Held,
+    pub told: Told,
     pub plan: u8,
     pub row: Row,
 }

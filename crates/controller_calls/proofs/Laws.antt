@@ -40,7 +40,6 @@ use Rattle.checks.proofs.Stands.{some-long, some-state, plan-fits, ready-plan}
 use Rattle.plan.proofs.Reportable.{report-times-writable, report-plan-writable, standing-none, standing-past}
 use Rattle.plan.proofs.Cases.{built-in-stands}
 use Rattle.controller.specs.declared.Running.{Running}
-use Rattle.controller.specs.declared.State.{State}
 use Rattle.controller.specs.declared.Handled.{Handled}
 use Rattle.controller.specs.State.{all, runningSound, soundOf, recordWith, planRecord, startedAt}
 use Rattle.controller.specs.Handling.{runCode, queryTimesCode, queryPlanCode, queryRunningCode, carriedOutReply, accepted, refusedWith, setAs, runAs, queryTimesAs, queryPlanAs, queryRunningAs, handlingOf}

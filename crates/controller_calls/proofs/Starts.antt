@@ -4,7 +4,6 @@ use Prim.Native.Nat.{ℕ}
 use mathlib.Core.Path.{_≡_, ap}
 use Rattle.record.specs.Record.{greenOf, cycleOf}
 use Rattle.plan.specs.BuiltIn.{padded, builtIn}
-use Rattle.controller.specs.declared.Started.{Started}
 use Rattle.controller.specs.State.{freshOf}
 use Rattle.controller.specs.Seconds.{startedOf}
 use Rattle.controller_calls.proofs.fresh.Reads as fresh

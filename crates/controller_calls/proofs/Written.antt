@@ -22,14 +22,12 @@ use Rattle.frame.specs.Decoder.{Decoder, Taken}
 use Rattle.message.specs.declared.Message as message
 use Rattle.message.specs.Writer.{writable, infoOf}
 use Rattle.message.specs.Writer as writer
-use Rattle.controller.specs.declared.State.{State}
 use Rattle.controller.specs.declared.Event.{Event}
 use Rattle.controller.specs.declared.Event.the-variants as event
-use Rattle.controller.specs.declared.Answer.{Answer}
 use Rattle.controller.specs.declared.Handled.{Handled}
-use Rattle.controller.specs.State.{outputLen}
+use Rattle.controller.specs.State.{State, outputLen}
 use Rattle.controller.specs.Handling.{Handling}
-use Rattle.controller.specs.Replies.{CallLeaves, sent, naks, acks, errOf, repliesOf, unchanged, repliedOf, handledOf, broughtOf, doneOf}
+use Rattle.controller.specs.Replies.{Answer, CallLeaves, sent, naks, acks, errOf, repliesOf, unchanged, repliedOf, handledOf, broughtOf, doneOf}
 use Rattle.controller.proofs.Replying.{info-fits, ack-fits, nak-fits}
 use Rattle.controller_calls.specs.declared.replies.ResultCounted.{ResultCounted}
 use Rattle.controller_calls.specs.Handling.{HandlingLeaves}

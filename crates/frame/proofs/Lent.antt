@@ -8,15 +8,17 @@ use borrow.Author.Tests.{eq-eqb, ne-eqb}
 use lib.Dec.{eqb}
 use lib.ListN.{length, take, drop, set, take-append-drop, length-take}
 use lib.Seq.{length-take-le, take-set-lt, drop-set-lt}
+use Rattle.octets.proofs.Laws.{pick-by}
 use Rattle.frame.specs.declared.decoder.Head.{Head}
 use Rattle.frame.specs.declared.decoder.HeadTaken.{HeadTaken}
 use Rattle.frame.specs.Frame.{infoMost}
 use Rattle.frame.specs.declared.decoder.Place.the-variants.{Idle}
 use Rattle.frame.specs.declared.decoder.Found.the-variants as found
 use Rattle.frame.specs.declared.decoder.Stepped.{Stepped}
-use Rattle.frame.specs.Decoder.{Taken, possibleOf, headAt, stepAt, joinedDecoder, octetLent, idleLent, headUnsound, headTaken, takenWith, TakenLeaves}
+use Rattle.frame.specs.Decoder.{Decoder, Taken, possibleOf, headAt, stepAt, takenOf, idledOf, joinedDecoder, octetLent, idleLent, headUnsound, headTaken, takenWith, TakenLeaves}
 use Rattle.frame.specs.Promises.{OctetsLent}
 use Rattle.frame.proofs.Laws.{idled-7, idled-done, taken-7, taken-as, keeps-room}
+use Rattle.frame.proofs.Writing.{step-long}
 
 -- a list is its first n and those beyond
 pub parted : (n : ℕ) (k l : List ℕ) → take n k ≡ take n l → drop n k ≡ drop n l → k ≡ l
@@ -28,6 +30,17 @@ taken-one-to-one r s k l e d =
 
 take-short : (n : ℕ) (l : List ℕ) → length (take n l) ≤ length l
 take-short n l = omega (arith, length-take n l)
+
+-- A call leaves as many octets as it was lent
+
+module _ (d : Decoder) (long : length (d .info) ≡ infoMost) where
+  pub taken-long : (b : ℕ) → length (takenOf d b .decoder .info) ≡ infoMost
+  unfolding takenOf
+  taken-long b = pick-by (λ (t : Taken). length (t .decoder .info) ≡ infoMost) (possibleOf (d .head)) (λ _. step-long d b long) (λ _. long)
+
+  pub idled-long : length (idledOf d .decoder .info) ≡ infoMost
+  unfolding idledOf
+  idled-long = pick-by (λ (t : Taken). length (t .decoder .info) ≡ infoMost) (possibleOf (d .head)) (λ _. long) (λ _. long)
 
 -- are there enough?
 pub enough : (h : Head) (kept : List ℕ) → infoMost ≤ length kept → eqb (length (joinedDecoder h kept .info)) infoMost ≡ true

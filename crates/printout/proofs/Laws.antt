@@ -12,10 +12,8 @@ use Rattle.text.specs.Text.{ascii, octetsHex}
 use Rattle.text.proofs.Laws.{hex16-length, octets-length}
 use Rattle.line.specs.declared.LineFound.the-variants as found
 use Rattle.line.specs.Line.{lineFeed}
-use Rattle.controller.specs.declared.State.{State}
-use Rattle.controller.specs.declared.Answer.{Answer}
-use Rattle.controller.specs.State.{outputLen}
-use Rattle.controller.specs.Replies.{CallLeaves, octetOf}
+use Rattle.controller.specs.State.{State, outputLen}
+use Rattle.controller.specs.Replies.{Answer, CallLeaves, octetOf}
 use Rattle.controller.proofs.Answering.{outputs-left}
 use Rattle.printout.specs.declared.run.Run.{Run}
 use Rattle.printout.specs.Listing.{wordText, replyLine}

@@ -1,8 +1,8 @@
 -- Any two results that a contract allows are equal.
+use Rattle.controller.specs.State.{State}
 use Prim.Native.Nat.{ℕ}
 use mathlib.Core.Path.{_≡_, sym, ap, _∙_}
 use denote.Ref.{now}
-use Rattle.controller.specs.declared.State.{State}
 use Rattle.printout.specs.declared.run.Run.{Run}
 use Rattle.printout.proofs.put_header.Reads as put-header
 use Rattle.printout.proofs.put_second.Reads as put-second

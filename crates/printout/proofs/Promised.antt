@@ -33,12 +33,10 @@ use Rattle.lamps.specs.Rows.{phaseTable, secondsOf, rowAt}
 use Rattle.lamps.specs.Rows as lamps
 use Rattle.lamps.specs.declared.Row.{Row}
 use Rattle.lamps.proofs.Second.{lamps-of-step, dark-past}
-use Rattle.controller.specs.declared.State.{State}
-use Rattle.controller.specs.declared.Shown.{Shown}
-use Rattle.controller.specs.State.{freshOf, runningSound, soundOf}
+use Rattle.controller.specs.State.{State, freshOf, runningSound, soundOf}
 use Rattle.controller.specs.Handling.{queryRunningAs, handlingOf}
 use Rattle.controller.specs.Replies.{repliedOf, messageOf, doneOf, octetOf}
-use Rattle.controller.specs.Seconds.{movedOn, noSecond, secondOf}
+use Rattle.controller.specs.Seconds.{Shown, movedOn, noSecond, secondOf}
 use Rattle.text.specs.Text.{digits, placesWithin, places, decimal, blankHex2, spaced, octetsHex}
 use Rattle.text.proofs.Means.{hex-means}
 use Rattle.line.specs.Line as line
@@ -98,7 +96,7 @@ lines-print s n b o =
     record {
       second = record { state = refl; seconds = refl; line = second-printed n (secondOf s b .plan) (secondOf s b .row) (second-fits s b); book = refl; out = refl };
       octet = λ x. let w = octetOf s b o x in
-          record { state = refl; seconds = refl; line = reply-printed (take (w .answer .count) (w .out)); book = refl; out = refl };
+          record { state = refl; seconds = refl; line = reply-printed (take (w .answer .told .count) (w .out)); book = refl; out = refl };
       bad = λ k. record { state = refl; seconds = refl; line = refl; book = refl; out = refl };
       more = record { state = refl; seconds = refl; line = refl; book = refl; out = refl };
     }

@@ -13,8 +13,7 @@ use Rattle.line.specs.Promises.{foundIn}
 use Rattle.plan.specs.declared.Which.{Which}
 use Rattle.plan.specs.declared.Which.the-variants.{New, Old}
 use Rattle.lamps.specs.declared.Row.{Row}
-use Rattle.controller.specs.declared.State.{State}
-use Rattle.controller.specs.State.{freshOf}
+use Rattle.controller.specs.State.{State, freshOf}
 use Rattle.controller.specs.Replies.{octetOf}
 use Rattle.controller.specs.Seconds.{secondOf}
 use Rattle.printout.specs.Listing.{wordText}
@@ -66,7 +65,7 @@ pub record SecondMakes (s : State) (n : ℕ) (b o : List ℕ) (m : Making) : Typ
 pub record OctetMakes (s : State) (n : ℕ) (b o : List ℕ) (x : ℕ) (m : Making) : Type 0 where
   pub state : m .said .state ≡ octetOf s b o x .answer .state
   pub seconds : m .said .seconds ≡ n
-  pub line : ReplyPrinted (take (octetOf s b o x .answer .count) (octetOf s b o x .out)) (m .said .text)
+  pub line : ReplyPrinted (take (octetOf s b o x .answer .told .count) (octetOf s b o x .out)) (m .said .text)
   pub book : m .book ≡ octetOf s b o x .book
   pub out : m .out ≡ octetOf s b o x .out
 

@@ -10,8 +10,7 @@ use Rattle.octets.specs.Put.{Put}
 use Rattle.record.specs.Record.{emptyBook}
 use Rattle.plan.specs.declared.Which.{Which}
 use Rattle.plan.specs.declared.Which.the-variants.{New, Old}
-use Rattle.controller.specs.declared.State.{State}
-use Rattle.controller.specs.State.{outputLen, freshOf}
+use Rattle.controller.specs.State.{State, outputLen, freshOf}
 use Rattle.controller.specs.Replies.{octetOf}
 use Rattle.controller.specs.Seconds.{secondOf}
 use Rattle.line.specs.declared.LineFound.{LineFound}
@@ -82,7 +81,7 @@ unfoldable pub octetMade : State → ℕ → List ℕ → List ℕ → ℕ → M
 octetMade s n book out b =
     let w = octetOf s book out b in
     record {
-      said = record { state = w .answer .state; seconds = n; text = replyLine (take (w .answer .count) (w .out)) };
+      said = record { state = w .answer .state; seconds = n; text = replyLine (take (w .answer .told .count) (w .out)) };
       book = w .book;
       out = w .out;
     }
