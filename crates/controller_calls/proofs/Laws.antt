@@ -50,14 +50,6 @@ use Rattle.controller.proofs.Judging.{sound-parts}
 use Rattle.controller_calls.specs.Handling.{HandlingLeaves, Asks}
 use Rattle.controller_calls.specs.Stepper.{RecordOf}
 
--- The octet call
-
-module _ (s : State) (book out : List ℕ) (b : ℕ) where
-  -- an octet that is dropped leaves everything as it is
-  pub octet-dropped : idleDrops (s .decoder .head .place) b ≡ true → doneOf s (takenOf (s .decoder) b) book out ≡ refusedCall s refusal.none book out
-  unfolding doneOf
-  octet-dropped h = ap (λ (t : Taken). doneOf s t book out) (taken-dropped (s .decoder) b h)
-
 -- The record of a plan
 
 module _ (book copy r : RefT (List ℕ)) (p : ℕ) (f : PartRead book copy p r) where
@@ -340,25 +332,6 @@ module _ (u : Running) where
         other-plan z {n} e =
             rw (← ec, lt-ltb (u .position) c hc, le-leb (u .plan) plansMost hp, ne-eqb (u .plan) 0 z, ← e) (sym (and-true (eqb n ready)))
 
-module _ (s : State) where
-  pub own-all : s .own ≡ all → false ≡ soundOf s
-  unfolding soundOf
-  own-all h = rw (eq-eqb (s .own) all h)
-
-  module _ (ho : s .own ≡ all → ⊥) where
-    pub requested-over : plansMost < s .requested → false ≡ soundOf s
-    unfolding soundOf
-    requested-over h = rw (ne-eqb (s .own) all ho, lt-leb (s .requested) plansMost h)
-
-    module _ (hr : s .requested ≤ plansMost) {p : Bool} (ep : p ≡ possibleOf (s .decoder .head)) where
-      pub impossible : p ≡ false → false ≡ soundOf s
-      unfolding soundOf
-      impossible h = rw (ne-eqb (s .own) all ho, le-leb (s .requested) plansMost hr, ← ep, h)
-
-      pub by-running : p ≡ true → {r : Bool} → r ≡ runningSound (s .running) → r ≡ soundOf s
-      unfolding soundOf
-      by-running h e = rw (ne-eqb (s .own) all ho, le-leb (s .requested) plansMost hr, ← ep, h) e
-
 -- Copies
 
 -- a run of octets as long as what it is stored in is all that then stands there
@@ -403,11 +376,3 @@ module _ (info : List ℕ) {j : ℕ} where
 pub outside-range : {x l m j : ℕ} → (x < l) ⊎ (m ≤ x) → l ≤ j → j < m → x ≡ j → ⊥
 outside-range (inl h) a b e = absurd (omega arith)
 outside-range (inr h) a b e = absurd (omega arith)
-
--- The next second
-
--- a sound position is within a cycle of at most 900 seconds, so the next one is a number of two octets
-pub sound-position : (s : State) → soundOf s ≡ true → s .running .position < 65535
-sound-position s h =
-    let p = sound-parts s h .running in
-    omega (arith, p .position, plan-fits (s .running .copy) (ready-plan (s .running .copy) (p .checks)) .most)

@@ -16,22 +16,26 @@ use Rattle.octets.proofs.Laws.{stored-then}
 use Rattle.frame.specs.declared.Kind.{Kind}
 use Rattle.frame.specs.declared.Kind.the-variants.{Message, Ack, Nak}
 use Rattle.frame.specs.Frame.{Frame, message, ack, nak, infoFits, infoLeast, infoMost, written}
-use Rattle.frame.specs.Run.{outcomeOf}
+use Rattle.frame.specs.declared.decoder.Head.{Head}
+use Rattle.frame.specs.declared.decoder.HeadTaken.{HeadTaken}
+use Rattle.frame.specs.Run.{foundMeans, outcomeOf}
 use Rattle.frame.specs.Writer as frame
-use Rattle.frame.specs.Decoder.{Decoder, Taken}
+use Rattle.frame.specs.Decoder.{Decoder, Taken, TakenLeaves}
 use Rattle.message.specs.declared.Message as message
 use Rattle.message.specs.Writer.{writable, infoOf}
 use Rattle.message.specs.Writer as writer
 use Rattle.controller.specs.declared.Event.{Event}
 use Rattle.controller.specs.declared.Event.the-variants as event
 use Rattle.controller.specs.declared.Handled.{Handled}
-use Rattle.controller.specs.State.{State, outputLen}
+use Rattle.controller.specs.declared.Held.{Held}
+use Rattle.controller.specs.declared.HeldAnswer.{HeldAnswer}
+use Rattle.controller.specs.State.{State, joined, outputLen}
 use Rattle.controller.specs.Handling.{Handling}
 use Rattle.controller.specs.Replies.{Answer, CallLeaves, sent, naks, acks, errOf, repliesOf, unchanged, repliedOf, handledOf, broughtOf, doneOf}
 use Rattle.controller.proofs.Replying.{info-fits, ack-fits, nak-fits}
 use Rattle.controller_calls.specs.declared.replies.ResultCounted.{ResultCounted}
 use Rattle.controller_calls.specs.Handling.{HandlingLeaves}
-use Rattle.controller_calls.specs.Replies.{ResultWritten, ResultAndBookLeft, unchangedAs}
+use Rattle.controller_calls.specs.Replies.{ResultWritten, ResultAndBookLeft, unchangedAs, RepliedWith, BroughtWith}
 use Rattle.controller_calls.proofs.Writable.{reply-frames-fit}
 
 -- Frames
@@ -88,27 +92,31 @@ module _ (m : message.Message) {r : Written} {info : List ℕ} (h : writable m �
 stored-count : {A : Type 0} {vs out o : List ℕ} {count : ℕ} → Stored vs 0 out count o → (f : ℕ → A) → f count ≡ f (length vs)
 stored-count p f = ap f (p .place ∙ omega arith)
 
-module _ (n : ℕ) (e : Event) (fs : List Frame) (ours requested : ℕ) {out o : List ℕ} {count : ℕ} {r : ResultCounted} where
-  pub stored-tells : Stored (sent fs) 0 out count o → r ≡ unchangedAs n e count ours requested → ResultWritten (unchanged n e fs ours requested) out r o
-  stored-tells p h = record { told = h ∙ stored-count p (λ k. unchangedAs n e k ours requested); out = p .holds }
+module _ (s : Held) (n : ℕ) (e : Event) (fs : List Frame) {out o : List ℕ} {count : ℕ} {r : ResultCounted} where
+  pub stored-tells : Stored (sent fs) 0 out count o → r ≡ unchangedAs s n e count → (kept : List ℕ) → ResultWritten (unchanged (joined s kept) n e fs) out r o
+  stored-tells p h kept = record { told = h ∙ stored-count p (λ k. unchangedAs s n e k); out = p .holds }
 
--- the answer that the state s makes of what is told, whose decoder is then d
+-- what the call answers of it, whose decoder then has this head
+abbrev heldBy : Held → Head → ResultCounted → HeldAnswer
+heldBy s h r = record { state = record { own = s .own; seq = r .seq; requested = r .requested; head = h; running = s .running }; told = r .told }
+
 abbrev answeredBy : State → Decoder → ResultCounted → Answer
-answeredBy s d r =
-    record {
-      state = record { own = s .own; seq = r .seq; requested = r .requested; decoder = d; running = s .running };
-      refusal = r .refusal;
-      parameter = r .parameter;
-      event = r .event;
-      count = r .count;
-    }
+answeredBy s d r = record { state = record { own = s .own; seq = r .seq; requested = r .requested; decoder = d; running = s .running }; told = r .told }
 
--- a call tells of the state what was brought
-pub done-did : (s : State) (t : Taken) (book out : List ℕ) {r : ResultCounted} {b o : List ℕ}
-    → ResultAndBookLeft (broughtOf (outcomeOf t) (s .own) (s .seq) (s .requested) (s .running) book) out r b o
-    → CallLeaves (doneOf s t book out) (answeredBy s (t .decoder) r) b o
+-- a call tells of the state what was brought; t is what the decoder took, k the octets that it left
+pub done-did : (s : Held) (lent book out : List ℕ) {w : Taken} {t : HeadTaken} {k : List ℕ} {r : ResultCounted} {b o : List ℕ}
+    → TakenLeaves w lent t k → BroughtWith (foundMeans (t .found) (take infoMost k)) s book out r b o
+    → CallLeaves (doneOf (joined s lent) w book out) lent (heldBy s (t .head) r) k b o
 unfolding doneOf
-done-did s t book out h = record { answer = ap (answeredBy s (t .decoder)) (h .tells .told); book = h .book; out = h .tells .out }
+done-did s lent book out {w} {t} {k} h f =
+    let e : outcomeOf w ≡ foundMeans (t .found) (take infoMost k) = ap outcomeOf (sym (h .answer)) in
+    let g = rw (← e) at (f lent) in
+    record {
+      answer = (λ i. answeredBy (joined s lent) (h .answer i .decoder) (g .tells .told i));
+      beyond = h .beyond;
+      book = g .book;
+      out = g .tells .out;
+    }
 
 -- ACK and NAK
 
@@ -170,20 +178,20 @@ module _ (seq ours own : ℕ) (m : message.Message) (out : List ℕ) (h : writab
     pub reply-stored : Stored (sent (repliesOf seq ours own (infoOf m))) 0 out (a .count + w .count) o
     reply-stored = sent-two (ack seq own) (message ours own (infoOf m)) ack-in (frame-stored (message ours own (infoOf m)) (a .count) p info-right message-room wrote-it refl)
 
-module _ (own ours seq addr : ℕ) (h : Handled) (out : List ℕ) where
+module _ (s : Held) (seq addr : ℕ) (h : Handled) (out : List ℕ) where
   abbrev replyAs : ℕ → ℕ → ResultCounted
-  replyAs count q = record { refusal = h .refusal; parameter = h .parameter; event = event.Nothing; count = count; seq = q; requested = h .requested }
+  replyAs count q = record { told = record { refusal = h .refusal; parameter = h .parameter; event = event.Nothing; count = count }; seq = q; requested = h .requested }
 
-  pub replied-ours : eqb addr own ≡ true → {count q : ℕ} {o : List ℕ} → Stored (sent (repliesOf seq ours own (infoOf (h .reply)))) 0 out count o → q ≡ (ours + 1) % 256
-      → ResultWritten (repliedOf own ours seq addr h) out (replyAs count q) o
+  pub replied-ours : eqb addr (s .own) ≡ true → {count q : ℕ} {o : List ℕ} → Stored (sent (repliesOf seq (s .seq) (s .own) (infoOf (h .reply)))) 0 out count o
+      → q ≡ (s .seq + 1) % 256 → RepliedWith s seq addr h out (replyAs count q) o
   unfolding repliedOf
-  replied-ours e p eq = rw e (record { told = rw eq (stored-count p (λ k. replyAs k ((ours + 1) % 256))); out = p .holds })
+  replied-ours e p eq kept = rw e (record { told = rw eq (stored-count p (λ k. replyAs k ((s .seq + 1) % 256))); out = p .holds })
 
-  pub replied-all : eqb addr own ≡ false → ResultWritten (repliedOf own ours seq addr h) out (replyAs 0 ours) out
+  pub replied-all : eqb addr (s .own) ≡ false → RepliedWith s seq addr h out (replyAs 0 (s .seq)) out
   unfolding repliedOf
-  replied-all e = rw e (record { told = refl; out = refl })
+  replied-all e kept = rw e (record { told = refl; out = refl })
 
 -- a message carried out, and what is told of it
-pub handled-brings : (own ours seq addr : ℕ) {h : Handled} (w : Handling) {out : List ℕ} {r : ResultCounted} {b o : List ℕ} → ResultWritten (repliedOf own ours seq addr h) out r o → HandlingLeaves w h b
-    → ResultAndBookLeft (handledOf own ours seq addr w) out r b o
-handled-brings own ours seq addr w t e = record { tells = rw (e .handled) at t; book = e .book }
+pub handled-brings : (s : Held) (seq addr : ℕ) {h : Handled} (w : Handling) {out : List ℕ} {r : ResultCounted} {b o : List ℕ} → RepliedWith s seq addr h out r o → HandlingLeaves w h b
+    → (kept : List ℕ) → ResultAndBookLeft (handledOf (joined s kept) seq addr w) out r b o
+handled-brings s seq addr w t e kept = record { tells = rw (e .handled) at (t kept); book = e .book }

@@ -1,3 +1,4 @@
+pub mod Held
 pub mod Handling
 pub mod Replies
 pub mod Stepper

@@ -4,13 +4,22 @@ use mathlib.Core.Path.{_≡_}
 use mathlib.Core.List.{List}
 use lib.ListN.{length}
 use lib.Seq.{sets}
+use Rattle.frame.specs.Run.{Outcome}
 use Rattle.controller.specs.declared.Event.{Event}
-use Rattle.controller.specs.Replies.{sent, Result, ResultAndBook}
+use Rattle.controller.specs.declared.Handled.{Handled}
+use Rattle.controller.specs.declared.Held.{Held}
+use Rattle.controller.specs.State.{joined}
+use Rattle.controller.specs.Replies.{sent, Result, ResultAndBook, repliedOf, messageOf, broughtOf}
 use Rattle.controller_calls.specs.declared.replies.ResultCounted.{ResultCounted}
 
 -- what is told of it: its frames are counted
 abbrev pub countedOf : Result → ResultCounted
-countedOf w = record { refusal = w .refusal; parameter = w .parameter; event = w .event; count = length (sent (w .frames)); seq = w .seq; requested = w .requested }
+countedOf w =
+    record {
+      told = record { refusal = w .refusal; parameter = w .parameter; event = w .event; count = length (sent (w .frames)) };
+      seq = w .seq;
+      requested = w .requested;
+    }
 
 -- r tells the result w, and the output is so before and after
 pub record ResultWritten (w : Result) (before : List ℕ) (r : ResultCounted) (after : List ℕ) : Type 0 where
@@ -23,5 +32,15 @@ pub record ResultAndBookLeft (w : ResultAndBook) (before : List ℕ) (r : Result
   pub book : b ≡ w .book
 
 -- where no message is handled there is no parameter; SEQ and request stay
-abbrev pub unchangedAs : ℕ → Event → ℕ → ℕ → ℕ → ResultCounted
-unchangedAs n e count ours requested = record { refusal = n; parameter = 0; event = e; count = count; seq = ours; requested = requested }
+abbrev pub unchangedAs : Held → ℕ → Event → ℕ → ResultCounted
+unchangedAs s n e count = record { told = record { refusal = n; parameter = 0; event = e; count = count }; seq = s .seq; requested = s .requested }
+
+-- What a frame brings is the same whatever octets are kept for INFO: its own have been handed on.
+abbrev pub RepliedWith : Held → ℕ → ℕ → Handled → List ℕ → ResultCounted → List ℕ → Type 0
+RepliedWith s seq addr h before r after = (kept : List ℕ) → ResultWritten (repliedOf (joined s kept) seq addr h) before r after
+
+abbrev pub MessageWith : Held → ℕ → ℕ → List ℕ → List ℕ → List ℕ → ResultCounted → List ℕ → List ℕ → Type 0
+MessageWith s seq addr info book before r b after = (kept : List ℕ) → ResultAndBookLeft (messageOf (joined s kept) seq addr info book) before r b after
+
+abbrev pub BroughtWith : Outcome → Held → List ℕ → List ℕ → ResultCounted → List ℕ → List ℕ → Type 0
+BroughtWith o s book before r b after = (kept : List ℕ) → ResultAndBookLeft (broughtOf o (joined s kept) book) before r b after

@@ -6,15 +6,18 @@ mod soundness;
 mod stepper;
 
 ghost use mathlib.Core.Path.{_≡_};
-ghost use Rattle.controller.specs.Replies.{CallLeaves, quiet, octetOf, lineIdleOf};
-ghost use Rattle.controller.specs.Seconds.{startedOf, plainStartOf, oldStartOf, noSecond, secondOf};
+ghost use Rattle.controller.specs.State.{joined};
+ghost use Rattle.controller.specs.Replies.{answerWith, CallLeaves, octetOf, lineIdleOf};
+ghost use Rattle.controller.specs.Seconds.{startedOf, plainStartOf, oldStartOf, StartsWith, ShowsWith, tells};
+ghost use Rattle.controller_calls.specs.Held.{heldQuiet, heldDark};
 use controller::ALL;
-use controller::Answer;
 use controller::Event;
+use controller::Held;
+use controller::HeldAnswer;
+use controller::HeldShown;
 use controller::OUTPUT_LEN;
-use controller::Shown;
-use controller::Started;
-use controller::State;
+use controller::Told;
+use frame::INFO_MOST;
 use frame_calls::decoder;
 use lamps::Row;
 use octets::refusal;
@@ -23,47 +26,42 @@ use plan_calls::book;
 use record::BOOK_LEN;
 
 // "A fresh start runs and requests plan 0 at position 0."; 02, E1: "the plain start takes the new one".
-pub fn fresh(own: u16) -> Started
-    ensures { λ r. ⌜ r ≡ plainStartOf own ⌝ }
+pub fn fresh(own: u16) -> HeldAnswer
+    ensures { λ r. ⌜ StartsWith (plainStartOf own) r ⌝ }
 {
     fresh_with(Which::New, own)
 }
 
 // "A start call that names the old built-in plan stays".
-pub fn fresh_old(own: u16) -> Started
-    ensures { λ r. ⌜ r ≡ oldStartOf own ⌝ }
+pub fn fresh_old(own: u16) -> HeldAnswer
+    ensures { λ r. ⌜ StartsWith (oldStartOf own) r ⌝ }
 {
     fresh_with(Which::Old, own)
 }
 
-fn fresh_with(which: Which, own: u16) -> Started
-    ensures { λ r. ⌜ r ≡ startedOf which own ⌝ }
+fn fresh_with(which: Which, own: u16) -> HeldAnswer
+    ensures { λ r. ⌜ StartsWith (startedOf which own) r ⌝ }
 {
     let running = stepper::started(which, 0, book::built_in(which));
-    let state = State {
+    let state = Held {
         own,
         seq: 0,
         requested: 0,
-        decoder: decoder::fresh(),
+        head: decoder::fresh(),
         running,
     };
     if own == ALL {
-        return Started {
-            refusal: refusal::START_WRONG,
-            state,
-        };
+        return quiet(state, refusal::START_WRONG);
     }
-    Started {
-        refusal: refusal::NONE,
-        state,
-    }
+    quiet(state, refusal::NONE)
 }
 
-// Takes one octet from the line. What it ends is carried out on the book and replied to in the output.
-pub fn octet(s: State, book: &mut [u8], out: &mut [u8], b: u8) -> Answer
-    ensures { λ r. ⌜ CallLeaves (octetOf s (now (book .entry)) (now (out .entry)) b) r (now (book .exit)) (now (out .exit)) ⌝ }
+// Takes one octet from the line; the first 256 of `kept` are the state's octets of INFO. What it ends is carried out on the book and
+// replied to in the output.
+pub fn octet(s: Held, kept: &mut [u8], book: &mut [u8], out: &mut [u8], b: u8) -> HeldAnswer
+    ensures { λ r. ⌜ CallLeaves (octetOf (joined s (now (kept .entry))) (now (book .entry)) (now (out .entry)) b) (now (kept .entry)) r (now (kept .exit)) (now (book .exit)) (now (out .exit)) ⌝ }
 {
-    if !soundness::stands(s) {
+    if !soundness::stands(s, kept.len()) {
         return quiet(s, refusal::STATE_UNSOUND);
     }
     if book.len() != BOOK_LEN {
@@ -72,50 +70,50 @@ pub fn octet(s: State, book: &mut [u8], out: &mut [u8], b: u8) -> Answer
     if out.len() < OUTPUT_LEN {
         return quiet(s, refusal::OUTPUT_SHORT);
     }
-    replies::taken(s, book, out, b)
+    replies::taken(s, kept, book, out, b)
 }
 
 // "A line-idle call, made by the host, returns the decoder to idle and changes nothing else."
-pub fn line_idle(s: State) -> Answer
-    ensures { λ r. ⌜ r ≡ lineIdleOf s ⌝ }
+pub fn line_idle(s: Held, kept: &[u8]) -> HeldAnswer
+    ensures { λ r. ⌜ answerWith r (now (kept .entry)) ≡ lineIdleOf (joined s (now (kept .entry))) ⌝ }
 {
-    if !soundness::stands(s) {
+    if !soundness::stands(s, kept.len()) {
         return quiet(s, refusal::STATE_UNSOUND);
     }
-    let d = s.decoder;
-    let t = decoder::line_idle(d);
-    let decoder = t.decoder;
-    quiet(State { decoder, ..s }, refusal::NONE)
+    let h = s.head;
+    let t = decoder::line_idle(h, kept);
+    let head = t.head;
+    quiet(Held { head, ..s }, refusal::NONE)
 }
 
-// What this second shows; then it moves on, and at a cycle's last second picks the next plan from the book.
-pub fn second(s: State, book: &[u8]) -> Shown
-    ensures { λ r. ⌜ r ≡ secondOf s (now (book .entry)) ⌝ }
+// What this second shows; then it moves on, and at a cycle's last second picks the next plan from the book. It is lent no octets of
+// INFO, since it has nothing to do with them.
+pub fn second(s: Held, book: &[u8]) -> HeldShown
+    ensures { λ r. ⌜ ShowsWith s (now (book .entry)) r ⌝ }
 {
-    if !soundness::stands(s) {
-        return no_second(s, refusal::STATE_UNSOUND);
+    if !soundness::stands(s, INFO_MOST) {
+        return dark(s, refusal::STATE_UNSOUND);
     }
     if book.len() != BOOK_LEN {
-        return no_second(s, refusal::BOOK_WRONG);
+        return dark(s, refusal::BOOK_WRONG);
     }
     let u = s.running;
     let copy = u.copy;
     let row = lamps::row_at(&copy, u.position);
     let running = stepper::moved_on(u, s.requested, book);
-    Shown {
-        state: State { running, ..s },
-        refusal: refusal::NONE,
+    HeldShown {
+        state: Held { running, ..s },
+        told: tells(refusal::NONE),
         plan: u.plan,
         row,
     }
 }
 
-// "same state, nothing written"; "Other numbers in a refused call's result are 0."
-pub(crate) fn quiet(s: State, n: u8) -> Answer
-    ensures { λ r. ⌜ r ≡ quiet s n ⌝ }
+// "Other numbers in a refused call's result are 0."
+fn tells(n: u8) -> Told
+    ensures { λ r. ⌜ r ≡ tells n ⌝ }
 {
-    Answer {
-        state: s,
+    Told {
         refusal: n,
         parameter: 0,
         event: Event::Nothing,
@@ -123,12 +121,22 @@ pub(crate) fn quiet(s: State, n: u8) -> Answer
     }
 }
 
-fn no_second(s: State, n: u8) -> Shown
-    ensures { λ r. ⌜ r ≡ noSecond s n ⌝ }
+// "same state, nothing written"
+pub(crate) fn quiet(s: Held, n: u8) -> HeldAnswer
+    ensures { λ r. ⌜ r ≡ heldQuiet s n ⌝ }
 {
-    Shown {
+    HeldAnswer {
         state: s,
-        refusal: n,
+        told: tells(n),
+    }
+}
+
+fn dark(s: Held, n: u8) -> HeldShown
+    ensures { λ r. ⌜ r ≡ heldDark s n ⌝ }
+{
+    HeldShown {
+        state: s,
+        told: tells(n),
         plan: 0,
         row: Row {
             step: 0,

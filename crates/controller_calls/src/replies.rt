@@ -7,22 +7,22 @@ ghost use lib.ListN.{length};
 ghost use Rattle.octets.specs.Part.{codeLen};
 ghost use Rattle.octets.specs.Put.{Stored};
 ghost use Rattle.frame.specs.Frame.{infoMost};
-ghost use Rattle.frame.specs.Decoder.{takenOf};
+ghost use Rattle.frame.specs.Decoder.{takenOf, joinedDecoder};
 ghost use Rattle.frame.specs.Run.{foundMeans};
 ghost use Rattle.message.specs.Writer.{writable, infoOf};
 ghost use Rattle.record.specs.Record.{plansMost, bookLen, ready};
 ghost use Rattle.checks.specs.Standing.{standingOf};
-ghost use Rattle.controller.specs.State.{outputLen, soundOf};
-ghost use Rattle.controller.specs.Replies.{CallLeaves, sent, errOf, naks, acks, forUs, isAnswer, eventFor, repliesOf, CanFind, repliedOf, messageOf, broughtOf, doneOf};
+ghost use Rattle.controller.specs.State.{joined, outputLen, soundOf};
+ghost use Rattle.controller.specs.Replies.{CallLeaves, sent, errOf, naks, acks, forUs, isAnswer, eventFor, repliesOf, CanFind, doneOf};
 ghost use Rattle.controller_calls.specs.Handling.{Sendable};
-ghost use Rattle.controller_calls.specs.Replies.{ResultWritten, ResultAndBookLeft, unchangedAs};
+ghost use Rattle.controller_calls.specs.Replies.{unchangedAs, RepliedWith, MessageWith, BroughtWith};
 use crate::handling;
 use controller::ALL;
-use controller::Answer;
 use controller::Event;
 use controller::Handled;
-use controller::Running;
-use controller::State;
+use controller::Held;
+use controller::HeldAnswer;
+use controller::Told;
 use frame::INFO_MOST;
 use frame::Kind;
 use frame::decoder::Found;
@@ -34,101 +34,77 @@ use octets::refusal;
 // ERR of a NAK for refusal 3; for 1 and 2 it is the refusal itself.
 const ERR_LEN: u8 = 4;
 
-// What an octet brought: what the answer says of it, and the SEQ and the request that the state then has.
+// What an octet brought: what the call tells of it, and the SEQ and the request that the state then has.
 pub struct ResultCounted {
-    pub refusal: u8,
-    pub parameter: u8,
-    pub event: Event,
-    pub count: usize,
+    pub told: Told,
     pub seq: u8,
     pub requested: u8,
 }
 
 // One octet to a sound state, and what it brought.
-pub(crate) fn taken(s: State, book: &mut [u8], out: &mut [u8], b: u8) -> Answer
-    requires { ⌜ (soundOf s ≡ true) × (length (now book) ≡ bookLen) × (outputLen ≤ length (now out)) ⌝ }
-    ensures { λ r. ⌜ CallLeaves (doneOf s (takenOf (s .decoder) b) (now (book .entry)) (now (out .entry))) r (now (book .exit)) (now (out .exit)) ⌝ }
+pub(crate) fn taken(s: Held, kept: &mut [u8], book: &mut [u8], out: &mut [u8], b: u8) -> HeldAnswer
+    requires { ⌜ (soundOf (joined s (now kept)) ≡ true) × (length (now book) ≡ bookLen) × (outputLen ≤ length (now out)) ⌝ }
+    ensures { λ r. ⌜ CallLeaves (doneOf (joined s (now (kept .entry))) (takenOf (joinedDecoder (s .head) (now (kept .entry))) b) (now (book .entry)) (now (out .entry))) (now (kept .entry)) r (now (kept .exit)) (now (book .exit)) (now (out .exit)) ⌝ }
 {
-    let h = s.decoder.head;
+    let h = s.head;
     if decoder::idle_drops(h, b) {
         return crate::quiet(s, refusal::NONE);
     }
-    let d = s.decoder;
-    let t = decoder::octet(d, b);
-    let decoder = t.decoder;
+    let t = decoder::octet(h, &mut *kept, b);
+    let head = t.head;
     let found = t.found;
-    let u = s.running;
-    let r = by_found(
-        found,
-        s.own,
-        s.seq,
-        s.requested,
-        u,
-        &decoder.info,
-        book,
-        out,
-    );
-    let event = r.event;
-    Answer {
-        state: State {
+    let r = by_found(found, s, &kept[0..INFO_MOST], book, out);
+    let told = r.told;
+    HeldAnswer {
+        state: Held {
             seq: r.seq,
             requested: r.requested,
-            decoder,
+            head,
             ..s
         },
-        refusal: r.refusal,
-        parameter: r.parameter,
-        event,
-        count: r.count,
+        told,
     }
 }
 
-// What the decoder found, at our address, with our SEQ, the requested and the running plan, and the octets kept for INFO.
-fn by_found(
-    found: Found,
-    own: u16,
-    ours: u8,
-    requested: u8,
-    u: Running,
-    kept: &[u8],
-    book: &mut [u8],
-    out: &mut [u8],
-) -> ResultCounted
-    requires { ⌜ (CanFind found) × (length (now kept) ≡ infoMost) × (standingOf (u .copy) ≡ ready) × (u .plan ≤ plansMost) × (length (now book) ≡ bookLen) × (outputLen ≤ length (now out)) ⌝ }
-    ensures { λ r. ⌜ ResultAndBookLeft (broughtOf (foundMeans found (now (kept .entry))) own ours requested u (now (book .entry))) (now (out .entry)) r (now (book .exit)) (now (out .exit)) ⌝ }
+// What the decoder found, with the octets kept for INFO.
+fn by_found(found: Found, s: Held, kept: &[u8], book: &mut [u8], out: &mut [u8]) -> ResultCounted
+    requires { ⌜ (CanFind found) × (length (now kept) ≡ infoMost) × (standingOf (s .running .copy) ≡ ready) × (s .running .plan ≤ plansMost) × (length (now book) ≡ bookLen) × (outputLen ≤ length (now out)) ⌝ }
+    ensures { λ r. ⌜ BroughtWith (foundMeans found (now (kept .entry))) s (now (book .entry)) (now (out .entry)) r (now (book .exit)) (now (out .exit)) ⌝ }
 {
     match found {
-        Found::Nothing => unchanged(refusal::NONE, Event::Nothing, 0, ours, requested),
+        Found::Nothing => unchanged(s, refusal::NONE, Event::Nothing, 0),
         Found::Refused(n, kind, seq, addr) => {
-            let count = nak(kind, own, n, seq, addr, out);
-            unchanged(n, Event::Nothing, count, ours, requested)
+            let count = nak(kind, s.own, n, seq, addr, out);
+            unchanged(s, n, Event::Nothing, count)
         }
         Found::Message(seq, addr, n) => {
             let end = n as usize;
-            message_taken(own, ours, requested, u, seq, addr, &kept[..end], book, out)
+            message_taken(s, seq, addr, &kept[..end], book, out)
         }
         Found::Ack(seq, addr) => {
-            let e = event_for(own, addr, Event::Ack(seq));
-            unchanged(refusal::NONE, e, 0, ours, requested)
+            let e = event_for(s.own, addr, Event::Ack(seq));
+            unchanged(s, refusal::NONE, e, 0)
         }
         Found::Nak(seq, addr, err) => {
-            let e = event_for(own, addr, Event::Nak(seq, err));
-            unchanged(refusal::NONE, e, 0, ours, requested)
+            let e = event_for(s.own, addr, Event::Nak(seq, err));
+            unchanged(s, refusal::NONE, e, 0)
         }
     }
 }
 
 // No message was handled: there is no parameter, and SEQ and request stay.
-fn unchanged(n: u8, event: Event, count: usize, ours: u8, requested: u8) -> ResultCounted
-    ensures { λ r. ⌜ r ≡ unchangedAs n event count ours requested ⌝ }
+fn unchanged(s: Held, n: u8, event: Event, count: usize) -> ResultCounted
+    ensures { λ r. ⌜ r ≡ unchangedAs s n event count ⌝ }
 {
     ResultCounted {
-        refusal: n,
-        parameter: 0,
-        event,
-        count,
-        seq: ours,
-        requested,
+        told: Told {
+            refusal: n,
+            parameter: 0,
+            event,
+            count,
+        },
+        seq: s.seq,
+        requested: s.requested,
     }
 }
 
@@ -165,28 +141,26 @@ fn err(n: u8) -> u8
 
 // A sound message frame. "A sound frame for another address is dropped silently."
 fn message_taken(
-    own: u16,
-    ours: u8,
-    requested: u8,
-    u: Running,
+    s: Held,
     seq: u8,
     addr: u16,
     info: &[u8],
     book: &mut [u8],
     out: &mut [u8],
 ) -> ResultCounted
-    requires { ⌜ (codeLen ≤ length (now info)) × (standingOf (u .copy) ≡ ready) × (u .plan ≤ plansMost) × (length (now book) ≡ bookLen) × (outputLen ≤ length (now out)) ⌝ }
-    ensures { λ r. ⌜ ResultAndBookLeft (messageOf own ours requested u seq addr (now (info .entry)) (now (book .entry))) (now (out .entry)) r (now (book .exit)) (now (out .exit)) ⌝ }
+    requires { ⌜ (codeLen ≤ length (now info)) × (standingOf (s .running .copy) ≡ ready) × (s .running .plan ≤ plansMost) × (length (now book) ≡ bookLen) × (outputLen ≤ length (now out)) ⌝ }
+    ensures { λ r. ⌜ MessageWith s seq addr (now (info .entry)) (now (book .entry)) (now (out .entry)) r (now (book .exit)) (now (out .exit)) ⌝ }
 {
-    if !for_us(own, addr) {
-        return unchanged(refusal::NONE, Event::Nothing, 0, ours, requested);
+    if !for_us(s.own, addr) {
+        return unchanged(s, refusal::NONE, Event::Nothing, 0);
     }
     if is_answer(octets::word(info[0], info[1])) {
-        let count = ack(own, seq, addr, out);
-        return unchanged(refusal::NONE, Event::Nothing, count, ours, requested);
+        let count = ack(s.own, seq, addr, out);
+        return unchanged(s, refusal::NONE, Event::Nothing, count);
     }
-    let h = handling::carry_out(u, requested, book, info);
-    replied(own, ours, seq, addr, h, out)
+    let u = s.running;
+    let h = handling::carry_out(u, s.requested, book, info);
+    replied(s, seq, addr, h, out)
 }
 
 fn for_us(own: u16, addr: u16) -> bool
@@ -219,23 +193,25 @@ fn ack(own: u16, seq: u8, addr: u16, out: &mut [u8]) -> usize
 }
 
 // "A sound message frame for us writes an ACK with the received SEQ, then one message frame with our next SEQ."
-fn replied(own: u16, ours: u8, seq: u8, addr: u16, h: Handled, out: &mut [u8]) -> ResultCounted
+fn replied(s: Held, seq: u8, addr: u16, h: Handled, out: &mut [u8]) -> ResultCounted
     requires { ⌜ (Sendable h) × (outputLen ≤ length (now out)) ⌝ }
-    ensures { λ r. ⌜ ResultWritten (repliedOf own ours seq addr h) (now (out .entry)) r (now (out .exit)) ⌝ }
+    ensures { λ r. ⌜ RepliedWith s seq addr h (now (out .entry)) r (now (out .exit)) ⌝ }
 {
     // "FFFF is for all: carried out, never replied to."
-    let reply_due = addr == own;
+    let reply_due = addr == s.own;
     let mut count: usize = 0;
-    let mut next = ours;
+    let mut next = s.seq;
     if reply_due {
-        count = write_reply(seq, ours, own, h.reply, out);
-        next = std::num::wrapping_add_u8(ours, 1);
+        count = write_reply(seq, s.seq, s.own, h.reply, out);
+        next = std::num::wrapping_add_u8(s.seq, 1);
     }
     ResultCounted {
-        refusal: h.refusal,
-        parameter: h.parameter,
-        event: Event::Nothing,
-        count,
+        told: Told {
+            refusal: h.refusal,
+            parameter: h.parameter,
+            event: Event::Nothing,
+            count,
+        },
         seq: next,
         requested: h.requested,
     }

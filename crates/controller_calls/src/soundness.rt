@@ -1,16 +1,19 @@
 // 01, "Replies", refusal 7: "state handed in is unsound (own address FFFF, requested plan over 48, position outside the cycle,
 // running plan over 48, failing the checks, or numbered 0 and unlike the built-in, impossible decoder place)".
 ghost use mathlib.Core.Path.{_≡_};
-ghost use Rattle.controller.specs.State.{runningSound, soundOf};
+ghost use Rattle.controller.specs.State.{runningSound};
+ghost use Rattle.controller_calls.specs.Held.{heldSound};
 use controller::ALL;
+use controller::Held;
 use controller::Running;
-use controller::State;
+use frame::INFO_MOST;
 use frame_calls::decoder;
 use plan_calls::book;
 use record::PLANS_MOST;
 
-pub(crate) fn stands(s: State) -> bool
-    ensures { λ r. ⌜ r ≡ soundOf s ⌝ }
+// So many octets are lent for INFO; none of them is read.
+pub(crate) fn stands(s: Held, lent: usize) -> bool
+    ensures { λ r. ⌜ r ≡ heldSound s lent ⌝ }
 {
     if s.own == ALL {
         return false;
@@ -18,7 +21,10 @@ pub(crate) fn stands(s: State) -> bool
     if PLANS_MOST < s.requested {
         return false;
     }
-    let h = s.decoder.head;
+    if lent < INFO_MOST {
+        return false;
+    }
+    let h = s.head;
     if !decoder::possible(h) {
         return false;
     }

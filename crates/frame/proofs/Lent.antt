@@ -28,7 +28,7 @@ pub taken-one-to-one : (r s : HeadTaken) (k l : List ℕ) → takenWith r k ≡ 
 taken-one-to-one r s k l e d =
     ((λ i. record { refusal = e i .refusal; head = e i .decoder .head; found = e i .found }), parted infoMost k l (λ i. e i .decoder .info) d)
 
-take-short : (n : ℕ) (l : List ℕ) → length (take n l) ≤ length l
+pub take-short : (n : ℕ) (l : List ℕ) → length (take n l) ≤ length l
 take-short n l = omega (arith, length-take n l)
 
 -- A call leaves as many octets as it was lent

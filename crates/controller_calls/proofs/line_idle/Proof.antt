@@ -1,22 +1,33 @@
 -- `controller_calls::line_idle` meets its contract: the law of each way.
 use mathlib.Core.Path.{sym, _∙_}
-use borrow.Author.Needs.{needs}
 use borrow.Author.Tests.{not-true, not-false}
+use Rattle.controller.specs.State.{joined}
 use Rattle.controller.proofs.Laws.{idle-7, idle-done}
+use Rattle.controller_calls.proofs.Held.{sound-joined, idle-answered}
+use borrow.Author.Needs.{needs}
 use Rattle.controller_calls.proofs.line_idle.Statement.{statement}
 use Rattle.controller_calls.proofs.line_idle.Tie as tie
 
 returns : tie.Need-returns
 returns c =
     let t = c .before .before in
-    c .quiet .ensures ∙ sym (idle-7 (t .before .args .s) (sym (t .stands .ensures) ∙ not-true _ (c .before .if1 .taken)))
+    let a = t .before .before .args in
+    rw (c .quiet .ensures) (sym (idle-7 (joined (a .s) (a .kept .now)) (sym (sound-joined (a .s) (a .kept .now)) ∙ (sym (t .stands .ensures) ∙ not-true _ (c .before .if1 .taken)))))
 
 returns-2 : tie.Need-returns-2
 returns-2 c =
     let i = c .before .before .before in
     let t = i .before .before .before in
-    let a = t .before .args in
-    c .quiet2 .ensures ∙ rw (i .line-idle .ensures) (sym (idle-done (a .s) (sym (t .stands .ensures) ∙ not-false _ (i .before .before .if1 .left))))
+    let a = t .before .before .args in
+    rw (c .quiet2 .ensures) (idle-answered (a .s) (a .kept .now) (sym (sound-joined (a .s) (a .kept .now)) ∙ (sym (t .stands .ensures) ∙ not-false _ (i .before .before .if1 .left))) (i .line-idle .ensures))
 
 pub line-idle-spec : {M : Type 1} → statement M
-line-idle-spec = tie.close (tie.spec (λ c κs. search needs) (λ c κs. search needs) returns (λ c κs. search needs) (λ c κs. search needs) returns-2)
+line-idle-spec =
+    tie.close
+    (tie.spec
+    (λ c κs. search needs)
+    (λ c κs. search needs)
+    returns
+    (λ c κs. search needs)
+    (λ c κs. search needs)
+    returns-2)

@@ -1,49 +1,71 @@
 -- `controller_calls::octet` meets its contract: one law for each way.
-use mathlib.Core.Path.{refl, sym, _∙_}
-use borrow.Author.Needs.{needs}
+use mathlib.Core.Path.{sym, _∙_}
 use borrow.Author.Tests.{not-true, not-false}
+use Rattle.controller.specs.State.{joined}
 use Rattle.controller.proofs.Laws.{octet-7, octet-8, octet-9, octet-done}
+use Rattle.controller_calls.proofs.Held.{sound-joined, leaves-quiet}
+use borrow.Author.Needs.{needs}
 use Rattle.controller_calls.proofs.octet.Statement.{statement}
 use Rattle.controller_calls.proofs.octet.Tie as tie
 
 returns : tie.Need-returns
 returns c =
     let t = c .before .before in
-    let a = t .before .before .before .args in
-    rw (octet-7 (a .s) (a .book .now) (a .out .now) (a .b) (sym (t .stands .ensures) ∙ not-true _ (c .before .if1 .taken)))
-    (record { answer = c .quiet .ensures; book = refl; out = refl })
+    let a = t .before .before .before .before .args in
+    let k = a .kept .now in
+    rw (octet-7 (joined (a .s) k) (a .book .now) (a .out .now) (a .b) (sym (sound-joined (a .s) k) ∙ (sym (t .stands .ensures) ∙ not-true _ (c .before .if1 .taken))))
+    (leaves-quiet (a .s) k (a .book .now) (a .out .now) 7 (c .quiet .ensures))
 
 returns-2 : tie.Need-returns-2
 returns-2 c =
     let i = c .before .before in
     let t = i .before in
-    let a = t .before .before .before .args in
-    rw (octet-8 (a .s) (a .book .now) (a .out .now) (a .b) (sym (t .stands .ensures) ∙ not-false _ (i .if1 .left)) (c .before .if2 .taken))
-    (record { answer = c .quiet2 .ensures; book = refl; out = refl })
+    let a = t .before .before .before .before .args in
+    let k = a .kept .now in
+    rw (octet-8 (joined (a .s) k) (a .book .now) (a .out .now) (a .b) (sym (sound-joined (a .s) k) ∙ (sym (t .stands .ensures) ∙ not-false _ (i .if1 .left))) (c .before .if2 .taken))
+    (leaves-quiet (a .s) k (a .book .now) (a .out .now) 8 (c .quiet2 .ensures))
 
 returns-3 : tie.Need-returns-3
 returns-3 c =
     let j = c .before .before in
     let i = j .before in
     let t = i .before in
-    let a = t .before .before .before .args in
-    rw (octet-9 (a .s) (a .book .now) (a .out .now) (a .b) (sym (t .stands .ensures) ∙ not-false _ (i .if1 .left)) (j .if2 .left) (c .before .if3 .taken))
-    (record { answer = c .quiet3 .ensures; book = refl; out = refl })
+    let a = t .before .before .before .before .args in
+    let k = a .kept .now in
+    rw (octet-9 (joined (a .s) k) (a .book .now) (a .out .now) (a .b) (sym (sound-joined (a .s) k) ∙ (sym (t .stands .ensures) ∙ not-false _ (i .if1 .left))) (j .if2 .left) (c .before .if3 .taken))
+    (leaves-quiet (a .s) k (a .book .now) (a .out .now) 9 (c .quiet3 .ensures))
 
 taken-requires : tie.Need-taken-requires
 taken-requires c κs =
-    let k = c .before .before in
+    let k = c .before .before .before in
     let i = k .before .before in
-    (sym (i .before .stands .ensures) ∙ not-false _ (i .if1 .left), k .before .if2 .left, k .if3 .left)
+    let t = i .before in
+    let a = t .before .before .before .before .args in
+    (sym (sound-joined (a .s) (a .kept .now)) ∙ (sym (t .stands .ensures) ∙ not-false _ (i .if1 .left)), k .before .if2 .left, k .if3 .left)
 
 returns-4 : tie.Need-returns-4
 returns-4 c =
-    let w = c .before .before .before .before in
-    let k = w .before .before .before in
+    let w = c .before .before .before .before .before .before in
+    let k = w .before .before .before .before in
     let i = k .before .before in
     let t = i .before in
-    let a = t .before .before .before .args in
-    rw (octet-done (a .s) (a .book .now) (a .out .now) (a .b) (sym (t .stands .ensures) ∙ not-false _ (i .if1 .left)) (k .before .if2 .left) (k .if3 .left)) (w .taken .ensures)
+    let a = t .before .before .before .before .args in
+    let h = a .kept .now in
+    rw (octet-done (joined (a .s) h) (a .book .now) (a .out .now) (a .b) (sym (sound-joined (a .s) h) ∙ (sym (t .stands .ensures) ∙ not-false _ (i .if1 .left))) (k .before .if2 .left) (k .if3 .left)) (w .taken .ensures)
 
 pub octet-spec : {M : Type 1} → statement M
-octet-spec = tie.close (tie.spec (λ c κs. search needs) (λ c κs. search needs) returns (λ c κs. search needs) returns-2 (λ c κs. search needs) returns-3 taken-requires (λ c. search needs) (λ c. search needs) returns-4)
+octet-spec =
+    tie.close
+    (tie.spec
+    (λ c κs. search needs)
+    (λ c κs. search needs)
+    returns
+    (λ c κs. search needs)
+    returns-2
+    (λ c κs. search needs)
+    returns-3
+    taken-requires
+    (λ c. search needs)
+    (λ c. search needs)
+    (λ c. search needs)
+    returns-4)

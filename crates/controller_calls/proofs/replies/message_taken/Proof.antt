@@ -2,54 +2,74 @@
 -- other message carried out and replied to.
 use mathlib.Core.Path.{refl, sym, ap, _∙_}
 use native.Mathlib.Omega.{arith}
-use borrow.Author.Needs.{needs}
 use borrow.Author.Tests.{not-true, not-false}
+use Rattle.controller.specs.State.{joined}
 use Rattle.controller.specs.Replies.{isAnswer}
 use Rattle.controller.proofs.Laws.{message-other, message-answer, message-handled}
 use Rattle.controller_calls.proofs.Written.{stored-tells, handled-brings}
 use Rattle.controller_calls.proofs.Writable.{reply-writable}
+use borrow.Author.Needs.{needs}
 use Rattle.controller_calls.proofs.replies.message_taken.Statement.{statement}
 use Rattle.controller_calls.proofs.replies.message_taken.Tie as tie
 
 returns : tie.Need-returns
-returns c =
+returns c kept =
     let f = c .before .before in
     let a = f .before .before .before .before .args in
-    rw (message-other (a .own) (a .ours) (a .requested) (a .u) (a .seq) (a .addr) (a .info .now) (a .book .now) (sym (f .for-us .ensures) ∙ not-true _ (c .before .if1 .taken)))
+    rw (message-other (joined (a .s) kept) (a .seq) (a .addr) (a .info .now) (a .book .now) (sym (f .for-us .ensures) ∙ not-true _ (c .before .if1 .taken)))
     (record { tells = record { told = c .unchanged .ensures; out = refl }; book = refl })
 
 returns-2 : tie.Need-returns-2
-returns-2 c =
+returns-2 c kept =
     let k = c .before .before .before in
     let i = k .before .before in
     let w = i .before .before in
     let j = w .before .before .before in
     let f = j .before in
     let a = f .before .before .before .before .args in
-    rw (message-answer (a .own) (a .ours) (a .requested) (a .u) (a .seq) (a .addr) (a .info .now) (a .book .now) (sym (f .for-us .ensures) ∙ not-false _ (j .if1 .left))
+    rw (message-answer (joined (a .s) kept) (a .seq) (a .addr) (a .info .now) (a .book .now) (sym (f .for-us .ensures) ∙ not-false _ (j .if1 .left))
     (ap isAnswer (sym (w .word .ensures)) ∙ (sym (i .before .is-answer .ensures) ∙ i .if2 .taken)))
-    (record { tells = stored-tells _ _ _ (a .ours) (a .requested) (k .ack .ensures) (c .unchanged2 .ensures); book = refl })
+    (record { tells = stored-tells (a .s) _ _ _ (k .ack .ensures) (c .unchanged2 .ensures) kept; book = refl })
 
 replied-requires : tie.Need-replied-requires
 replied-requires c κs =
     let h = c .before .before .before in
-    let w = h .before .before .before .before in
+    let w = h .before .before .before .before .before in
     let z = w .before .before .before .before .before .before .before .before in
+    let u = z .args .s .running in
     let e = h .carry-out .ensures .handled in
-    (rw e (reply-writable (z .args .u) (z .args .requested) (z .args .book .now) _ (z .pre .1) (z .pre .2) (z .pre .3) (omega (arith, w .before .shared-slice-known3 .given 0, w .before .shared-slice-known3 .given 1))), z .pre .4)
+    (rw e (reply-writable u (z .args .s .requested) (z .args .book .now) _ (z .pre .1) (z .pre .2) (z .pre .3) (omega (arith, w .before .shared-slice-known3 .given 0, w .before .shared-slice-known3 .given 1))), z .pre .4)
 
 returns-3 : tie.Need-returns-3
-returns-3 c =
+returns-3 c kept =
     let r = c .before .before in
     let h = r .before .before .before .before in
-    let i = h .before .before in
+    let i = h .before .before .before in
     let w = i .before .before in
     let j = w .before .before .before in
     let f = j .before in
     let a = f .before .before .before .before .args in
-    rw (message-handled (a .own) (a .ours) (a .requested) (a .u) (a .seq) (a .addr) (a .info .now) (a .book .now) (sym (f .for-us .ensures) ∙ not-false _ (j .if1 .left))
+    rw (message-handled (joined (a .s) kept) (a .seq) (a .addr) (a .info .now) (a .book .now) (sym (f .for-us .ensures) ∙ not-false _ (j .if1 .left))
     (ap isAnswer (sym (w .word .ensures)) ∙ (sym (i .before .is-answer .ensures) ∙ i .if2 .left)))
-    (handled-brings (a .own) (a .ours) (a .seq) (a .addr) _ (r .replied .ensures) (h .carry-out .ensures))
+    (handled-brings (a .s) (a .seq) (a .addr) _ (r .replied .ensures) (h .carry-out .ensures) kept)
 
 pub message-taken-spec : {M : Type 1} → statement M
-message-taken-spec = tie.close (tie.spec (λ c κs. search needs) (λ c κs. search needs) returns (λ c. search needs) (λ c. search needs) (λ c κs. search needs) (λ c κs. search needs) (λ c κs. search needs) (λ c κs. search needs) (λ c. search needs) returns-2 (λ c κs. search needs) replied-requires (λ c. search needs) (λ c. search needs) returns-3)
+message-taken-spec =
+    tie.close
+    (tie.spec
+    (λ c κs. search needs)
+    (λ c κs. search needs)
+    returns
+    (λ c. search needs)
+    (λ c. search needs)
+    (λ c κs. search needs)
+    (λ c κs. search needs)
+    (λ c κs. search needs)
+    (λ c κs. search needs)
+    (λ c. search needs)
+    returns-2
+    (λ c κs. search needs)
+    replied-requires
+    (λ c. search needs)
+    (λ c. search needs)
+    returns-3)
