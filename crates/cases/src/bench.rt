@@ -5,34 +5,34 @@ use crate::script;
 use crate::words::FrameWord;
 use crate::writing;
 use frame::Kind;
-use frame::decoder::Decoder;
+use frame::decoder::Head;
 use frame_calls::decoder;
 
-// The decoder, where the next frame is written, and how long the last one was.
+// The decoder's head, where the next frame is written, and how long the last one was.
 pub(crate) struct Bench {
-    decoder: Decoder,
+    head: Head,
     at: usize,
     written: usize,
 }
 
 pub(crate) fn start() -> Bench {
     Bench {
-        decoder: decoder::fresh(),
+        head: decoder::fresh(),
         at: 0,
         written: 0,
     }
 }
 
-pub(crate) fn done(c: Bench, w: FrameWord, o: &[u8], out: &mut [u8]) -> Bench {
-    let d = c.decoder;
+pub(crate) fn done(c: Bench, w: FrameWord, o: &[u8], kept: &mut [u8], out: &mut [u8]) -> Bench {
+    let h = c.head;
     match w {
-        FrameWord::Read => read(c, o, out),
+        FrameWord::Read => read(c, o, kept, out),
         FrameWord::Idle => Bench {
-            decoder: reading::idle(d),
+            head: reading::idle(h, kept),
             ..c
         },
         FrameWord::Unsound => Bench {
-            decoder: reading::unsound(),
+            head: reading::unsound(),
             ..c
         },
         FrameWord::Place => place(c, octets::word(script::at(o, 0), script::at(o, 1))),
@@ -47,17 +47,17 @@ pub(crate) fn done(c: Bench, w: FrameWord, o: &[u8], out: &mut [u8]) -> Bench {
     }
 }
 
-fn read(c: Bench, o: &[u8], out: &[u8]) -> Bench {
-    let d = c.decoder;
-    let e = if o.len() == 0 {
+fn read(c: Bench, o: &[u8], kept: &mut [u8], out: &[u8]) -> Bench {
+    let h = c.head;
+    let head = if o.len() == 0 {
         say::text(b"\tread back");
-        reading::read(d, script::first(script::rest(out, c.at), c.written))
+        reading::read(h, kept, script::first(script::rest(out, c.at), c.written))
     } else {
         say::text(b"\tread ");
         say::octets(o);
-        reading::read(d, o)
+        reading::read(h, kept, o)
     };
-    Bench { decoder: e, ..c }
+    Bench { head, ..c }
 }
 
 fn place(c: Bench, at: u16) -> Bench {

@@ -4,9 +4,9 @@ use crate::say;
 use crate::script;
 use crate::words::CallWord;
 use controller::Event;
+use controller::Held;
+use controller::HeldAnswer;
 use controller::OUTPUT_LEN;
-use controller::Started;
-use controller::State;
 use frame_calls::writer;
 use lamps::Row;
 use octets::refusal;
@@ -20,7 +20,7 @@ const SILENT: usize = 255;
 
 // The controller's state, and how much of book and output it is lent.
 pub(crate) struct Post {
-    state: State,
+    state: Held,
     book: usize,
     output: usize,
 }
@@ -35,11 +35,18 @@ pub(crate) fn start() -> Post {
     }
 }
 
-pub(crate) fn done(p: Post, w: CallWord, o: &[u8], book: &mut [u8], out: &mut [u8]) -> Post {
+pub(crate) fn done(
+    p: Post,
+    w: CallWord,
+    o: &[u8],
+    kept: &mut [u8],
+    book: &mut [u8],
+    out: &mut [u8],
+) -> Post {
     let b = least(p.book, book.len());
     let n = least(p.output, out.len());
     let s = p.state;
-    let state = called(s, w, o, &mut book[..b], &mut out[..n]);
+    let state = called(s, w, o, kept, &mut book[..b], &mut out[..n]);
     Post { state, ..p }
 }
 
@@ -64,28 +71,35 @@ fn least(a: usize, b: usize) -> usize
     if a < b { a } else { b }
 }
 
-fn called(s: State, w: CallWord, o: &[u8], book: &mut [u8], out: &mut [u8]) -> State {
+fn called(
+    s: Held,
+    w: CallWord,
+    o: &[u8],
+    kept: &mut [u8],
+    book: &mut [u8],
+    out: &mut [u8],
+) -> Held {
     let own = s.own;
     match w {
         CallWord::Fresh => fresh(octets::word(script::at(o, 0), script::at(o, 1))),
         CallWord::Earlier => earlier(octets::word(script::at(o, 0), script::at(o, 1))),
-        CallWord::Take => taken(s, o, book, out),
-        CallWord::Send => send(s, own, o, book, out),
-        CallWord::Broadcast => send(s, controller::ALL, o, book, out),
-        CallWord::Keep => keep(s, o, book, out),
+        CallWord::Take => taken(s, o, kept, book, out),
+        CallWord::Send => send(s, own, o, kept, book, out),
+        CallWord::Broadcast => send(s, controller::ALL, o, kept, book, out),
+        CallWord::Keep => keep(s, o, kept, book, out),
         CallWord::Wait => wait(s, o.len(), book),
-        CallWord::Quiet => line_idle(s),
+        CallWord::Quiet => line_idle(s, kept),
     }
 }
 
 // A fresh start with this own address.
-fn fresh(own: u16) -> State {
+fn fresh(own: u16) -> Held {
     say_fresh(own);
     started(controller_calls::fresh(own))
 }
 
 // The same with the old built-in plan.
-fn earlier(own: u16) -> State {
+fn earlier(own: u16) -> Held {
     say_fresh(own);
     say::text(b" with the old plan 0");
     started(controller_calls::fresh_old(own))
@@ -96,73 +110,79 @@ fn say_fresh(own: u16) {
     say::octets(&[octets::high(own), octets::low(own)]);
 }
 
-fn started(f: Started) -> State {
-    if f.refusal != refusal::NONE {
-        say::call_refused(f.refusal);
+fn started(f: HeldAnswer) -> Held {
+    if f.told.refusal != refusal::NONE {
+        say::call_refused(f.told.refusal);
     }
     f.state
 }
 
-fn taken(s: State, o: &[u8], book: &mut [u8], out: &mut [u8]) -> State {
+fn taken(s: Held, o: &[u8], kept: &mut [u8], book: &mut [u8], out: &mut [u8]) -> Held {
     say::text(b"\ttake ");
     say::octets(o);
-    take(s, o, book, out)
+    take(s, o, kept, book, out)
 }
 
 // Hands the octets over one by one.
-fn take(s: State, o: &[u8], book: &mut [u8], out: &mut [u8]) -> State {
+fn take(s: Held, o: &[u8], kept: &mut [u8], book: &mut [u8], out: &mut [u8]) -> Held {
     let mut t = s;
     for i in 0..o.len() {
         let b = o[i];
-        t = octet(t, b, i + 1, &mut *book, &mut *out);
+        t = octet(t, b, i + 1, &mut *kept, &mut *book, &mut *out);
     }
     t
 }
 
 // A message frame to this address: the octets given are its SEQ and its INFO.
-fn send(s: State, addr: u16, o: &[u8], book: &mut [u8], out: &mut [u8]) -> State {
+fn send(s: Held, addr: u16, o: &[u8], kept: &mut [u8], book: &mut [u8], out: &mut [u8]) -> Held {
     let mut frame = [0u8; OUTPUT_LEN];
     say::text(b"\tsend ");
     say::octets(&[octets::high(addr), octets::low(addr)]);
     say::text(b": ");
     say::octets(o);
     let w = writer::write_message(script::at(o, 0), addr, script::rest(o, 1), &mut frame, 0);
-    take(s, script::first(&frame, w.count), book, out)
+    take(s, script::first(&frame, w.count), kept, book, out)
 }
 
 // The same message frame 255 times, in silence, and once more.
-fn keep(s: State, o: &[u8], book: &mut [u8], out: &mut [u8]) -> State {
+fn keep(s: Held, o: &[u8], kept: &mut [u8], book: &mut [u8], out: &mut [u8]) -> Held {
     let mut frame = [0u8; OUTPUT_LEN];
     let own = s.own;
     let w = writer::write_message(script::at(o, 0), own, script::rest(o, 1), &mut frame, 0);
     let mut t = s;
     for _ in 0..SILENT {
-        t = swallow(t, script::first(&frame, w.count), &mut *book, &mut *out);
+        t = swallow(
+            t,
+            script::first(&frame, w.count),
+            &mut *kept,
+            &mut *book,
+            &mut *out,
+        );
     }
     say::text(b"\t255 times in silence, then");
-    send(t, own, o, book, out)
+    send(t, own, o, kept, book, out)
 }
 
-fn swallow(s: State, o: &[u8], book: &mut [u8], out: &mut [u8]) -> State {
+fn swallow(s: Held, o: &[u8], kept: &mut [u8], book: &mut [u8], out: &mut [u8]) -> Held {
     let mut t = s;
     for i in 0..o.len() {
-        let a = controller_calls::octet(t, &mut *book, &mut *out, o[i]);
+        let a = controller_calls::octet(t, &mut *kept, &mut *book, &mut *out, o[i]);
         t = a.state;
     }
     t
 }
 
 // The octet call with octet b, which is number n of those given.
-fn octet(s: State, b: u8, n: usize, book: &mut [u8], out: &mut [u8]) -> State {
-    let a = controller_calls::octet(s, book, &mut *out, b);
-    if a.refusal != refusal::NONE {
-        say_refusal(n, a.refusal, a.parameter);
+fn octet(s: Held, b: u8, n: usize, kept: &mut [u8], book: &mut [u8], out: &mut [u8]) -> Held {
+    let a = controller_calls::octet(s, kept, book, &mut *out, b);
+    if a.told.refusal != refusal::NONE {
+        say_refusal(n, a.told.refusal, a.told.parameter);
     }
-    let e = a.event;
+    let e = a.told.event;
     say_event(e);
-    if a.count != 0 {
+    if a.told.count != 0 {
         say::text(b"\treply ");
-        say::octets(script::first(out, a.count));
+        say::octets(script::first(out, a.told.count));
     }
     a.state
 }
@@ -192,17 +212,17 @@ fn say_event(e: Event) {
     }
 }
 
-fn line_idle(s: State) -> State {
+fn line_idle(s: Held, kept: &[u8]) -> Held {
     say::text(b"\tline-idle call");
-    let a = controller_calls::line_idle(s);
-    if a.refusal != refusal::NONE {
-        say::call_refused(a.refusal);
+    let a = controller_calls::line_idle(s, kept);
+    if a.told.refusal != refusal::NONE {
+        say::call_refused(a.told.refusal);
     }
     a.state
 }
 
 // So many seconds; what the last of them shows is said.
-fn wait(s: State, n: usize, book: &[u8]) -> State {
+fn wait(s: Held, n: usize, book: &[u8]) -> Held {
     say::text(b"\twait ");
     say::decimal(n);
     let mut t = s;
@@ -212,13 +232,13 @@ fn wait(s: State, n: usize, book: &[u8]) -> State {
     t
 }
 
-fn second(s: State, last: bool, book: &[u8]) -> State {
+fn second(s: Held, last: bool, book: &[u8]) -> Held {
     let w = controller_calls::second(s, book);
     if last {
-        if w.refusal == refusal::NONE {
+        if w.told.refusal == refusal::NONE {
             say_second(w.plan, w.row);
         } else {
-            say::call_refused(w.refusal);
+            say::call_refused(w.told.refusal);
         }
     }
     w.state

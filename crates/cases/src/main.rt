@@ -36,6 +36,7 @@ mod writing;
 
 use bench::Bench;
 use control::Post;
+use frame::INFO_MOST;
 use input::Ended;
 use libc::STDERR_FILENO;
 use record::BOOK_LEN;
@@ -105,6 +106,9 @@ fn cases(s: &[u8], whole: bool) -> bool {
 
 // Runs a case and gives whether its line could be printed.
 fn case(s: &[u8]) -> bool {
+    // the octets of INFO that are lent to the decoder, and those that are lent to the controller
+    let mut info = [0u8; INFO_MOST];
+    let mut kept = [0u8; INFO_MOST];
     let mut out = [BEFORE; OUTPUT];
     let mut book = [0u8; BOOK_MOST];
     let mut d = Desk {
@@ -116,29 +120,52 @@ fn case(s: &[u8]) -> bool {
     while end < s.len() {
         let from = end + 1;
         end = script::end_of(s, from, b'\t');
-        d = action(d, &s[from..end], &mut book, &mut out);
+        d = action(d, &s[from..end], &mut info, &mut kept, &mut book, &mut out);
     }
     say::line_end()
 }
 
-fn action(d: Desk, s: &[u8], book: &mut [u8], out: &mut [u8]) -> Desk {
+fn action(
+    d: Desk,
+    s: &[u8],
+    info: &mut [u8],
+    kept: &mut [u8],
+    book: &mut [u8],
+    out: &mut [u8],
+) -> Desk {
     let mut o = [0u8; OUTPUT];
     let end = script::end_of(s, 0, b' ');
     let n = script::octets(script::rest(s, end), &mut o);
-    done(d, script::first(s, end), script::first(&o, n), book, out)
+    done(
+        d,
+        script::first(s, end),
+        script::first(&o, n),
+        info,
+        kept,
+        book,
+        out,
+    )
 }
 
-fn done(d: Desk, word: &[u8], o: &[u8], book: &mut [u8], out: &mut [u8]) -> Desk {
+fn done(
+    d: Desk,
+    word: &[u8],
+    o: &[u8],
+    info: &mut [u8],
+    kept: &mut [u8],
+    book: &mut [u8],
+    out: &mut [u8],
+) -> Desk {
     let bench = d.bench;
     let post = d.post;
     let w = words::find(word);
     match w {
         Word::Frame(f) => Desk {
-            bench: bench::done(bench, f, o, out),
+            bench: bench::done(bench, f, o, info, out),
             ..d
         },
         Word::Call(c) => Desk {
-            post: control::done(post, c, o, book, out),
+            post: control::done(post, c, o, kept, book, out),
             ..d
         },
         Word::Lend => Desk {

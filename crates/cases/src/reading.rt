@@ -2,39 +2,37 @@
 use crate::say;
 use crate::script;
 use frame::Kind;
-use frame::decoder::Decoder;
 use frame::decoder::Found;
 use frame::decoder::Head;
 use frame::decoder::Place;
 use frame_calls::decoder;
 use octets::refusal;
 
-pub(crate) fn read(d: Decoder, s: &[u8]) -> Decoder {
-    let mut e = d;
+pub(crate) fn read(h: Head, kept: &mut [u8], s: &[u8]) -> Head {
+    let mut e = h;
     for i in 0..s.len() {
         let b = s[i];
-        e = take(e, b, i + 1);
+        e = take(e, &mut *kept, b, i + 1);
     }
     say_place(e);
     e
 }
 
 // Takes octet b, which is number n of those given.
-fn take(d: Decoder, b: u8, n: usize) -> Decoder {
-    let t = decoder::octet(d, b);
+fn take(h: Head, kept: &mut [u8], b: u8, n: usize) -> Head {
+    let t = decoder::octet(h, &mut *kept, b);
     let f = t.found;
-    let e = t.decoder;
     if t.refusal != refusal::NONE {
         say::call_refused(t.refusal);
     }
-    say_found(f, e, n);
-    e
+    say_found(f, kept, n);
+    t.head
 }
 
-pub(crate) fn idle(d: Decoder) -> Decoder {
+pub(crate) fn idle(h: Head, kept: &[u8]) -> Head {
     say::text(b"\tline idle");
-    let t = decoder::line_idle(d);
-    let e = t.decoder;
+    let t = decoder::line_idle(h, kept);
+    let e = t.head;
     if t.refusal != refusal::NONE {
         say::call_refused(t.refusal);
     }
@@ -42,7 +40,7 @@ pub(crate) fn idle(d: Decoder) -> Decoder {
     e
 }
 
-fn say_found(f: Found, d: Decoder, n: usize) {
+fn say_found(f: Found, kept: &[u8], n: usize) {
     match f {
         Found::Nothing => {}
         Found::Refused(r, k, seq, addr) => {
@@ -53,11 +51,10 @@ fn say_found(f: Found, d: Decoder, n: usize) {
             say::head(k, seq, addr);
         }
         Found::Message(seq, addr, filled) => {
-            let info = d.info;
             say_number(n);
             say::head(Kind::Message, seq, addr);
             say::text(b", INFO ");
-            say::octets(script::first(&info, filled as usize));
+            say::octets(script::first(kept, filled as usize));
         }
         Found::Ack(seq, addr) => {
             say_number(n);
@@ -78,8 +75,7 @@ fn say_number(n: usize) {
     say::text(b": ");
 }
 
-fn say_place(d: Decoder) {
-    let h = d.head;
+fn say_place(h: Head) {
     let p = h.place;
     match p {
         Place::Idle => say::text(b"\tidle"),
@@ -89,17 +85,11 @@ fn say_place(d: Decoder) {
 }
 
 // An impossible decoder: an ACK has no INFO.
-pub(crate) fn unsound() -> Decoder {
+pub(crate) fn unsound() -> Head {
     say::text(b"\tdecoder at INFO of an ACK");
-    let d = decoder::fresh();
-    let h = d.head;
-    let info = d.info;
-    Decoder {
-        head: Head {
-            place: Place::Info,
-            kind: Kind::Ack,
-            ..h
-        },
-        info: info,
+    Head {
+        place: Place::Info,
+        kind: Kind::Ack,
+        ..decoder::fresh()
     }
 }

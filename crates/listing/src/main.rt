@@ -7,9 +7,11 @@ ghost use Prim.Native.Nat.{_≤_};
 ghost use mathlib.Core.Path.{_≡_};
 ghost use lib.ListN.{length};
 ghost use Rattle.octets.specs.Put.{Stored};
+ghost use Rattle.controller.specs.State.{joined};
 ghost use Rattle.printout.specs.Run.{lineMade};
 ghost use Rattle.listing.specs.Room.{Room, half};
 use controller::OUTPUT_LEN;
+use frame::INFO_MOST;
 use libc::STDERR_FILENO;
 use libc::STDIN_FILENO;
 use libc::STDOUT_FILENO;
@@ -71,6 +73,7 @@ fn words_given() -> usize {
 }
 
 fn list(which: Which) {
+    let mut kept = [0u8; INFO_MOST];
     let mut book = [0u8; BOOK_LEN];
     let mut out = [0u8; OUTPUT_LEN];
     let mut text = [0u8; TEXT_LEN];
@@ -85,18 +88,18 @@ fn list(which: Which) {
             lost: false,
         },
     };
-    read_all(start, &mut book, &mut out, &mut text);
+    read_all(start, &mut kept, &mut book, &mut out, &mut text);
 }
 
 // Reads to the end. A proved loop has to end, and nothing says that an input does, so the turns are counted down from a
 // number that no run uses up.
-fn read_all(start: Reading, book: &mut [u8], out: &mut [u8], text: &mut [u8])
+fn read_all(start: Reading, kept: &mut [u8], book: &mut [u8], out: &mut [u8], text: &mut [u8])
     requires { ⌜ Room (start .printing .run) (now text) ⌝ }
 {
     let mut g = start;
     let mut turns = u64::MAX;
     while turns > 0 {
-        let t = read_next(g, &mut *book, &mut *out, &mut *text);
+        let t = read_next(g, &mut *kept, &mut *book, &mut *out, &mut *text);
         g = t.reading;
         if !t.more {
             return;
@@ -106,7 +109,7 @@ fn read_all(start: Reading, book: &mut [u8], out: &mut [u8], text: &mut [u8])
 }
 
 // A read may wait for somebody to type, so all there is to see is written out before it.
-fn read_next(g: Reading, book: &mut [u8], out: &mut [u8], text: &mut [u8]) -> Turn
+fn read_next(g: Reading, kept: &mut [u8], book: &mut [u8], out: &mut [u8], text: &mut [u8]) -> Turn
     requires { ⌜ Room (g .printing .run) (now text) ⌝ }
     ensures { λ r. ⌜ Room (r .reading .printing .run) (now (text .exit)) ⌝ }
 {
@@ -118,12 +121,12 @@ fn read_next(g: Reading, book: &mut [u8], out: &mut [u8], text: &mut [u8]) -> Tu
             more: false,
         };
     }
-    read_once(shown, book, out, text)
+    read_once(shown, kept, book, out, text)
 }
 
 // At the end of the input its last line may lack a line feed. Where a read fails the line under way was cut off, and nobody
 // knows what it was to be.
-fn read_once(g: Reading, book: &mut [u8], out: &mut [u8], text: &mut [u8]) -> Turn
+fn read_once(g: Reading, kept: &mut [u8], book: &mut [u8], out: &mut [u8], text: &mut [u8]) -> Turn
     requires { ⌜ Room (g .printing .run) (now text) ⌝ }
     ensures { λ r. ⌜ Room (r .reading .printing .run) (now (text .exit)) ⌝ }
 {
@@ -139,18 +142,25 @@ fn read_once(g: Reading, book: &mut [u8], out: &mut [u8], text: &mut [u8]) -> Tu
     let n = io::count(got, &block);
     if n == 0 {
         return Turn {
-            reading: last(g, book, out, text),
+            reading: last(g, kept, book, out, text),
             more: false,
         };
     }
     Turn {
-        reading: taken(g, &block[..n], book, out, text),
+        reading: taken(g, &block[..n], kept, book, out, text),
         more: true,
     }
 }
 
 // Takes the octets of one read.
-fn taken(g: Reading, s: &[u8], book: &mut [u8], out: &mut [u8], text: &mut [u8]) -> Reading
+fn taken(
+    g: Reading,
+    s: &[u8],
+    kept: &mut [u8],
+    book: &mut [u8],
+    out: &mut [u8],
+    text: &mut [u8],
+) -> Reading
     requires { ⌜ Room (g .printing .run) (now text) ⌝ }
     ensures { λ r. ⌜ Room (r .printing .run) (now (text .exit)) ⌝ }
 {
@@ -163,7 +173,7 @@ fn taken(g: Reading, s: &[u8], book: &mut [u8], out: &mut [u8], text: &mut [u8])
         match f {
             LineFound::More => {}
             _ => {
-                p = done(p, f, &mut *book, &mut *out, &mut *text);
+                p = done(p, f, &mut *kept, &mut *book, &mut *out, &mut *text);
             }
         }
     }
@@ -174,30 +184,51 @@ fn taken(g: Reading, s: &[u8], book: &mut [u8], out: &mut [u8], text: &mut [u8])
 }
 
 // The end of the input ends the last line.
-fn last(g: Reading, book: &mut [u8], out: &mut [u8], text: &mut [u8]) -> Reading
+fn last(g: Reading, kept: &mut [u8], book: &mut [u8], out: &mut [u8], text: &mut [u8]) -> Reading
     requires { ⌜ Room (g .printing .run) (now text) ⌝ }
     ensures { λ r. ⌜ Room (r .printing .run) (now (text .exit)) ⌝ }
 {
-    let p = done(g.printing, line::line_end(g.line), book, out, &mut *text);
+    let p = done(
+        g.printing,
+        line::line_end(g.line),
+        kept,
+        book,
+        out,
+        &mut *text,
+    );
     let printing = written(p, text);
     Reading { printing, ..g }
 }
 
 // A line that has ended.
-fn done(p: Printing, f: LineFound, book: &mut [u8], out: &mut [u8], text: &mut [u8]) -> Printing
+fn done(
+    p: Printing,
+    f: LineFound,
+    kept: &mut [u8],
+    book: &mut [u8],
+    out: &mut [u8],
+    text: &mut [u8],
+) -> Printing
     requires { ⌜ Room (p .run) (now text) ⌝ }
     ensures { λ r. ⌜ Room (r .run) (now (text .exit)) ⌝ }
 {
-    let run = listed(p.run, f, book, out, &mut *text);
+    let run = listed(p.run, f, kept, book, out, &mut *text);
     flushed(Printing { run, ..p }, text)
 }
 
 // The text of a line is never dropped: with half the text free there is room for it.
-fn listed(run: Run, f: LineFound, book: &mut [u8], out: &mut [u8], text: &mut [u8]) -> Run
+fn listed(
+    run: Run,
+    f: LineFound,
+    kept: &mut [u8],
+    book: &mut [u8],
+    out: &mut [u8],
+    text: &mut [u8],
+) -> Run
     requires { ⌜ Room run (now text) ⌝ }
-    ensures { λ r. ⌜ Stored (lineMade f (run .state) (run .seconds) (now (book .entry)) (now (out .entry)) .said .text) (run .used) (now (text .entry)) (r .used) (now (text .exit)) ⌝ }
+    ensures { λ r. ⌜ Stored (lineMade f (joined (run .state) (now (kept .entry))) (run .seconds) (now (book .entry)) (now (out .entry)) .said .text) (run .used) (now (text .entry)) (r .used) (now (text .exit)) ⌝ }
 {
-    run::on_line(run, f, book, out, text)
+    run::on_line(run, f, kept, book, out, text)
 }
 
 // Writes the text out where more than half of it is filled.

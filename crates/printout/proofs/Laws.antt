@@ -12,12 +12,14 @@ use Rattle.text.specs.Text.{ascii, octetsHex}
 use Rattle.text.proofs.Laws.{hex16-length, octets-length}
 use Rattle.line.specs.declared.LineFound.the-variants as found
 use Rattle.line.specs.Line.{lineFeed}
-use Rattle.controller.specs.State.{State, outputLen}
+use Rattle.controller.specs.declared.Held.{Held}
+use Rattle.controller.specs.declared.HeldAnswer.{HeldAnswer}
+use Rattle.controller.specs.State.{State, joined, outputLen}
 use Rattle.controller.specs.Replies.{Answer, CallLeaves, octetOf}
 use Rattle.controller.proofs.Answering.{outputs-left}
 use Rattle.printout.specs.declared.run.Run.{Run}
 use Rattle.printout.specs.Listing.{wordText, replyLine}
-use Rattle.printout.specs.Run.{textMost, Said, Listed, secondSaid, badSaid, octetMade, lineMade}
+use Rattle.printout.specs.Run.{textMost, Said, Listed, secondSaid, BadWith, octetMade, lineMade}
 
 -- Text
 
@@ -58,15 +60,16 @@ reply-most (x ∷ xs) h = omega (arith, reply-length (x ∷ xs) (omega arith))
 
 -- The run
 
-module _ (s : State) (b o : List ℕ) (x : ℕ) {r : Answer} {b′ o′ : List ℕ} (d : CallLeaves (octetOf s b o x) r b′ o′) where
+module _ (s : Held) (lent b o : List ℕ) (x : ℕ) {r : HeldAnswer} {k b′ o′ : List ℕ} (d : CallLeaves (octetOf (joined s lent) b o x) lent r k b′ o′) where
   -- what a call counts is in the output
-  pub count-fits : r .count ≤ length o′
-  count-fits = let l = outputs-left s b o x in omega (arith, l .within, l .long, ap (λ (a : Answer). a .count) (d .answer), ap length (d .out))
+  pub count-fits : r .told .count ≤ length o′
+  count-fits = let l = outputs-left (joined s lent) b o x in omega (arith, l .within, l .long, ap (λ (a : Answer). a .told .count) (d .answer), ap length (d .out))
 
-  count-most : length (take (r .count) o′) ≤ outputLen
-  count-most = simp length-take (omega (arith, outputs-left s b o x .most, ap (λ (a : Answer). a .count) (d .answer)))
+  count-most : length (take (r .told .count) o′) ≤ outputLen
+  count-most = simp length-take (omega (arith, outputs-left (joined s lent) b o x .most, ap (λ (a : Answer). a .told .count) (d .answer)))
 
-  pub octet-listed : (n at : ℕ) {t t′ : List ℕ} {u : ℕ} → Put (replyLine (take (r .count) o′)) at t u t′ → Listed (octetMade s n b o x) at t (record { state = r .state; seconds = n; used = u }) b′ o′ t′
+  pub octet-listed : (n at : ℕ) {t t′ : List ℕ} {u : ℕ} → Put (replyLine (take (r .told .count) o′)) at t u t′
+      → Listed (octetMade (joined s lent) n b o x) lent at t (record { state = r .state; seconds = n; used = u }) k b′ o′ t′
   unfolding octetMade
   octet-listed n at p =
       record {
@@ -74,25 +77,30 @@ module _ (s : State) (b o : List ℕ) (x : ℕ) {r : Answer} {b′ o′ : List �
           state = ap (λ (a : Answer). a .state) (d .answer);
           seconds = refl;
           text = rw (← d .answer, ← d .out) p;
-          short = rw (← d .answer, ← d .out) (reply-most (take (r .count) o′) count-most);
+          short = rw (← d .answer, ← d .out) (reply-most (take (r .told .count) o′) count-most);
         };
+        beyond = d .beyond;
         book = d .book;
         out = d .out;
       }
 
-module _ (run : Run) (b o t : List ℕ) where
-  pub listed-more : Listed (lineMade found.More (run .state) (run .seconds) b o) (run .used) t run b o t
-  unfolding lineMade
-  listed-more = record { said = record { state = refl; seconds = refl; text = put-nothing t (run .used); short = omega arith }; book = refl; out = refl }
+module _ (run : Run) (lent b o t : List ℕ) where
+  abbrev state : State
+  state = joined (run .state) lent
 
-  pub listed-second : {r : Run} {t′ : List ℕ} → Said (secondSaid (run .state) (run .seconds) b) (run .used) t r t′ → Listed (lineMade found.Second (run .state) (run .seconds) b o) (run .used) t r b o t′
+  pub listed-more : Listed (lineMade found.More state (run .seconds) b o) lent (run .used) t run lent b o t
   unfolding lineMade
-  listed-second s = record { said = s; book = refl; out = refl }
+  listed-more = record { said = record { state = refl; seconds = refl; text = put-nothing t (run .used); short = omega arith }; beyond = refl; book = refl; out = refl }
 
-  pub listed-octet : (x : ℕ) {r : Run} {b′ o′ t′ : List ℕ} → Listed (octetMade (run .state) (run .seconds) b o x) (run .used) t r b′ o′ t′ → Listed (lineMade (found.Octet x) (run .state) (run .seconds) b o) (run .used) t r b′ o′ t′
+  pub listed-second : {r : Run} {t′ : List ℕ} → Said (secondSaid state (run .seconds) b) lent (run .used) t r t′ → Listed (lineMade found.Second state (run .seconds) b o) lent (run .used) t r lent b o t′
+  unfolding lineMade
+  listed-second s = record { said = s; beyond = refl; book = refl; out = refl }
+
+  pub listed-octet : (x : ℕ) {r : Run} {k b′ o′ t′ : List ℕ} → Listed (octetMade state (run .seconds) b o x) lent (run .used) t r k b′ o′ t′
+      → Listed (lineMade (found.Octet x) state (run .seconds) b o) lent (run .used) t r k b′ o′ t′
   unfolding lineMade
   listed-octet x l = l
 
-  pub listed-bad : (n : ℕ) {r : Run} {t′ : List ℕ} → Said (badSaid (run .state) (run .seconds) n) (run .used) t r t′ → Listed (lineMade (found.Bad n) (run .state) (run .seconds) b o) (run .used) t r b o t′
+  pub listed-bad : (n : ℕ) {r : Run} {t′ : List ℕ} → BadWith run n t r t′ → Listed (lineMade (found.Bad n) state (run .seconds) b o) lent (run .used) t r lent b o t′
   unfolding lineMade
-  listed-bad n s = record { said = s; book = refl; out = refl }
+  listed-bad n s = record { said = s lent; beyond = refl; book = refl; out = refl }

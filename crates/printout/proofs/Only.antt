@@ -1,5 +1,6 @@
 -- Any two results that a contract allows are equal.
-use Rattle.controller.specs.State.{State}
+use Rattle.controller.specs.declared.Held.{Held}
+use Rattle.controller.proofs.Answering.{one-to-one}
 use Prim.Native.Nat.{ℕ}
 use mathlib.Core.Path.{_≡_, sym, ap, _∙_}
 use denote.Ref.{now}
@@ -32,15 +33,17 @@ only-run-start κs a r s x y p q = p ∙ sym q
 
 run-one : (r s : Run) → r .state ≡ s .state → r .seconds ≡ s .seconds → r .used ≡ s .used → r ≡ s
 run-one r s p q u =
-    ap {B = Run} (λ (t : State). record { state = t; seconds = r .seconds; used = r .used }) p
+    ap {B = Run} (λ (t : Held). record { state = t; seconds = r .seconds; used = r .used }) p
     ∙ ap {B = Run} (λ (n : ℕ). record { state = s .state; seconds = n; used = r .used }) q
     ∙ ap {B = Run} (λ (n : ℕ). record { state = s .state; seconds = s .seconds; used = n }) u
 
 only-on-line : (κs : _) (a : _) (r s : _) (x y : _) → on-line.Post κs a r x → on-line.Post κs a s y
-    → (r ≡ s) × (now (x .1 .1 .0) ≡ now (y .1 .1 .0)) × (now (x .1 .1 .1 .0) ≡ now (y .1 .1 .1 .0)) × (now (x .1 .1 .1 .1 .0) ≡ now (y .1 .1 .1 .1 .0))
-only-on-line κs a r s x y p q = (
-  run-one r s (p .said .state ∙ sym (q .said .state)) (p .said .seconds ∙ sym (q .said .seconds)) (p .said .text .place ∙ sym (q .said .text .place)),
-  p .book ∙ sym (q .book),
-  p .out ∙ sym (q .out),
-  p .said .text .holds ∙ sym (q .said .text .holds),
-)
+    → (r ≡ s) × (now (x .1 .1 .0) ≡ now (y .1 .1 .0)) × (now (x .1 .1 .1 .0) ≡ now (y .1 .1 .1 .0)) × (now (x .1 .1 .1 .1 .0) ≡ now (y .1 .1 .1 .1 .0)) × (now (x .1 .1 .1 .1 .1 .0) ≡ now (y .1 .1 .1 .1 .1 .0))
+only-on-line κs a r s x y p q =
+    let j = one-to-one (r .state) (s .state) (now (x .1 .1 .0)) (now (y .1 .1 .0)) (p .said .state ∙ sym (q .said .state)) (p .beyond ∙ sym (q .beyond)) in (
+      run-one r s (j .0) (p .said .seconds ∙ sym (q .said .seconds)) (p .said .text .place ∙ sym (q .said .text .place)),
+      j .1,
+      p .book ∙ sym (q .book),
+      p .out ∙ sym (q .out),
+      p .said .text .holds ∙ sym (q .said .text .holds),
+    )

@@ -17,7 +17,7 @@ use Rattle.diagram.specs.Rows as table
 use Rattle.diagram.specs.Table as diagram
 use Rattle.diagram.proofs.Words.{words-fit}
 use Rattle.frame.specs.Frame.{frontOf, bodyOf, sentOf, cksOf, twice, doubled, written}
-use Rattle.frame.specs.Decoder.{freshDecoder, possibleOf, frontIn, cksIn, stepOf, takenOf}
+use Rattle.frame.specs.Decoder.{freshHead, possibleOf, frontIn, cksIn, stepOf, takenOf}
 use Rattle.message.specs.Layouts.{layouts, layoutAt, known, numberOf, rowsAt}
 use Rattle.message.specs.Layouts as message
 use Rattle.message.specs.Values.{zeros, placed, firstOut}
@@ -133,15 +133,15 @@ starts-asked =
     by words word o (yes e) false h = rw (eq-eqb words 1 e, h)
 
 pub listing-begins : ListingBegins
-unfolding runStart header listingFrom listingOf
-listing-begins which = record { state = refl; seconds = refl; used = refl; listing = λ input. refl; ended = λ s n b o. refl; next = λ s n b o f fs. refl }
+unfolding runStart header listingFrom listingOf freshOf
+listing-begins which = record { state = λ kept. refl; seconds = refl; used = refl; listing = λ input. refl; ended = λ s n b o. refl; next = λ s n b o f fs. refl }
 
 -- 01's listing
 
 pub two-seconds : TwoSeconds
-unfolding firstOf diagram.find table.directory diagram.diagramOf table.lampRows diagram.rowNumber diagram.lampRowOf freshDecoder possibleOf layouts layoutAt known numberOf rowsAt message.layoutRows zeros placed firstOut noMessage notRead partOf rangedOf readPartOf readOf timesDisagree planDisagree ranged timesStand planStands readyStands allZero standingOf padded builtIn same phaseTable secondsOf lamps.countedDown lamps.rowsFrom lamps.rowsOf rowAt freshOf runningSound soundOf movedOn secondOf digits line.lineOctet line.endOf founds lineAfter foundIn header placesWithin places decimal field wordText numbers secondLine secondSaid lineMade listingFrom listingOf
+unfolding firstOf diagram.find table.directory diagram.diagramOf table.lampRows diagram.rowNumber diagram.lampRowOf freshHead possibleOf layouts layoutAt known numberOf rowsAt message.layoutRows zeros placed firstOut noMessage notRead partOf rangedOf readPartOf readOf timesDisagree planDisagree ranged timesStand planStands readyStands allZero standingOf padded builtIn same phaseTable secondsOf lamps.countedDown lamps.rowsFrom lamps.rowsOf rowAt freshOf runningSound soundOf movedOn secondOf digits line.lineOctet line.endOf founds lineAfter foundIn header placesWithin places decimal field wordText numbers secondLine secondSaid lineMade listingFrom listingOf
 two-seconds = (refl, refl)
 
 pub reply-and-bad : ReplyAndBad
-unfolding xor exclusiveOr firstOf diagram.find table.directory diagram.diagramOf table.lampRows diagram.rowNumber diagram.lampRowOf frontOf bodyOf sentOf cksOf twice doubled written freshDecoder possibleOf frontIn cksIn stepOf takenOf layouts layoutAt known numberOf rowsAt message.layoutRows zeros placed firstOut noMessage notRead partOf rangedOf readPartOf readOf infoAs timesDisagree planDisagree ranged timesStand planStands readyStands allZero standingOf padded builtIn same planInfo reportPlanOf phaseTable secondsOf freshOf runningSound soundOf queryRunningAs handlingOf repliedOf messageOf doneOf octetOf digits line.hexOf line.lineOctet line.endOf founds lineAfter foundIn header placesWithin places decimal blankHex2 spaced octetsHex replyLine badLine octetMade badSaid lineMade listingFrom listingOf
+unfolding xor exclusiveOr firstOf diagram.find table.directory diagram.diagramOf table.lampRows diagram.rowNumber diagram.lampRowOf frontOf bodyOf sentOf cksOf twice doubled written freshHead possibleOf frontIn cksIn stepOf takenOf layouts layoutAt known numberOf rowsAt message.layoutRows zeros placed firstOut noMessage notRead partOf rangedOf readPartOf readOf infoAs timesDisagree planDisagree ranged timesStand planStands readyStands allZero standingOf padded builtIn same planInfo reportPlanOf phaseTable secondsOf freshOf runningSound soundOf queryRunningAs handlingOf repliedOf messageOf doneOf octetOf digits line.hexOf line.lineOctet line.endOf founds lineAfter foundIn header placesWithin places decimal blankHex2 spaced octetsHex replyLine badLine octetMade badSaid lineMade listingFrom listingOf
 reply-and-bad = (refl, refl)

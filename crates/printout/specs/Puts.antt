@@ -2,10 +2,11 @@
 use Prim.Native.Nat.{ℕ, _^_, _≤_, _<_}
 use mathlib.Core.Path.{_≡_}
 use mathlib.Core.List.{List, [], _∷_, _++_}
-use lib.ListN.{length}
+use lib.ListN.{length, drop}
 use Rattle.octets.specs.Promises.{PutSo}
 use Rattle.text.specs.Text.{ascii, decimal}
 use Rattle.lamps.specs.declared.Row.{Row}
+use Rattle.controller.specs.State.{joined}
 use Rattle.printout.specs.declared.run.Run.{Run}
 use Rattle.printout.specs.Listing.{lineMost, header, secondLine, replyLine, badLine}
 use Rattle.printout.specs.Run.{textMost, Making, Listed}
@@ -27,9 +28,11 @@ PutsAsSaid = EachPut
 
 -- What a line leaves
 
--- the run r, the book b and the output o are those that the line makes, and its text, never longer than 1,638, is put behind what was used
-pub record Left (m : Making) (used : ℕ) (t : List ℕ) (r : Run) (b o t′ : List ℕ) : Type 0 where
-  pub state : r .state ≡ m .said .state
+-- the run r, the octets k that were lent for INFO, the book b and the output o are those that the line makes, and its text, never longer than
+-- 1,638, is put behind what was used
+pub record Left (m : Making) (lent : List ℕ) (used : ℕ) (t : List ℕ) (r : Run) (k b o t′ : List ℕ) : Type 0 where
+  pub state : joined (r .state) k ≡ m .said .state
+  pub octets : k ≡ m .said .state .decoder .info ++ drop 256 lent
   pub seconds : r .seconds ≡ m .said .seconds
   pub text : PutSo (m .said .text) used t (r .used) t′
   pub short : length (m .said .text) ≤ 1638
@@ -37,4 +40,5 @@ pub record Left (m : Making) (used : ℕ) (t : List ℕ) (r : Run) (b o t′ : L
   pub out : o ≡ m .out
 
 abbrev pub LinesLeave : Type 0
-LinesLeave = (m : Making) (used : ℕ) (t : List ℕ) (r : Run) (b o t′ : List ℕ) → Listed m used t r b o t′ → Left m used t r b o t′
+LinesLeave =
+    (m : Making) (lent : List ℕ) (used : ℕ) (t : List ℕ) (r : Run) (k b o t′ : List ℕ) → Listed m lent used t r k b o t′ → Left m lent used t r k b o t′

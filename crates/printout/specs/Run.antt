@@ -4,13 +4,16 @@ use mathlib.Core.Path.{_≡_}
 use mathlib.Core.Bool.{Bool}
 use mathlib.Core.List.{List, [], _∷_, _++_}
 use lib.Dec.{eqb}
-use lib.ListN.{length, getD, take, replicate}
+use lib.ListN.{length, getD, take, drop, replicate}
 use Rattle.octets.specs.Choice.{pick, both}
 use Rattle.octets.specs.Put.{Put}
+use Rattle.frame.specs.Frame.{infoMost}
+use Rattle.frame.specs.Decoder.{freshHead}
 use Rattle.record.specs.Record.{emptyBook}
 use Rattle.plan.specs.declared.Which.{Which}
 use Rattle.plan.specs.declared.Which.the-variants.{New, Old}
-use Rattle.controller.specs.State.{State, outputLen, freshOf}
+use Rattle.plan.specs.BuiltIn.{builtIn}
+use Rattle.controller.specs.State.{State, joined, outputLen, startedAt, freshOf}
 use Rattle.controller.specs.Replies.{octetOf}
 use Rattle.controller.specs.Seconds.{secondOf}
 use Rattle.line.specs.declared.LineFound.{LineFound}
@@ -27,7 +30,12 @@ abbrev pub own : ℕ
 own = 0x0001
 
 unfoldable pub runStart : Which → Run
-runStart which = record { state = freshOf which own; seconds = 0; used = 0 }
+runStart which =
+    record {
+      state = record { own = own; seq = 0; requested = 0; head = freshHead; running = startedAt which 0 (builtIn which) };
+      seconds = 0;
+      used = 0;
+    }
 
 -- the word `old`: 6F 6C 64
 unfoldable pub isOld : List ℕ → Bool
@@ -54,15 +62,18 @@ pub record Making : Type 0 where
   pub book : List ℕ
   pub out : List ℕ
 
--- r is the run so, and the text, filled up to `used`, t before and t′ now, has the line's behind it where there is room
-pub record Said (w : Saying) (used : ℕ) (t : List ℕ) (r : Run) (t′ : List ℕ) : Type 0 where
-  pub state : r .state ≡ w .state
+-- r is the run so, with these octets kept for INFO, and the text, filled up to `used`, t before and t′ now, has the line's behind it where
+-- there is room
+pub record Said (w : Saying) (kept : List ℕ) (used : ℕ) (t : List ℕ) (r : Run) (t′ : List ℕ) : Type 0 where
+  pub state : joined (r .state) kept ≡ w .state
   pub seconds : r .seconds ≡ w .seconds
   pub text : Put (w .text) used t (r .used) t′
   pub short : length (w .text) ≤ textMost
 
-pub record Listed (m : Making) (used : ℕ) (t : List ℕ) (r : Run) (b o t′ : List ℕ) : Type 0 where
-  pub said : Said (m .said) used t r t′
+-- the octets lent for INFO are k now, those beyond as they came
+pub record Listed (m : Making) (lent : List ℕ) (used : ℕ) (t : List ℕ) (r : Run) (k b o t′ : List ℕ) : Type 0 where
+  pub said : Said (m .said) k used t r t′
+  pub beyond : drop infoMost k ≡ drop infoMost lent
   pub book : b ≡ m .book
   pub out : o ≡ m .out
 
@@ -75,6 +86,10 @@ secondSaid s n book =
 -- "for a bad line": no call
 unfoldable pub badSaid : State → ℕ → ℕ → Saying
 badSaid s n number = record { state = s; seconds = n; text = badLine number }
+
+-- a bad line has nothing to do with the octets kept
+abbrev pub BadWith : Run → ℕ → List ℕ → Run → List ℕ → Type 0
+BadWith run number t r t′ = (kept : List ℕ) → Said (badSaid (joined (run .state) kept) (run .seconds) number) kept (run .used) t r t′
 
 -- "an octet": what the octet call wrote is the first of the output
 unfoldable pub octetMade : State → ℕ → List ℕ → List ℕ → ℕ → Making
@@ -101,6 +116,6 @@ listingFrom s n book out (f ∷ fs) =
     let m = lineMade f s n book out in
     m .said .text ++ listingFrom (m .said .state) (m .said .seconds) (m .book) (m .out) fs
 
--- "starts fresh at address 0001 with an empty book"
+-- "starts fresh at address 0001 with an empty book"; the octets that are lent for INFO are 0 at first
 unfoldable pub listingOf : Which → List ℕ → List ℕ
-listingOf which input = header ++ listingFrom (freshOf which own) 0 emptyBook (replicate outputLen 0) (foundIn firstLine input)
+listingOf which input = header ++ listingFrom (freshOf which own (replicate infoMost 0)) 0 emptyBook (replicate outputLen 0) (foundIn firstLine input)

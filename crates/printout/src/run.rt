@@ -1,10 +1,17 @@
 // 01, "Cases": the listing itself: its start, what each line of the input does to the controller, and the text that it adds.
 ghost use mathlib.Core.Path.{_≡_};
-ghost use Rattle.controller.specs.Seconds.{startedOf};
-ghost use Rattle.printout.specs.Run.{own, Said, Listed, isOld, startAsked, runStart, secondSaid, badSaid, octetMade, lineMade};
-use controller::Started;
-use controller::State;
+ghost use Rattle.controller.specs.State.{joined};
+ghost use Rattle.controller.specs.Seconds.{startedOf, StartsWith, secondOf, shownWith};
+ghost use Rattle.printout.specs.Run.{own, Said, Listed, isOld, startAsked, runStart, secondSaid, BadWith, octetMade, lineMade};
+use controller::Event;
+use controller::Held;
+use controller::HeldAnswer;
+use controller::HeldShown;
+use controller::Told;
+use frame::INFO_MOST;
+use lamps::Row;
 use line::LineFound;
+use octets::refusal;
 use plan::Which;
 
 // "The listing program starts fresh at address 0001".
@@ -13,10 +20,10 @@ const OWN: u16 = 0x0001;
 // The octets of the one word that the program knows, `old`.
 pub const WORD_LEN: usize = 3;
 
-// The controller's state, the "seconds so far", and how much of the text is filled. The line under way is no part of it, so
-// that an octet within a line moves none of this.
+// The controller's state but for the octets of INFO, the "seconds so far", and how much of the text is filled. The line under way is
+// no part of it, so that an octet within a line moves none of this.
 pub struct Run {
-    pub state: State,
+    pub state: Held,
     pub seconds: u64,
     pub used: usize,
 }
@@ -72,8 +79,8 @@ pub fn run_start(which: Which) -> Run
     }
 }
 
-fn started(which: Which) -> Started
-    ensures { λ r. ⌜ r ≡ startedOf which own ⌝ }
+fn started(which: Which) -> HeldAnswer
+    ensures { λ r. ⌜ StartsWith (startedOf which own) r ⌝ }
 {
     match which {
         Which::New => controller_calls::fresh(OWN),
@@ -82,24 +89,31 @@ fn started(which: Which) -> Started
 }
 
 // What a line does; its text is put where there is room for it.
-pub fn on_line(run: Run, f: LineFound, book: &mut [u8], out: &mut [u8], text: &mut [u8]) -> Run
-    ensures { λ r. ⌜ Listed (lineMade f (run .state) (run .seconds) (now (book .entry)) (now (out .entry))) (run .used) (now (text .entry)) r (now (book .exit)) (now (out .exit)) (now (text .exit)) ⌝ }
+pub fn on_line(
+    run: Run,
+    f: LineFound,
+    kept: &mut [u8],
+    book: &mut [u8],
+    out: &mut [u8],
+    text: &mut [u8],
+) -> Run
+    ensures { λ r. ⌜ Listed (lineMade f (joined (run .state) (now (kept .entry))) (run .seconds) (now (book .entry)) (now (out .entry))) (now (kept .entry)) (run .used) (now (text .entry)) r (now (kept .exit)) (now (book .exit)) (now (out .exit)) (now (text .exit)) ⌝ }
 {
     match f {
         LineFound::More => run,
-        LineFound::Second => on_second(run, book, text),
-        LineFound::Octet(b) => on_octet(run, b, book, out, text),
+        LineFound::Second => on_second(run, &*kept, book, text),
+        LineFound::Octet(b) => on_octet(run, b, kept, book, out, text),
         LineFound::Bad(n) => on_bad(run, n, text),
     }
 }
 
 // "`T` is a second": the second call, with the book as it is.
-fn on_second(run: Run, book: &[u8], text: &mut [u8]) -> Run
-    ensures { λ r. ⌜ Said (secondSaid (run .state) (run .seconds) (now (book .entry))) (run .used) (now (text .entry)) r (now (text .exit)) ⌝ }
+fn on_second(run: Run, kept: &[u8], book: &[u8], text: &mut [u8]) -> Run
+    ensures { λ r. ⌜ Said (secondSaid (joined (run .state) (now (kept .entry))) (run .seconds) (now (book .entry))) (now (kept .entry)) (run .used) (now (text .entry)) r (now (text .exit)) ⌝ }
 {
     let n = run.seconds;
     let at = run.used;
-    let t = controller_calls::second(run.state, book);
+    let t = shown(run.state, kept, book);
     let state = t.state;
     let row = t.row;
     Run {
@@ -109,14 +123,46 @@ fn on_second(run: Run, book: &[u8], text: &mut [u8]) -> Run
     }
 }
 
+// Fewer octets than the state wants make it unsound. The second call is not lent them, so that is judged here.
+fn shown(s: Held, kept: &[u8], book: &[u8]) -> HeldShown
+    ensures { λ r. ⌜ shownWith r (now (kept .entry)) ≡ secondOf (joined s (now (kept .entry))) (now (book .entry)) ⌝ }
+{
+    if kept.len() < INFO_MOST {
+        return HeldShown {
+            state: s,
+            told: Told {
+                refusal: refusal::STATE_UNSOUND,
+                parameter: 0,
+                event: Event::Nothing,
+                count: 0,
+            },
+            plan: 0,
+            row: Row {
+                step: 0,
+                left: 0,
+                steady: 0,
+                flashing: 0,
+            },
+        };
+    }
+    controller_calls::second(s, book)
+}
+
 // "an octet": the octet call, and the reply that it wrote.
-fn on_octet(run: Run, b: u8, book: &mut [u8], out: &mut [u8], text: &mut [u8]) -> Run
-    ensures { λ r. ⌜ Listed (octetMade (run .state) (run .seconds) (now (book .entry)) (now (out .entry)) b) (run .used) (now (text .entry)) r (now (book .exit)) (now (out .exit)) (now (text .exit)) ⌝ }
+fn on_octet(
+    run: Run,
+    b: u8,
+    kept: &mut [u8],
+    book: &mut [u8],
+    out: &mut [u8],
+    text: &mut [u8],
+) -> Run
+    ensures { λ r. ⌜ Listed (octetMade (joined (run .state) (now (kept .entry))) (run .seconds) (now (book .entry)) (now (out .entry)) b) (now (kept .entry)) (run .used) (now (text .entry)) r (now (kept .exit)) (now (book .exit)) (now (out .exit)) (now (text .exit)) ⌝ }
 {
     let at = run.used;
-    let a = controller_calls::octet(run.state, book, &mut *out, b);
+    let a = controller_calls::octet(run.state, kept, book, &mut *out, b);
     let state = a.state;
-    let n = a.count;
+    let n = a.told.count;
     Run {
         state,
         used: crate::put_reply(&out[..n], text, at),
@@ -125,7 +171,7 @@ fn on_octet(run: Run, b: u8, book: &mut [u8], out: &mut [u8], text: &mut [u8]) -
 }
 
 fn on_bad(run: Run, n: u64, text: &mut [u8]) -> Run
-    ensures { λ r. ⌜ Said (badSaid (run .state) (run .seconds) n) (run .used) (now (text .entry)) r (now (text .exit)) ⌝ }
+    ensures { λ r. ⌜ BadWith run n (now (text .entry)) r (now (text .exit)) ⌝ }
 {
     let at = run.used;
     Run {

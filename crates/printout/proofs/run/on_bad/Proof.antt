@@ -8,7 +8,7 @@ use Rattle.printout.proofs.run.on_bad.Tie as tie
 
 returns : tie.Need-returns
 unfolding badSaid
-returns c =
+returns c kept =
     let p = c .before .before .before .put-bad .ensures in
     record { state = refl; seconds = refl; text = p .0; short = omega arith }
 

@@ -8,18 +8,22 @@ use Rattle.printout.proofs.run.on_octet.Tie as tie
 
 slice-reshare-prefix-put-reply : tie.Need-slice-reshare-prefix-put-reply
 slice-reshare-prefix-put-reply c =
-    let a = c .before .before .before .before .before .before .before .before .before .before .before .args in
-    count-fits (a .run .state) (a .book .now) (a .out .now) (a .b) (c .before .before .before .before .before .octet .ensures)
+    let o = c .before .before .before .before .before .before .before in
+    let a = o .before .before .before .before .before .before .before .before .args in
+    count-fits (a .run .state) (a .kept .now) (a .book .now) (a .out .now) (a .b) (o .octet .ensures)
 
 slice-aggregate-put-reply : tie.Need-slice-aggregate-put-reply
 slice-aggregate-put-reply c =
-    let a = c .before .before .before .before .before .before .before .before .before .before .before .before .args in
-    sym (length-take-le _ _ (count-fits (a .run .state) (a .book .now) (a .out .now) (a .b) (c .before .before .before .before .before .before .octet .ensures)))
+    let o = c .before .before .before .before .before .before .before .before in
+    let a = o .before .before .before .before .before .before .before .before .args in
+    sym (length-take-le _ _ (count-fits (a .run .state) (a .kept .now) (a .book .now) (a .out .now) (a .b) (o .octet .ensures)))
 
 returns : tie.Need-returns
 returns c =
-    let a = c .before .before .before .before .before .before .before .before .before .before .before .before .before .before .before .before .args in
-    octet-listed (a .run .state) (a .book .now) (a .out .now) (a .b) (c .before .before .before .before .before .before .before .before .before .before .octet .ensures) (a .run .seconds) (a .run .used) (c .before .before .put-reply .ensures)
+    let p = c .before .before in
+    let o = p .before .before .before .before .before .before .before .before .before .before in
+    let a = o .before .before .before .before .before .before .before .before .args in
+    octet-listed (a .run .state) (a .kept .now) (a .book .now) (a .out .now) (a .b) (o .octet .ensures) (a .run .seconds) (a .run .used) (p .put-reply .ensures)
 
 pub on-octet-spec : {M : Type 1} → statement M
 on-octet-spec =
@@ -29,6 +33,7 @@ on-octet-spec =
     slice-reshare-prefix-put-reply
     slice-aggregate-put-reply
     (λ c κs. search needs)
+    (λ c. search needs)
     (λ c. search needs)
     (λ c. search needs)
     (λ c. search needs)

@@ -5,10 +5,10 @@ use Rattle.printout.proofs.run.started.Statement.{statement}
 use Rattle.printout.proofs.run.started.Tie as tie
 
 returns : tie.Need-returns
-returns c = c .fresh .ensures ∙ rw (c .before .enum-told .given .1)
+returns c kept = c .fresh .ensures kept ∙ rw (c .before .enum-told .given .1)
 
 returns-2 : tie.Need-returns-2
-returns-2 c = c .fresh-old .ensures ∙ rw (c .before .enum-told2 .given .1)
+returns-2 c kept = c .fresh-old .ensures kept ∙ rw (c .before .enum-told2 .given .1)
 
 pub started-spec : {M : Type 1} → statement M
 started-spec = tie.close (tie.spec (λ c. search needs) (λ c κs. search needs) (λ c. search needs) (λ c κs. search needs) returns returns-2)
