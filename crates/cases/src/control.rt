@@ -175,14 +175,15 @@ fn swallow(s: Held, o: &[u8], kept: &mut [u8], book: &mut [u8], out: &mut [u8]) 
 // The octet call with octet b, which is number n of those given.
 fn octet(s: Held, b: u8, n: usize, kept: &mut [u8], book: &mut [u8], out: &mut [u8]) -> Held {
     let a = controller_calls::octet(s, kept, book, &mut *out, b);
-    if a.told.refusal != refusal::NONE {
-        say_refusal(n, a.told.refusal, a.told.parameter);
+    let told = a.told;
+    if told.refusal != refusal::NONE {
+        say_refusal(n, told.refusal, told.parameter);
     }
-    let e = a.told.event;
+    let e = told.event;
     say_event(e);
-    if a.told.count != 0 {
+    if told.count != 0 {
         say::text(b"\treply ");
-        say::octets(script::first(out, a.told.count));
+        say::octets(script::first(out, told.count));
     }
     a.state
 }

@@ -7,10 +7,10 @@ use Rattle.cases.proofs.case.Statement.{statement}
 use Rattle.cases.proofs.case.Tie as tie
 
 abbrev Inv-loop : tie.InvT-loop
-Inv-loop s out₀ book₀ d₀ end₀ out book d end = (end ≤ length s) × (length out ≡ 544) × (length book ≡ 3841)
+Inv-loop s info₀ kept₀ out₀ book₀ d₀ end₀ info kept out book d end = (end ≤ length s) × (length info ≡ 256) × (length kept ≡ 256) × (length out ≡ 544) × (length book ≡ 3841)
 
 abbrev μ-loop : tie.MeasureT-loop
-μ-loop s out₀ book₀ d₀ end₀ out book d end = length s - end
+μ-loop s info₀ kept₀ out₀ book₀ d₀ end₀ info kept out book d end = length s - end
 
 pub case-spec : {M : Type 1} → statement M
 case-spec =
@@ -26,6 +26,8 @@ case-spec =
     (λ c. search needs)
     (λ c. search needs)
     (λ c κs. search needs)
+    (λ c. search needs)
+    (λ c. search needs)
     (λ c. search needs)
     (λ c. search needs)
     (λ c. search needs)

@@ -7,10 +7,10 @@ use Rattle.cost.proofs.made.Statement.{statement}
 use Rattle.cost.proofs.made.Tie as tie
 
 abbrev Inv-loop : tie.InvT-loop
-Inv-loop events book₀ out₀ s₀ i₀ book out s i = (i ≤ length events) × (length book ≡ length book₀) × (length out ≡ length out₀)
+Inv-loop events kept₀ book₀ out₀ s₀ i₀ kept book out s i = (i ≤ length events) × (length kept ≡ length kept₀) × (length book ≡ length book₀) × (length out ≡ length out₀)
 
 abbrev μ-loop : tie.MeasureT-loop
-μ-loop events book₀ out₀ s₀ i₀ book out s i = length events - i
+μ-loop events kept₀ book₀ out₀ s₀ i₀ kept book out s i = length events - i
 
 pub made-spec : {M : Type 1} → statement M
 made-spec =
@@ -24,6 +24,7 @@ made-spec =
     (λ c. search needs)
     (λ c. search needs)
     (λ c κs. search needs)
+    (λ c. search needs)
     (λ c. search needs)
     (λ c. search needs)
     (λ c. search needs)

@@ -9,7 +9,7 @@ use Rattle.listing.proofs.list.Tie as tie
 read-all-requires : tie.Need-read-all-requires
 unfolding header
 read-all-requires c κs =
-    let p = put-stored (c .before .before .before .before .before .before .before .put-header .ensures) (search needs) in
+    let p = put-stored (c .before .before .before .before .before .before .before .before .put-header .ensures) (search needs) in
     record { used = omega (arith, p .place); long = search needs }
 
 pub list-spec : {M : Type 1} → statement M
@@ -20,6 +20,7 @@ list-spec =
     (λ c κs. search needs)
     (λ c κs. search needs)
     (λ c κs. search needs)
+    (λ c. search needs)
     (λ c. search needs)
     (λ c. search needs)
     (λ c. search needs)

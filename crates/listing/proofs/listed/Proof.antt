@@ -7,10 +7,10 @@ use Rattle.listing.proofs.listed.Tie as tie
 
 returns : tie.Need-returns
 returns c =
-    let e = c .before .before .before .before .before .before .on-line .ensures .said in
+    let e = c .before .before .before .before .before .before .before .before .on-line .ensures .said in
     put-stored (e .text) (omega (arith, e .short))
 
 pub listed-spec : {M : Type 1} → statement M
 listed-spec =
     tie.close
-    (tie.spec (λ c κs. search needs) (λ c. search needs) (λ c. search needs) (λ c. search needs) returns)
+    (tie.spec (λ c κs. search needs) (λ c. search needs) (λ c. search needs) (λ c. search needs) (λ c. search needs) returns)

@@ -7,11 +7,11 @@ use Rattle.listing.proofs.read_all.Statement.{statement}
 use Rattle.listing.proofs.read_all.Tie as tie
 
 abbrev Inv-loop : tie.InvT-loop
-Inv-loop book₀ out₀ text₀ g₀ turns₀ book out text g turns =
-    (length book ≡ length book₀) × (length out ≡ length out₀) × (length text ≡ length text₀) × Room (g .printing .run) text
+Inv-loop kept₀ book₀ out₀ text₀ g₀ turns₀ kept book out text g turns =
+    (length kept ≡ length kept₀) × (length book ≡ length book₀) × (length out ≡ length out₀) × (length text ≡ length text₀) × Room (g .printing .run) text
 
 abbrev μ-loop : tie.MeasureT-loop
-μ-loop book₀ out₀ text₀ g₀ turns₀ book out text g turns = turns
+μ-loop kept₀ book₀ out₀ text₀ g₀ turns₀ kept book out text g turns = turns
 
 pub read-all-spec : {M : Type 1} → statement M
 read-all-spec =
@@ -21,6 +21,8 @@ read-all-spec =
     μ-loop
     (λ c. search needs)
     (λ c κs. search needs)
+    (λ c. search needs)
+    (λ c. search needs)
     (λ c. search needs)
     (λ c. search needs)
     (λ c. search needs)

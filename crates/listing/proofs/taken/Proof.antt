@@ -9,15 +9,15 @@ use Rattle.listing.proofs.taken.Statement.{statement}
 use Rattle.listing.proofs.taken.Tie as tie
 
 abbrev Inv-loop : tie.InvT-loop
-Inv-loop s book₀ out₀ text₀ l₀ p₀ i₀ i-end book out text l p i =
-    (i ≤ length s) × (length book ≡ length book₀) × (length out ≡ length out₀) × Room (p .run) text
+Inv-loop s kept₀ book₀ out₀ text₀ l₀ p₀ i₀ i-end kept book out text l p i =
+    (i ≤ length s) × (length kept ≡ length kept₀) × (length book ≡ length book₀) × (length out ≡ length out₀) × Room (p .run) text
 
 abbrev μ-loop : tie.MeasureT-loop
-μ-loop s book₀ out₀ text₀ l₀ p₀ i₀ i-end book out text l p i = length s - i
+μ-loop s kept₀ book₀ out₀ text₀ l₀ p₀ i₀ i-end kept book out text l p i = length s - i
 
 loop-again : tie.Need-loop-again Inv-loop μ-loop
 loop-again c =
-    ⊎-elim (λ w. rw (w .2, w .3, w .4, w .5) (search needs)) (λ w. rw (w .11, w .12, w .13, w .14) (search needs)) (c .match .came)
+    ⊎-elim (λ w. rw (w .2, w .3, w .4, w .5, w .6) (search needs)) (λ w. rw (w .14, w .15, w .16, w .17, w .18) (search needs)) (c .match .came)
 
 pub taken-spec : {M : Type 1} → statement M
 taken-spec =
@@ -33,6 +33,7 @@ taken-spec =
     (λ c. search needs)
     (λ c. search needs)
     loop-again
+    (λ c. search needs)
     (λ c. search needs)
     (λ c. search needs)
     (λ c. search needs)

@@ -7,10 +7,10 @@ use Rattle.cases.proofs.control.keep.Statement.{statement}
 use Rattle.cases.proofs.control.keep.Tie as tie
 
 abbrev Inv-loop : tie.InvT-loop
-Inv-loop o book₀ out₀ frame own w t₀ t9 counter₀ book out t counter = (counter ≤ 255) × (length book ≡ length book₀) × (length out ≡ length out₀)
+Inv-loop o kept₀ book₀ out₀ frame own w t₀ t9 counter₀ kept book out t counter = (counter ≤ 255) × (length kept ≡ length kept₀) × (length book ≡ length book₀) × (length out ≡ length out₀)
 
 abbrev μ-loop : tie.MeasureT-loop
-μ-loop o book₀ out₀ frame own w t₀ t9 counter₀ book out t counter = 255 - counter
+μ-loop o kept₀ book₀ out₀ frame own w t₀ t9 counter₀ kept book out t counter = 255 - counter
 
 pub keep-spec : {M : Type 1} → statement M
 keep-spec =
@@ -32,6 +32,7 @@ keep-spec =
     (λ c. search needs)
     (λ c κs. search needs)
     (λ c κs. search needs)
+    (λ c. search needs)
     (λ c. search needs)
     (λ c. search needs)
     (λ c. search needs))

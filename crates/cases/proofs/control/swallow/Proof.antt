@@ -7,10 +7,10 @@ use Rattle.cases.proofs.control.swallow.Statement.{statement}
 use Rattle.cases.proofs.control.swallow.Tie as tie
 
 abbrev Inv-loop : tie.InvT-loop
-Inv-loop o book₀ out₀ t₀ i₀ i-end book out t i = (i ≤ length o) × (length book ≡ length book₀) × (length out ≡ length out₀)
+Inv-loop o kept₀ book₀ out₀ t₀ i₀ i-end kept book out t i = (i ≤ length o) × (length kept ≡ length kept₀) × (length book ≡ length book₀) × (length out ≡ length out₀)
 
 abbrev μ-loop : tie.MeasureT-loop
-μ-loop o book₀ out₀ t₀ i₀ i-end book out t i = length o - i
+μ-loop o kept₀ book₀ out₀ t₀ i₀ i-end kept book out t i = length o - i
 
 pub swallow-spec : {M : Type 1} → statement M
 swallow-spec =
@@ -21,6 +21,7 @@ swallow-spec =
     (λ c. search needs)
     (λ c. search needs)
     (λ c κs. search needs)
+    (λ c. search needs)
     (λ c. search needs)
     (λ c. search needs)
     (λ c. search needs)
