@@ -1,4 +1,3 @@
--- TO THE ENGINEER AT WORK IN THIS CLONE: leave the third item of your brief ("definitions take the state"); it is being done elsewhere together with request 20. Do not change this file beyond what items 1 and 2 need. Delete this line before you commit.
 -- 01, "Replies": what an octet call and a line-idle call answer, and what they leave in the state, the book and the output.
 use Prim.Native.Nat.{ℕ, _+_, _%_, _≤_}
 use mathlib.Core.Path.{_≡_}

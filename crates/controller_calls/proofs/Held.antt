@@ -1,5 +1,5 @@
 -- The code's struct and the octets lent are the state: what is said of the struct is so of the state.
-use Prim.Native.Nat.{ℕ, _≤_, _<_}
+use Prim.Native.Nat.{ℕ, _+_, _≤_, _<_}
 use mathlib.Core.Path.{_≡_, refl, sym, ap, subst, _∙_}
 use mathlib.Core.Bool.{Bool, true, false}
 use mathlib.Core.List.{List}
@@ -7,13 +7,15 @@ use native.Mathlib.Decide.{decLt}
 use native.Mathlib.Omega.{arith}
 use borrow.Author.Tests.{eq-eqb, ne-eqb, le-leb, lt-leb, not-true, not-false}
 use lib.Dec.{eqb, leb}
-use lib.ListN.{length, replicate, length-replicate}
+use lib.ListN.{length, set, replicate, length-replicate}
+use lib.Seq.{take-set-lt, drop-set-lt}
 use Rattle.octets.specs.Refusal as refusal
 use Rattle.frame.specs.Frame.{infoMost}
+use Rattle.frame.specs.declared.decoder.Head.{Head}
 use Rattle.frame.specs.declared.decoder.HeadTaken.{HeadTaken}
-use Rattle.frame.specs.Decoder.{Taken, idleDrops, possibleOf, takenOf, joinedDecoder, octetLent, idleLent, takenWith, TakenLeaves}
-use Rattle.frame.proofs.Laws.{taken-dropped}
-use Rattle.frame.proofs.Lent.{take-short, taken-long, enough, short, octets-lent}
+use Rattle.frame.specs.Decoder.{Taken, idleDrops, infoGoesOn, possibleOf, takenOf, joinedDecoder, octetLent, idleLent, takenWith, TakenLeaves}
+use Rattle.frame.proofs.Laws.{taken-dropped, room-info}
+use Rattle.frame.proofs.Lent.{take-short, taken-long, enough, short, octets-lent, info-goes-on}
 use Rattle.record.specs.Record.{plansMost}
 use Rattle.checks.proofs.Stands.{plan-fits, ready-plan}
 use Rattle.controller.specs.declared.Held.{Held}
@@ -24,6 +26,7 @@ use Rattle.controller.proofs.Judging.{sound-parts}
 use Rattle.controller.proofs.Laws.{idle-done}
 use Rattle.controller.proofs.Replying.{can-find}
 use Rattle.controller_calls.specs.Held.{heldSound, heldQuiet}
+use Rattle.controller_calls.specs.Replies.{KeptWith}
 
 -- Soundness, way by way
 
@@ -72,6 +75,10 @@ module _ (s : Held) (kept : List ℕ) where
   pub lent-enough : soundOf (joined s kept) ≡ true → infoMost ≤ length kept
   lent-enough h = omega (arith, sound-parts (joined s kept) h .info, take-short infoMost kept)
 
+-- the head with one more octet of INFO in
+abbrev filledHead : Head → Head
+filledHead h = record { place = h .place; kind = h .kind; seq = h .seq; err = h .err; addr = h .addr; len = h .len; filled = h .filled + 1 }
+
 -- What the code does, it did
 
 module _ (s : Held) (lent book out : List ℕ) where
@@ -100,6 +107,25 @@ module _ (s : Held) (lent : List ℕ) where
 
     pub found-fits : CanFind (t .found)
     found-fits = subst (λ (w : Taken). CanFind (w .found)) (sym taken-so) (can-find (joinedDecoder (s .head) lent) b (sound-parts (joined s lent) h .decoder))
+
+  -- an octet of INFO behind which others come has its place in the octets lent, and is kept there
+  module _ (b : ℕ) (h : soundOf (joined s lent) ≡ true) (g : infoGoesOn (s .head .place) (s .head .len) (s .head .filled) b ≡ true) where
+    pub kept-room : s .head .filled < infoMost
+    kept-room = room-info (s .head) (info-goes-on (joinedDecoder (s .head) lent) b .saidOnly g .0) (sound-parts (joined s lent) h .decoder)
+
+    pub kept-with : {r : HeldAnswer}
+        → r ≡ heldQuiet (record { own = s .own; seq = s .seq; requested = s .requested; head = filledHead (s .head); running = s .running }) refusal.none
+        → KeptWith s b lent r (set lent (s .head .filled) b)
+    unfolding doneOf
+    kept-with e book out =
+        let d = joinedDecoder (s .head) lent in
+        rw (info-goes-on d b .kept (sound-parts (joined s lent) h .decoder) g, e)
+        (record {
+          answer = rw (take-set-lt infoMost lent (s .head .filled) b kept-room);
+          beyond = drop-set-lt infoMost lent (s .head .filled) b kept-room;
+          book = refl;
+          out = refl;
+        })
 
 pub idle-answered : (s : Held) (kept : List ℕ) {t : HeadTaken} → soundOf (joined s kept) ≡ true → takenWith t kept ≡ idleLent (joinedDecoder (s .head) kept)
     → answerWith (heldQuiet (record { own = s .own; seq = s .seq; requested = s .requested; head = t .head; running = s .running }) refusal.none) kept ≡ lineIdleOf (joined s kept)

@@ -4,12 +4,14 @@ use mathlib.Core.Path.{_≡_}
 use mathlib.Core.List.{List}
 use lib.ListN.{length}
 use lib.Seq.{sets}
+use Rattle.frame.specs.Decoder.{takenOf, joinedDecoder}
 use Rattle.frame.specs.Run.{Outcome}
 use Rattle.controller.specs.declared.Event.{Event}
 use Rattle.controller.specs.declared.Handled.{Handled}
 use Rattle.controller.specs.declared.Held.{Held}
+use Rattle.controller.specs.declared.HeldAnswer.{HeldAnswer}
 use Rattle.controller.specs.State.{joined}
-use Rattle.controller.specs.Replies.{sent, Result, ResultAndBook, repliedOf, messageOf, broughtOf}
+use Rattle.controller.specs.Replies.{sent, CallLeaves, Result, ResultAndBook, repliedOf, messageOf, broughtOf, doneOf}
 use Rattle.controller_calls.specs.declared.replies.ResultCounted.{ResultCounted}
 
 -- what is told of it: its frames are counted
@@ -44,3 +46,8 @@ MessageWith s seq addr info book before r b after = (kept : List ℕ) → Result
 
 abbrev pub BroughtWith : Outcome → Held → List ℕ → List ℕ → ResultCounted → List ℕ → List ℕ → Type 0
 BroughtWith o s book before r b after = (kept : List ℕ) → ResultAndBookLeft (broughtOf o (joined s kept) book) before r b after
+
+-- An octet of INFO that is only kept: whatever book and output are lent, they stay.
+abbrev pub KeptWith : Held → ℕ → List ℕ → HeldAnswer → List ℕ → Type 0
+KeptWith s b lent r k =
+    (book out : List ℕ) → CallLeaves (doneOf (joined s lent) (takenOf (joinedDecoder (s .head) lent) b) book out) lent r k book out

@@ -70,6 +70,13 @@ pub fn octet(s: Held, kept: &mut [u8], book: &mut [u8], out: &mut [u8], b: u8) -
     if out.len() < OUTPUT_LEN {
         return quiet(s, refusal::OUTPUT_SHORT);
     }
+    let h = s.head;
+    if decoder::idle_drops(h, b) {
+        return quiet(s, refusal::NONE);
+    }
+    if decoder::info_goes_on(h, b) {
+        return replies::info_kept(s, kept, b);
+    }
     replies::taken(s, kept, book, out, b)
 }
 
@@ -98,9 +105,8 @@ pub fn second(s: Held, book: &[u8]) -> HeldShown
         return dark(s, refusal::BOOK_WRONG);
     }
     let u = s.running;
-    let copy = u.copy;
-    let row = lamps::row_at(&copy, u.position);
-    let running = stepper::moved_on(u, s.requested, book);
+    let row = lamps::row_at(&u.copy, u.position);
+    let running = stepper::moved_on(u, record::cycle(&u.copy), s.requested, book);
     HeldShown {
         state: Held { running, ..s },
         told: tells(refusal::NONE),

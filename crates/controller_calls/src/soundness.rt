@@ -35,8 +35,7 @@ pub(crate) fn stands(s: Held, lent: usize) -> bool
 fn running_stands(u: Running) -> bool
     ensures { λ r. ⌜ r ≡ runningSound u ⌝ }
 {
-    let copy = u.copy;
-    if record::cycle(&copy) <= u.position {
+    if record::cycle(&u.copy) <= u.position {
         return false;
     }
     if PLANS_MOST < u.plan {
@@ -44,7 +43,7 @@ fn running_stands(u: Running) -> bool
     }
     if u.plan == 0 {
         let which = u.which;
-        return book::is_built_in(&copy, which);
+        return book::is_built_in(&u.copy, which);
     }
-    checks::standing(&copy) == record::READY
+    checks::standing(&u.copy) == record::READY
 }

@@ -2,7 +2,7 @@
 ghost use mathlib.Core.Path.{_≡_};
 ghost use Prim.Native.Nat.{_<_};
 ghost use lib.ListN.{length};
-ghost use Rattle.record.specs.Record.{recordLen, bookLen};
+ghost use Rattle.record.specs.Record.{recordLen, bookLen, cycleOf};
 ghost use Rattle.plan.specs.declared.Which.{Which};
 ghost use Rattle.plan.specs.BuiltIn.{builtIn};
 ghost use Rattle.controller.specs.State.{startedAt};
@@ -27,12 +27,11 @@ pub(crate) fn started(which: Which, plan: u8, copy: [u8; RECORD_LEN]) -> Running
 }
 
 // "then moves on. The call that answers a cycle's last second also picks the next plan".
-pub(crate) fn moved_on(u: Running, requested: u8, book: &[u8]) -> Running
-    requires { ⌜ (length (now book) ≡ bookLen) × (u .position < 65535) ⌝ }
+pub(crate) fn moved_on(u: Running, cycle: u16, requested: u8, book: &[u8]) -> Running
+    requires { ⌜ (length (now book) ≡ bookLen) × (u .position < 65535) × (cycle ≡ cycleOf (u .copy)) ⌝ }
     ensures { λ r. ⌜ r ≡ movedOn u requested (now (book .entry)) ⌝ }
 {
-    let copy = u.copy;
-    if u.position + 1 < record::cycle(&copy) {
+    if u.position + 1 < cycle {
         return Running {
             position: u.position + 1,
             ..u

@@ -1,24 +1,30 @@
 -- The head and the octets lent make one decoder, and with the octets beyond it tells them both.
-use Prim.Native.Nat.{ℕ, _≤_, _<_}
+use Prim.Native.Nat.{ℕ, _+_, _≤_, _<_}
 use mathlib.Core.Path.{_≡_, refl, sym, ap, _∙_}
-use mathlib.Core.Bool.{true, false}
+use mathlib.Core.Bool.{Bool, true, false, not}
 use mathlib.Core.List.{List, _++_}
 use native.Mathlib.Omega.{arith}
-use borrow.Author.Tests.{eq-eqb, ne-eqb}
-use lib.Dec.{eqb}
+use borrow.Author.Tests.{eq-eqb, ne-eqb, lt-ltb, eqb-false, ltb-true, not-true}
+use lib.Dec.{eqb, ltb}
 use lib.ListN.{length, take, drop, set, take-append-drop, length-take}
 use lib.Seq.{length-take-le, take-set-lt, drop-set-lt}
-use Rattle.octets.proofs.Laws.{pick-by}
+use Rattle.octets.specs.Choice.{both}
+use Rattle.octets.proofs.Laws.{pick-by, both-left, both-right, clash}
 use Rattle.frame.specs.declared.decoder.Head.{Head}
 use Rattle.frame.specs.declared.decoder.HeadTaken.{HeadTaken}
-use Rattle.frame.specs.Frame.{infoMost}
-use Rattle.frame.specs.declared.decoder.Place.the-variants.{Idle}
+use Rattle.frame.specs.Frame.{infoMost, messageLen}
+use Rattle.frame.specs.declared.Kind.{Kind}
+use Rattle.frame.specs.declared.decoder.Place.{Place}
+use Rattle.frame.specs.declared.decoder.Place.the-variants.{Idle, LoneAa, Seq, AddrHigh, AddrLow, LenHigh, LenLow, Info, InfoAa, CloseAa, CloseCc, Err, Cks}
 use Rattle.frame.specs.declared.decoder.Found.the-variants as found
 use Rattle.frame.specs.declared.decoder.Stepped.{Stepped}
-use Rattle.frame.specs.Decoder.{Decoder, Taken, possibleOf, headAt, stepAt, takenOf, idledOf, joinedDecoder, octetLent, idleLent, headUnsound, headTaken, takenWith, TakenLeaves}
-use Rattle.frame.specs.Promises.{OctetsLent}
-use Rattle.frame.proofs.Laws.{idled-7, idled-done, taken-7, taken-as, keeps-room}
+use Rattle.frame.specs.Decoder.{Decoder, Taken, headOf, possibleOf, infoGoesOn, headAt, stepOf, stepAt, takenOf, idledOf, joinedDecoder, octetLent, idleLent, headUnsound, headTaken, takenWith, TakenLeaves}
+use Rattle.frame.specs.Promises.{OctetsLent, GoesOn, InfoGoesOn}
+use Rattle.frame.proofs.Laws.{idled-7, idled-done, taken-7, taken-done, taken-as, keeps-room}
 use Rattle.frame.proofs.Writing.{step-long}
+
+abbrev isInfo : Place → Bool
+isInfo p = infoGoesOn p 12 0 0
 
 -- a list is its first n and those beyond
 pub parted : (n : ℕ) (k l : List ℕ) → take n k ≡ take n l → drop n k ≡ drop n l → k ≡ l
@@ -104,3 +110,36 @@ module _ (h : Head) (kept : List ℕ) where
       pub leaves-other : t .keeps ≡ false → TakenLeaves (octetLent (joinedDecoder h kept) b) kept (headTaken (t .head) (t .found)) kept
       unfolding octetLent
       leaves-other q = record { answer = rw (enough h kept l) (sym (taken-as (joinedDecoder h kept) b p e q)); beyond = refl }
+
+-- An octet of INFO behind which others come
+
+pub info-goes-on : InfoGoesOn
+unfolding stepOf
+info-goes-on d b =
+    let h = d .head in
+    by (h .place) (h .kind) (h .seq) (h .err) (h .addr) (h .len) (h .filled) (d .info)
+  where
+    nowhere : {p : Place} {k : Kind} {s e a n g : ℕ} {i : List ℕ} → (p ≡ Info → ⊥) → infoGoesOn p n g b ≡ false → GoesOn (record { head = headOf p k s e a n g; info = i }) b
+    nowhere m f = record { said = λ e. absurd (m e); saidOnly = λ t. absurd (clash f t); kept = λ _ t. absurd (clash f t) }
+
+    by : (p : Place) (k : Kind) (s e a n g : ℕ) (i : List ℕ) → GoesOn (record { head = headOf p k s e a n g; info = i }) b
+    by Info k s e a n g i =
+        record {
+          said = λ _ m l. rw (ne-eqb b 0xAA m, lt-ltb (messageLen + (g + 1)) n l);
+          saidOnly = λ t. (refl, eqb-false b 0xAA (not-true (eqb b 0xAA) (both-left (not (eqb b 0xAA)) (ltb (messageLen + (g + 1)) n) t)), ltb-true (messageLen + (g + 1)) n (both-right (not (eqb b 0xAA)) (ltb (messageLen + (g + 1)) n) t));
+          kept = λ p t.
+              taken-done (record { head = headOf Info k s e a n g; info = i }) b p
+              ∙ rw (not-true (eqb b 0xAA) (both-left (not (eqb b 0xAA)) (ltb (messageLen + (g + 1)) n) t), both-right (not (eqb b 0xAA)) (ltb (messageLen + (g + 1)) n) t);
+        }
+    by Idle k s e a n g i = nowhere (λ q. absurd (clash refl (ap isInfo q))) refl
+    by LoneAa k s e a n g i = nowhere (λ q. absurd (clash refl (ap isInfo q))) refl
+    by Seq k s e a n g i = nowhere (λ q. absurd (clash refl (ap isInfo q))) refl
+    by AddrHigh k s e a n g i = nowhere (λ q. absurd (clash refl (ap isInfo q))) refl
+    by AddrLow k s e a n g i = nowhere (λ q. absurd (clash refl (ap isInfo q))) refl
+    by LenHigh k s e a n g i = nowhere (λ q. absurd (clash refl (ap isInfo q))) refl
+    by LenLow k s e a n g i = nowhere (λ q. absurd (clash refl (ap isInfo q))) refl
+    by InfoAa k s e a n g i = nowhere (λ q. absurd (clash refl (ap isInfo q))) refl
+    by CloseAa k s e a n g i = nowhere (λ q. absurd (clash refl (ap isInfo q))) refl
+    by CloseCc k s e a n g i = nowhere (λ q. absurd (clash refl (ap isInfo q))) refl
+    by Err k s e a n g i = nowhere (λ q. absurd (clash refl (ap isInfo q))) refl
+    by Cks k s e a n g i = nowhere (λ q. absurd (clash refl (ap isInfo q))) refl

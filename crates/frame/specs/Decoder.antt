@@ -138,6 +138,22 @@ idleDrops CloseCc b = false
 idleDrops Err b = false
 idleDrops Cks b = false
 
+-- is the octet one of INFO, no AA, behind which others are still to come?
+abbrev pub infoGoesOn : Place → ℕ → ℕ → ℕ → Bool
+infoGoesOn Idle n g b = false
+infoGoesOn LoneAa n g b = false
+infoGoesOn Seq n g b = false
+infoGoesOn AddrHigh n g b = false
+infoGoesOn AddrLow n g b = false
+infoGoesOn LenHigh n g b = false
+infoGoesOn LenLow n g b = false
+infoGoesOn Info n g b = both (not (eqb b 0xAA)) (ltb (messageLen + (g + 1)) n)
+infoGoesOn InfoAa n g b = false
+infoGoesOn CloseAa n g b = false
+infoGoesOn CloseCc n g b = false
+infoGoesOn Err n g b = false
+infoGoesOn Cks n g b = false
+
 -- "After a lone AA: BB, DD or EE opens a frame, AA stays remembered, all else returns to idle."
 abbrev pub afterAa : Head → ℕ → Found → Stepped
 afterAa h b f =

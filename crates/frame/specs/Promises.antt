@@ -6,7 +6,7 @@ use mathlib.Core.Bool.{true, false}
 use mathlib.Core.Logic.{_⊎_}
 use mathlib.Core.List.{List, [], _∷_, _++_}
 use lib.Bits.{bitXor}
-use lib.ListN.{length, take, drop, replicate, getD}
+use lib.ListN.{length, take, drop, set, replicate, getD}
 use Rattle.octets.specs.ExclusiveOr.{exclusiveOr}
 use Rattle.octets.specs.Octet.{Octets}
 use Rattle.octets.specs.Writing.{Writing}
@@ -19,7 +19,7 @@ use Rattle.frame.specs.declared.decoder.Found.{Found}
 use Rattle.frame.specs.declared.decoder.Found.the-variants as found
 use Rattle.frame.specs.declared.decoder.HeadTaken.{HeadTaken}
 use Rattle.frame.specs.Frame.{Frame, message, ack, nak, opener, infoLeast, infoMost, messageLen, ackLen, nakLen, lenOf, doubled, cksOf, undoubled, written}
-use Rattle.frame.specs.Decoder.{Decoder, Taken, possibleOf, freshHead, freshDecoder, idleDrops, takenOf, idledOf, joinedDecoder, octetLent, idleLent, TakenLeaves}
+use Rattle.frame.specs.Decoder.{Decoder, Taken, possibleOf, freshHead, freshDecoder, idleDrops, infoGoesOn, takenOf, idledOf, joinedDecoder, octetLent, idleLent, TakenLeaves}
 use Rattle.frame.specs.Writer.{writeFrame}
 use Rattle.frame.specs.Run.{nothing, refused, sound, foundMeans, outcomeOf, outcomes, decoderAfter, AtRest, drops, NothingDropped}
 
@@ -302,6 +302,21 @@ pub record WaitsFrom (d : Decoder) : Type 0 where
 
 abbrev pub Waits : Type 0
 Waits = (d : Decoder) → WaitsFrom d
+
+-- "After n octets of INFO come AA and CC": an octet of INFO, no AA, behind which others come is kept, and nothing else of the decoder changes
+-- but how many are in. It is said to be such a one where it is, and nowhere else.
+pub record GoesOn (d : Decoder) (b : ℕ) : Type 0 where
+  pub said : d .head .place ≡ Info → (b ≡ 0xAA → ⊥) → 10 + (d .head .filled + 1) < d .head .len → infoGoesOn (d .head .place) (d .head .len) (d .head .filled) b ≡ true
+  pub saidOnly : infoGoesOn (d .head .place) (d .head .len) (d .head .filled) b ≡ true
+      → (d .head .place ≡ Info) × (b ≡ 0xAA → ⊥) × (10 + (d .head .filled + 1) < d .head .len)
+  pub kept : possibleOf (d .head) ≡ true → infoGoesOn (d .head .place) (d .head .len) (d .head .filled) b ≡ true
+      → takenOf d b ≡ doneWith (let h = d .head in record {
+        head = record { place = h .place; kind = h .kind; seq = h .seq; err = h .err; addr = h .addr; len = h .len; filled = h .filled + 1 };
+        info = set (d .info) (h .filled) b;
+      })
+
+abbrev pub InfoGoesOn : Type 0
+InfoGoesOn = (d : Decoder) (b : ℕ) → GoesOn d b
 
 -- SEQ and ERR are an octet, ADDR is two, and INFO is octets
 abbrev pub InOctets : Frame → Type 0

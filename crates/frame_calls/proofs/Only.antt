@@ -7,6 +7,7 @@ use Rattle.frame_calls.proofs.decoder.octet.Reads as octet
 use Rattle.frame_calls.proofs.decoder.line_idle.Reads as line-idle
 use Rattle.frame_calls.proofs.decoder.possible.Reads as possible
 use Rattle.frame_calls.proofs.decoder.idle_drops.Reads as idle-drops
+use Rattle.frame_calls.proofs.decoder.info_goes_on.Reads as info-goes-on
 use Rattle.frame_calls.proofs.writer.write_message.Reads as write-message
 use Rattle.frame_calls.proofs.writer.write_ack.Reads as write-ack
 use Rattle.frame_calls.proofs.writer.write_nak.Reads as write-nak
@@ -22,6 +23,9 @@ only-line-idle κs a r s x y p q = taken-one-to-one r s (now (a .1 .0)) (now (a 
 
 only-possible : (κs : _) (a : _) (r s : _) (x y : _) → possible.Post κs a r x → possible.Post κs a s y → r ≡ s
 only-possible κs a r s x y p q = p ∙ sym q
+
+only-info-goes-on : (κs : _) (a : _) (r s : _) (x y : _) → info-goes-on.Post κs a r x → info-goes-on.Post κs a s y → r ≡ s
+only-info-goes-on κs a r s x y p q = p ∙ sym q
 
 only-idle-drops : (κs : _) (a : _) (r s : _) (x y : _) → idle-drops.Post κs a r x → idle-drops.Post κs a s y → r ≡ s
 only-idle-drops κs a r s x y p q = p ∙ sym q

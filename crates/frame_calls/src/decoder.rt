@@ -1,11 +1,12 @@
 // 01, "Frames": "The decoder takes one octet a call."
 ghost use mathlib.Core.Path.{_≡_};
 ghost use mathlib.Core.Bool.{true};
-ghost use Prim.Native.Nat.{_≤_, _<_};
+ghost use Prim.Native.Nat.{_+_, _≤_, _<_};
+ghost use lib.Dec.{ltb};
 ghost use lib.ListN.{take};
 ghost use Rattle.octets.specs.ExclusiveOr.{exclusiveOr};
-ghost use Rattle.frame.specs.Frame.{lenFits, infoMost};
-ghost use Rattle.frame.specs.Decoder.{freshHead, hasInfo, infoDue, infoWhole, errDue, cksDue, idleDrops, possibleOf, headAt, foundAt, moved, ended, opened, refusedBy, idleOctet, afterAa, afterLen, lenJudged, afterInfo, kept, infoOctet, infoAaOctet, closeAaOctet, closeCcOctet, cksIn, soundBy, cksOctet, stepAt, joinedDecoder, octetLent, idleLent, takenWith, TakenLeaves, headUnsound, headTaken};
+ghost use Rattle.frame.specs.Frame.{lenFits, infoMost, messageLen};
+ghost use Rattle.frame.specs.Decoder.{freshHead, hasInfo, infoDue, infoWhole, errDue, cksDue, idleDrops, infoGoesOn, possibleOf, headAt, foundAt, moved, ended, opened, refusedBy, idleOctet, afterAa, afterLen, lenJudged, afterInfo, kept, infoOctet, infoAaOctet, closeAaOctet, closeCcOctet, cksIn, soundBy, cksOctet, stepAt, joinedDecoder, octetLent, idleLent, takenWith, TakenLeaves, headUnsound, headTaken};
 use crate::AA;
 use crate::ACK_LEN;
 use crate::BB;
@@ -105,6 +106,24 @@ pub fn idle_drops(h: Head, b: u8) -> bool
         Place::Idle => b != AA,
         _ => false,
     }
+}
+
+// An octet of INFO, no AA, behind which others are still to come: it is kept, and the decoder stays where it is.
+pub fn info_goes_on(h: Head, b: u8) -> bool
+    ensures { λ r. ⌜ r ≡ infoGoesOn (h .place) (h .len) (h .filled) b ⌝ }
+{
+    let p = h.place;
+    match p {
+        Place::Info => b != AA && more_follow(h.len, h.filled),
+        _ => false,
+    }
+}
+
+// Does one more octet of INFO leave others to come?
+fn more_follow(len: u16, filled: u16) -> bool
+    ensures { λ r. ⌜ r ≡ ltb (messageLen + (filled + 1)) len ⌝ }
+{
+    MESSAGE_LEN as u32 + (filled as u32 + 1) < len as u32
 }
 
 // Can a decoder stand so? Kind, LEN and the count of INFO must fit the place.

@@ -3,7 +3,7 @@ use mathlib.Core.Path.{sym, _∙_}
 use borrow.Author.Tests.{not-true, not-false}
 use Rattle.controller.specs.State.{joined}
 use Rattle.controller.proofs.Laws.{octet-7, octet-8, octet-9, octet-done}
-use Rattle.controller_calls.proofs.Held.{sound-joined, leaves-quiet}
+use Rattle.controller_calls.proofs.Held.{sound-joined, leaves-quiet, octet-dropped}
 use borrow.Author.Needs.{needs}
 use Rattle.controller_calls.proofs.octet.Statement.{statement}
 use Rattle.controller_calls.proofs.octet.Tie as tie
@@ -35,18 +35,51 @@ returns-3 c =
     rw (octet-9 (joined (a .s) k) (a .book .now) (a .out .now) (a .b) (sym (sound-joined (a .s) k) ∙ (sym (t .stands .ensures) ∙ not-false _ (i .if1 .left))) (j .if2 .left) (c .before .if3 .taken))
     (leaves-quiet (a .s) k (a .book .now) (a .out .now) 9 (c .quiet3 .ensures))
 
+returns-4 : tie.Need-returns-4
+returns-4 c =
+    let d = c .before .before in
+    let k = d .before .before in
+    let i = k .before .before in
+    let t = i .before in
+    let a = t .before .before .before .before .args in
+    let h = a .kept .now in
+    rw (
+      octet-done (joined (a .s) h) (a .book .now) (a .out .now) (a .b) (sym (sound-joined (a .s) h) ∙ (sym (t .stands .ensures) ∙ not-false _ (i .if1 .left))) (k .before .if2 .left) (k .if3 .left),
+      octet-dropped (a .s) h (a .book .now) (a .out .now) (a .b) (sym (d .idle-drops .ensures) ∙ c .before .if4 .taken),
+    )
+    (leaves-quiet (a .s) h (a .book .now) (a .out .now) 0 (c .quiet4 .ensures))
+
+info-kept-requires : tie.Need-info-kept-requires
+info-kept-requires c κs =
+    let g = c .before .before in
+    let i = g .before .before .before .before .before .before in
+    let t = i .before in
+    let a = t .before .before .before .before .args in
+    (sym (sound-joined (a .s) (a .kept .now)) ∙ (sym (t .stands .ensures) ∙ not-false _ (i .if1 .left)), sym (g .info-goes-on .ensures) ∙ c .before .if5 .taken)
+
+returns-5 : tie.Need-returns-5
+returns-5 c =
+    let w = c .before .before in
+    let k = w .before .before .before .before .before .before .before in
+    let i = k .before .before in
+    let t = i .before in
+    let a = t .before .before .before .before .args in
+    let h = a .kept .now in
+    rw (octet-done (joined (a .s) h) (a .book .now) (a .out .now) (a .b) (sym (sound-joined (a .s) h) ∙ (sym (t .stands .ensures) ∙ not-false _ (i .if1 .left))) (k .before .if2 .left) (k .if3 .left))
+    (w .info-kept .ensures (a .book .now) (a .out .now))
+
 taken-requires : tie.Need-taken-requires
 taken-requires c κs =
-    let k = c .before .before .before in
+    let k = c .before .before .before .before .before .before .before .before in
     let i = k .before .before in
     let t = i .before in
     let a = t .before .before .before .before .args in
     (sym (sound-joined (a .s) (a .kept .now)) ∙ (sym (t .stands .ensures) ∙ not-false _ (i .if1 .left)), k .before .if2 .left, k .if3 .left)
 
-returns-4 : tie.Need-returns-4
-returns-4 c =
+returns-6 : tie.Need-returns-6
+returns-6 c =
     let w = c .before .before .before .before .before .before in
-    let k = w .before .before .before .before in
+    let k = w .before .before .before .before .before .before .before .before .before in
     let i = k .before .before in
     let t = i .before in
     let a = t .before .before .before .before .args in
@@ -64,8 +97,15 @@ octet-spec =
     returns-2
     (λ c κs. search needs)
     returns-3
+    (λ c κs. search needs)
+    (λ c κs. search needs)
+    returns-4
+    (λ c κs. search needs)
+    info-kept-requires
+    (λ c. search needs)
+    returns-5
     taken-requires
     (λ c. search needs)
     (λ c. search needs)
     (λ c. search needs)
-    returns-4)
+    returns-6)

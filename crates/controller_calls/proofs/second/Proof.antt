@@ -26,17 +26,18 @@ returns-2 c kept l =
 
 moved-on-requires : tie.Need-moved-on-requires
 moved-on-requires c κs =
-    let j = c .before .before .before .before in
+    let j = c .before .before .before .before .before .before .before .before .before in
     let t = j .before .before in
-    (j .if2 .left, sound-position (t .before .before .args .s) (sym (t .stands .ensures) ∙ not-false _ (j .before .if1 .left)))
+    (j .if2 .left, sound-position (t .before .before .args .s) (sym (t .stands .ensures) ∙ not-false _ (j .before .if1 .left)), c .cycle .ensures)
 
 returns-3 : tie.Need-returns-3
 returns-3 c kept l =
     let m = c .before .before in
-    let j = m .before .before .before .before .before in
+    let r = m .before .before .before .before .before in
+    let j = r .before .before .before .before .before in
     let t = j .before .before in
     let a = t .before .before .args in
-    rw (c .tells .ensures, m .moved-on .ensures, m .before .row-at .ensures)
+    rw (c .tells .ensures, m .moved-on .ensures, r .row-at .ensures)
     (sym (second-done (joined (a .s) kept) (a .book .now) (sym (sound-lent (a .s) kept l) ∙ (sym (t .stands .ensures) ∙ not-false _ (j .before .if1 .left))) (j .if2 .left)))
 
 pub second-spec : {M : Type 1} → statement M
@@ -48,7 +49,7 @@ second-spec =
     returns
     (λ c κs. search needs)
     returns-2
-    (λ c. search needs)
+    (λ c κs. search needs)
     (λ c κs. search needs)
     moved-on-requires
     (λ c κs. search needs)
