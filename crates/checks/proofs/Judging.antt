@@ -49,25 +49,29 @@ module _ (a m w : ℕ) {n : ℕ} (e : n ≡ pick (ltb m a) 1 (pick (leb a w) 2 0
   pub told-agrees : Tells (eqb n 0) ((a ≤ m) × (w < a))
   told-agrees = record { holds = λ h. agreed (eqb-true n 0 h); told = λ p. eq-eqb n 0 (e ∙ rw (le-ltb m a (p .0), lt-leb a w (p .1))) }
 
-module _ (rec : List ℕ) (i : ℕ) {a b c d e f g : Bool} where
-  pub told-times : Tells a (Within 5 (minimumOf rec i) 254) → Tells b (Within 5 (maximumOf rec i) 900) → Tells c (Within 3 (yellowOf rec i) 9)
+-- one part that fails is enough
+pub told-false : {t : Bool} {P Q : Type 0} → Tells t Q → t ≡ false → (P → Q) → Tells false P
+told-false q h f = record { holds = λ e. absurd (clash refl e); told = λ p. absurd (clash h (q .told (f p))) }
+
+module _ (rec : List ℕ) (i : ℕ) {a b d e f g : Bool} where
+  pub told-times : Within 3 (yellowOf rec i) 9 → Tells a (Within 5 (minimumOf rec i) 254) → Tells b (Within 5 (maximumOf rec i) 900)
       → Tells d (Within 1 (allRedOf rec i) 9) → Tells e (Within 0 (walkFlashOf rec i) 90) → Tells f (Within 0 (redManOf rec i) 9)
       → Tells g ((minimumOf rec i ≤ maximumOf rec i) × (walkFlashOf rec i + redManOf rec i < minimumOf rec i))
-      → Tells ((((((a && b) && c) && d) && e) && f) && g) (TimesFit rec i)
-  told-times pa pb pc pd pe pf pg =
+      → Tells (((((a && b) && d) && e) && f) && g) (TimesFit rec i)
+  told-times y pa pb pd pe pf pg =
       told-as
       (λ w. record {
-        minimum = w .0 .0 .0 .0 .0 .0;
-        maximum = w .0 .0 .0 .0 .0 .1;
-        yellow = w .0 .0 .0 .0 .1;
+        minimum = w .0 .0 .0 .0 .0;
+        maximum = w .0 .0 .0 .0 .1;
+        yellow = y;
         allRed = w .0 .0 .0 .1;
         walkFlash = w .0 .0 .1;
         redMan = w .0 .1;
         ordered = w .1 .0;
         walk = w .1 .1;
       })
-      (λ t. ((((((t .minimum, t .maximum), t .yellow), t .allRed), t .walkFlash), t .redMan), (t .ordered, t .walk)))
-      (told-and (told-and (told-and (told-and (told-and (told-and pa pb) pc) pd) pe) pf) pg)
+      (λ t. (((((t .minimum, t .maximum), t .allRed), t .walkFlash), t .redMan), (t .ordered, t .walk)))
+      (told-and (told-and (told-and (told-and (told-and pa pb) pd) pe) pf) pg)
 
 -- The parts
 

@@ -102,13 +102,16 @@ fn phase_stands(rec: &[u8], i: u8) -> bool
     ensures { λ r. ⌜ Tells r (TimesFit (now (rec .entry)) i) ⌝ }
 {
     let at = HEAD_LEN + TIMES_LEN * i as usize;
+    // judged apart, since four octets side by side would be judged by way of the stack
+    if !fits(layout::YELLOW, rec[at + YELLOW]) {
+        return false;
+    }
     let minimum = rec[at];
     let maximum = word(rec, at + MAXIMUM);
     let flash = rec[at + WALK_FLASH];
     let man = rec[at + RED_MAN];
     fits(layout::MINIMUM, minimum)
         & passes(layout::MAXIMUM, maximum)
-        & fits(layout::YELLOW, rec[at + YELLOW])
         & fits(layout::ALL_RED, rec[at + ALL_RED])
         & fits(layout::WALK_FLASH, flash)
         & fits(layout::RED_MAN, man)
