@@ -49,9 +49,10 @@ def more(before, events, inside=None):
 
 
 def running(order, greens):
-    """The events after which a plan has just begun to run, and its cycle; with no order it is plan 0."""
+    """The events after which a plan has just begun to run, and its cycle; with no order it is plan 0. Each kind of call was made
+    before, so that what the loader does at the first is not counted."""
     if order is None:
-        return b"", PLAN_0_CYCLE
+        return octets([IDLE]) + seconds(PLAN_0_CYCLE), PLAN_0_CYCLE
     frames = messages(set_times(3, len(greens)), set_plan(3, order, greens), ["5F", "18", "03"])
     return b"".join(map(octets, frames)) + seconds(PLAN_0_CYCLE), sum(greens) + 5 * len(greens)
 

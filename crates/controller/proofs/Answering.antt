@@ -50,7 +50,7 @@ use Rattle.controller.specs.State.{State, joined, runningSound, all, out
 use Rattle.controller.specs.Handling as handling
 use Rattle.controller.specs.Handling.{setAs, unlessUnread, runAs, queryTimesAs, queryPlanAs, queryRunningAs, handlingOf}
 use Rattle.controller.specs.Replies.{Answer, Call, answerWith, sent, refusedCall, errOf, naks, acks, forUs, isAnswer, repliesOf, CanFind, ResultAndBook, unchanged, leaves, repliedOf, messageOf, eventFor, broughtOf, madeOf, octetOf}
-use Rattle.controller.specs.Seconds.{shownWith, startedOf, secondOf, noSecond}
+use Rattle.controller.specs.Seconds.{Shown, shownWith, startedOf, secondOf, noSecond}
 use Rattle.controller.specs.Demand1.{Sound, SoundAsItIs, OctetRefused, CallRefused, InDone, OctetsAnswered, SecondRefused, ShownRefused, SecondsAnswered, IdlesAnswered, StartAnswered, StartsAnswered, RefusedLeavesBook, OutputsLeft, NumbersAsSaid, JoinedSo, CallsLeaveSo, RefusedAsCame, FewerRefused}
 use Rattle.controller.proofs.Laws.{octet-7, octet-8, octet-9, octet-brings, idle-7, idle-done, second-7, second-8, second-done}
 use Rattle.controller.proofs.Judging.{RunningParts, SoundParts, sound-parts, parts-sound}
@@ -361,7 +361,15 @@ numbers-as-said = (refl, refl, refl, refl, refl)
 -- The state by parts
 
 pub joined-so : JoinedSo
-joined-so s kept = refl
+joined-so =
+    record {
+      state = λ s kept. refl;
+      answer = λ r kept. refl;
+      start = λ w r f kept. (ap (λ (a : Answer). a .state) (f kept), ap (λ (a : Answer). a .told) (f kept));
+      second = λ s book r f kept l.
+          let e = f kept l in
+          (ap (λ (a : Shown). a .state) e, ap (λ (a : Shown). a .told) e, ap (λ (a : Shown). a .plan) e, ap (λ (a : Shown). a .row) e);
+    }
 
 pub calls-leave-so : CallsLeaveSo
 calls-leave-so w lent r k b o l =

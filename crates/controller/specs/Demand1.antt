@@ -18,10 +18,11 @@ use Rattle.plan.specs.BuiltIn.{builtIn}
 use Rattle.controller.specs.declared.Running.{Running}
 use Rattle.controller.specs.declared.Held.{Held}
 use Rattle.controller.specs.declared.HeldAnswer.{HeldAnswer}
+use Rattle.controller.specs.declared.HeldShown.{HeldShown}
 use Rattle.controller.specs.declared.Event.the-variants as event
 use Rattle.controller.specs.State.{State, joined, all, outputLen, freshOf, soundOf}
-use Rattle.controller.specs.Replies.{Answer, Call, CallLeaves, octetOf, lineIdleOf}
-use Rattle.controller.specs.Seconds.{Shown, startedOf, plainStartOf, oldStartOf, secondOf}
+use Rattle.controller.specs.Replies.{Answer, Call, CallLeaves, answerWith, octetOf, lineIdleOf}
+use Rattle.controller.specs.Seconds.{Shown, startedOf, plainStartOf, oldStartOf, StartsWith, secondOf, ShowsWith}
 
 -- Which states are sound
 
@@ -194,18 +195,26 @@ SoundKept = (s : State) → SoundKeptBy s
 
 -- The state by parts
 
--- The code's struct and the octets lent make the state: each field is the struct's, and the octets of INFO are the first 256 of those lent.
+pub record ByParts : Type 0 where
+  -- the code's struct and the octets lent make the state: each field is the struct's, and the octets of INFO are the first 256 of those lent
+  pub state : (s : Held) (kept : List ℕ) → joined s kept ≡ record {
+    own = s .own;
+    seq = s .seq;
+    requested = s .requested;
+    decoder = record { head = s .head; info = take 256 kept };
+    running = s .running;
+  }
+  pub answer : (r : HeldAnswer) (kept : List ℕ) → answerWith r kept ≡ record { state = joined (r .state) kept; told = r .told }
+  -- what the contract of a start says: whatever octets are kept, it answers what is due, and these stay
+  pub start : (w : List ℕ → Answer) (r : HeldAnswer) → StartsWith w r → (kept : List ℕ)
+      → (joined (r .state) kept ≡ w (take 256 kept) .state) × (r .told ≡ w (take 256 kept) .told)
+  -- and that of a second: whatever 256 octets or more are kept
+  pub second : (s : Held) (book : List ℕ) (r : HeldShown) → ShowsWith s book r → (kept : List ℕ) → 256 ≤ length kept
+      → (let w = secondOf (joined s kept) book in
+      (joined (r .state) kept ≡ w .state) × (r .told ≡ w .told) × (r .plan ≡ w .plan) × (r .row ≡ w .row))
+
 abbrev pub JoinedSo : Type 0
-JoinedSo =
-    (s : Held) (kept : List ℕ)
-    → joined s kept
-    ≡ record {
-      own = s .own;
-      seq = s .seq;
-      requested = s .requested;
-      decoder = record { head = s .head; info = take 256 kept };
-      running = s .running;
-    }
+JoinedSo = ByParts
 
 -- What the contract of the octet call says: it answers what is due, the event too, and leaves the octets of INFO, the book and the output
 -- that are due; of more octets than 256 lent for INFO those beyond are as they came.

@@ -41,8 +41,10 @@ fn made(start: Held, events: &[u8], kept: &mut [u8], book: &mut [u8], out: &mut 
 }
 
 fn event(s: Held, kind: u8, b: u8, kept: &mut [u8], book: &mut [u8], out: &mut [u8]) -> Held {
+    if kind == 0 {
+        return controller_calls::octet(s, kept, book, out, b).state;
+    }
     match kind {
-        0 => controller_calls::octet(s, kept, book, out, b).state,
         1 => controller_calls::second(s, book).state,
         2 | 3 | 4 => small(s, kind, kept, b),
         5 => controller_calls::octet(s, kept, book, out, b / 2).state,

@@ -60,6 +60,7 @@ unfolding octetLent idleLent
 octets-lent = (
   λ h kept. record {
     joined = refl;
+    taken = λ r. refl;
     octetShort = λ b l. rw (short h kept l);
     octetEnough = λ b l. rw (enough h kept l);
     idleShort = λ l. rw (short h kept l);

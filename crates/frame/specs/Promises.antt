@@ -19,7 +19,7 @@ use Rattle.frame.specs.declared.decoder.Found.{Found}
 use Rattle.frame.specs.declared.decoder.Found.the-variants as found
 use Rattle.frame.specs.declared.decoder.HeadTaken.{HeadTaken}
 use Rattle.frame.specs.Frame.{Frame, message, ack, nak, opener, infoLeast, infoMost, messageLen, ackLen, nakLen, lenOf, doubled, cksOf, undoubled, written}
-use Rattle.frame.specs.Decoder.{Decoder, Taken, possibleOf, freshHead, freshDecoder, idleDrops, infoGoesOn, takenOf, idledOf, joinedDecoder, octetLent, idleLent, TakenLeaves}
+use Rattle.frame.specs.Decoder.{Decoder, Taken, possibleOf, freshHead, freshDecoder, idleDrops, infoGoesOn, takenOf, idledOf, joinedDecoder, octetLent, idleLent, takenWith, TakenLeaves}
 use Rattle.frame.specs.Writer.{writeFrame}
 use Rattle.frame.specs.Run.{nothing, refused, sound, foundMeans, outcomeOf, outcomes, decoderAfter, AtRest, drops, NothingDropped}
 
@@ -184,6 +184,7 @@ CallsAnswered = (d : Decoder) → CallsOf d
 pub record CallsLent (h : Head) (kept : List ℕ) : Type 0 where
   -- the decoder has the first 256, whatever stands beyond
   pub joined : joinedDecoder h kept ≡ record { head = h; info = take 256 kept }
+  pub taken : (r : HeadTaken) → takenWith r kept ≡ record { refusal = r .refusal; decoder = record { head = r .head; info = take 256 kept }; found = r .found }
   -- "state handed in is unsound": fewer are refused 7 too
   pub octetShort : (b : ℕ) → length kept < 256 → octetLent (joinedDecoder h kept) b ≡ record { refusal = 7; decoder = joinedDecoder h kept; found = found.Nothing }
   pub octetEnough : (b : ℕ) → 256 ≤ length kept → octetLent (joinedDecoder h kept) b ≡ takenOf (joinedDecoder h kept) b

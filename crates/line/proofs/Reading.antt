@@ -14,7 +14,7 @@ use Rattle.line.specs.declared.LineFound.{LineFound}
 use Rattle.line.specs.declared.LineFound.the-variants as found
 use Rattle.line.specs.declared.Line.{Line}
 use Rattle.line.specs.Line.{letterT, letterB, tab, lineFeed, noDigit, within, hexOf, seenOf, wholeOf, lineNumbered, nextNumber, lineOctet, endIn, endOf}
-use Rattle.line.specs.Promises.{Hex, digit, capital, small, IsSecond, IsOctet, IsBad, Is, second, octet, bad, LineIsOne, NoFeed, founds, lineAfter, LineRead, linesFound, foundIn, joined, NoFeeds, lastLine, Are, none, more, InputRead}
+use Rattle.line.specs.Promises.{Hex, digit, capital, small, IsSecond, IsOctet, IsBad, Is, second, octet, bad, LineIsOne, NoFeed, founds, lineAfter, LineRead, linesFound, foundIn, withFeeds, NoFeeds, lastLine, Are, none, more, InputRead}
 use Rattle.line.proofs.Laws.{inside, above}
 
 -- Digits
@@ -214,10 +214,10 @@ last-read n (x ∷ xs) h =
     let e = end-whole n s x xs (led seen.Nothing [] (x ∷ xs) refl) in
     rw (last-found n (x ∷ xs) h, e, ended-is n (x ∷ xs) (wholeOf s n) [] i) (more i none)
 
-read-from : (n : ℕ) (ls : List (List ℕ)) (last : List ℕ) → NoFeeds ls → NoFeed last → Are n (ls ++ lastLine last) (foundIn (lineNumbered n) (joined ls ++ last))
+read-from : (n : ℕ) (ls : List (List ℕ)) (last : List ℕ) → NoFeeds ls → NoFeed last → Are n (ls ++ lastLine last) (foundIn (lineNumbered n) (withFeeds ls ++ last))
 read-from n [] last h k = last-read n last k
 read-from n (xs ∷ ls) last h k =
-    rw (append-assoc xs (lineFeed ∷ joined ls) last, line-first n xs (joined ls ++ last) (h .0))
+    rw (append-assoc xs (lineFeed ∷ withFeeds ls) last, line-first n xs (withFeeds ls ++ last) (h .0))
     (more (is-whole n xs) (read-from (nextNumber n) ls last (h .1) k))
 
 pub input-read : InputRead

@@ -85,9 +85,9 @@ unfoldable pub foundIn : Line → List ℕ → List LineFound
 foundIn l os = linesFound (founds l os ++ (endOf (lineAfter l os) ∷ []))
 
 -- lines, each with its line feed
-abbrev pub joined : List (List ℕ) → List ℕ
-joined [] = []
-joined (xs ∷ ls) = xs ++ (0x0A ∷ joined ls)
+abbrev pub withFeeds : List (List ℕ) → List ℕ
+withFeeds [] = []
+withFeeds (xs ∷ ls) = xs ++ (0x0A ∷ withFeeds ls)
 
 abbrev pub NoFeeds : List (List ℕ) → Type 0
 NoFeeds [] = Unit
@@ -105,4 +105,4 @@ pub data Are : ℕ → List (List ℕ) → List LineFound → Type 0 where
 
 -- every line is found once, in order and with its number from 1, and nothing else is found
 abbrev pub InputRead : Type 0
-InputRead = (ls : List (List ℕ)) (last : List ℕ) → NoFeeds ls → NoFeed last → Are 1 (ls ++ lastLine last) (foundIn firstLine (joined ls ++ last))
+InputRead = (ls : List (List ℕ)) (last : List ℕ) → NoFeeds ls → NoFeed last → Are 1 (ls ++ lastLine last) (foundIn firstLine (withFeeds ls ++ last))
