@@ -17,8 +17,6 @@ use Rattle.octets.specs.Part.{PartOf}
 use Rattle.octets.specs.Put.{Put}
 use Rattle.octets.specs.Refusal as refusal
 use Rattle.octets.proofs.Laws.{put-stored}
-use Rattle.frame.specs.Decoder.{Taken, idleDrops, possibleOf, takenOf}
-use Rattle.frame.proofs.Laws.{taken-dropped}
 use Rattle.message.specs.declared.Message.{Message}
 use Rattle.message.specs.declared.Read.{Read}
 use Rattle.message.specs.Names.{planAt}
@@ -36,17 +34,15 @@ use Rattle.plan.specs.Setting.{setTimesCode, setPlanCode, setTimesOf, setPlanOf
 use Rattle.plan.specs.Setting as setting
 use Rattle.plan.specs.Reporting.{reportPlanCode, reportTimesOf, reportPlanOf}
 use Rattle.plan.proofs.Laws.{same-is, length-built-in, is-either, refused-range, read-zero, refused-empty, read-set}
-use Rattle.checks.proofs.Stands.{some-long, some-state, plan-fits, ready-plan}
+use Rattle.checks.proofs.Stands.{some-long, some-state}
 use Rattle.plan.proofs.Reportable.{report-times-writable, report-plan-writable, standing-none, standing-past}
 use Rattle.plan.proofs.Cases.{built-in-stands}
 use Rattle.controller.specs.declared.Running.{Running}
 use Rattle.controller.specs.declared.Handled.{Handled}
-use Rattle.controller.specs.State.{all, runningSound, soundOf, recordWith, planRecord, startedAt}
+use Rattle.controller.specs.State.{runningSound, recordWith, planRecord, startedAt}
 use Rattle.controller.specs.Handling.{runCode, queryTimesCode, queryPlanCode, queryRunningCode, carriedOutReply, accepted, refusedWith, setAs, runAs, queryTimesAs, queryPlanAs, queryRunningAs, handlingOf}
-use Rattle.controller.specs.Replies.{refusedCall, doneOf}
 use Rattle.controller.specs.Seconds.{pickedOf}
 use Rattle.controller.proofs.Laws.{picked-ready, picked-stays}
-use Rattle.controller.proofs.Judging.{sound-parts}
 use Rattle.controller_calls.specs.Handling.{HandlingLeaves, Asks}
 use Rattle.controller_calls.specs.Stepper.{RecordOf}
 

@@ -31,7 +31,7 @@ use Rattle.controller.specs.declared.Held.{Held}
 use Rattle.controller.specs.declared.HeldAnswer.{HeldAnswer}
 use Rattle.controller.specs.State.{State, joined, outputLen}
 use Rattle.controller.specs.Handling.{Handling}
-use Rattle.controller.specs.Replies.{Answer, CallLeaves, sent, naks, acks, errOf, repliesOf, unchanged, repliedOf, handledOf, broughtOf, doneOf}
+use Rattle.controller.specs.Replies.{Answer, CallLeaves, sent, naks, acks, errOf, repliesOf, unchanged, repliedOf, handledOf, doneOf}
 use Rattle.controller.proofs.Replying.{info-fits, ack-fits, nak-fits}
 use Rattle.controller_calls.specs.declared.replies.ResultCounted.{ResultCounted}
 use Rattle.controller_calls.specs.Handling.{HandlingLeaves}

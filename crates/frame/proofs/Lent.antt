@@ -8,7 +8,6 @@ use borrow.Author.Tests.{eq-eqb, ne-eqb, lt-ltb, eqb-false, ltb-true, not-true}
 use lib.Dec.{eqb, ltb}
 use lib.ListN.{length, take, drop, set, take-append-drop, length-take}
 use lib.Seq.{length-take-le, take-set-lt, drop-set-lt}
-use Rattle.octets.specs.Choice.{both}
 use Rattle.octets.proofs.Laws.{pick-by, both-left, both-right, clash}
 use Rattle.frame.specs.declared.decoder.Head.{Head}
 use Rattle.frame.specs.declared.decoder.HeadTaken.{HeadTaken}

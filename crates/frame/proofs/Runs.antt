@@ -4,10 +4,9 @@ use mathlib.Core.Path.{_≡_, refl}
 use mathlib.Core.Bool.{false}
 use mathlib.Core.Logic.{_⊎_, inl, inr}
 use borrow.Author.Tests.{eq-eqb, ne-eqb}
-use lib.Dec.{eqb}
 use Rattle.frame.specs.declared.decoder.Place.{Place}
 use Rattle.frame.specs.declared.decoder.Place.the-variants.{Idle, LoneAa, Seq, AddrHigh, AddrLow, LenHigh, LenLow, Info, InfoAa, CloseAa, CloseCc, Err, Cks}
-use Rattle.frame.specs.Run.{outcomes, decoderAfter, AtRest, drops, NothingDropped}
+use Rattle.frame.specs.Run.{outcomes, decoderAfter, drops, NothingDropped}
 use Rattle.frame.specs.Promises.{FoundFits, DropsSo, RunsAsSaid}
 use Rattle.frame.proofs.Finding.{finds}
 

@@ -1,6 +1,6 @@
 -- What the records mean by which contracts speak: each is unfolded, and `sets` is what stands before, the octets, and what stands beyond.
-use Prim.Native.Nat.{ℕ, _+_, _≤_, _<_}
-use mathlib.Core.Path.{_≡_, sym, _∙_}
+use Prim.Native.Nat.{ℕ, _+_}
+use mathlib.Core.Path.{sym, _∙_}
 use mathlib.Core.Bool.{Bool}
 use mathlib.Core.List.{List, append-assoc}
 use native.Mathlib.Omega.{arith}

@@ -1,11 +1,11 @@
 -- Which octets are a record: the names stand at 01's numbers (`record-as-said`), so what is said by the one is said by the other.
-use Prim.Native.Nat.{ℕ, _+_, _*_, _-_, _≤_, _<_}
-use mathlib.Core.Path.{_≡_, refl, sym, ap, _∙_}
+use Prim.Native.Nat.{ℕ, _+_, _*_, _-_}
+use mathlib.Core.Path.{_≡_, refl}
 use mathlib.Core.List.{List}
 use native.Mathlib.Omega.{arith}
 use lib.ListN.{getD, drop, replicate}
-use Rattle.record.specs.Record.{recordLen, timesEnd, readyEnd, Within, TimesFit, AllTimesFit, GreensFit, Empty, TimesSet, Ready, ZeroFrom}
-use Rattle.record.specs.Promises.{EachPlace, Ranges, PhaseTimes, TimesOfAll, PlanOfAll, SetOctets, ReadyOctets, EachRecord, RecordsAsSaid}
+use Rattle.record.specs.Record.{recordLen, timesEnd, readyEnd, Within, TimesFit, AllTimesFit, GreensFit, ZeroFrom}
+use Rattle.record.specs.Promises.{EachPlace, Ranges, PhaseTimes, TimesOfAll, PlanOfAll, RecordsAsSaid}
 use Rattle.record.proofs.Places.{record-as-said}
 
 ranges : {l x y m : ℕ} → x ≡ y → Within l x m → Ranges l y m

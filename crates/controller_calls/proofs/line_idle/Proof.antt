@@ -2,7 +2,7 @@
 use mathlib.Core.Path.{sym, _∙_}
 use borrow.Author.Tests.{not-true, not-false}
 use Rattle.controller.specs.State.{joined}
-use Rattle.controller.proofs.Laws.{idle-7, idle-done}
+use Rattle.controller.proofs.Laws.{idle-7}
 use Rattle.controller_calls.proofs.Held.{sound-joined, idle-answered}
 use borrow.Author.Needs.{needs}
 use Rattle.controller_calls.proofs.line_idle.Statement.{statement}

@@ -4,7 +4,6 @@ use mathlib.Core.List.{[]}
 use Rattle.controller.specs.State.{freshOf}
 use Rattle.controller.specs.Replies.{Answer}
 use Rattle.controller.specs.Seconds.{startedOf}
-use Rattle.controller.specs.declared.Held.{Held}
 use Rattle.printout.specs.declared.run.Run.{Run}
 use Rattle.printout.specs.Run.{runStart}
 use borrow.Author.Needs.{needs}
