@@ -32,8 +32,8 @@ IDLE = re.compile(
     r"|is declared but not defined"
 )
 FOLLOWS = re.compile(r"`[^`]*` was not admitted \(")
-# in an error's further lines too: one need's answer is handed over where another's should be
-OTHER_SHAPE = re.compile(r"this has type `[^ `]*\bNeed-|this λ has \d+ binders")
+# in an error's further lines too: one need's answer is handed over where another's should be, or the line was broken before what it says
+OTHER_SHAPE = re.compile(r"this has type `[^ `]*\bNeed-|this λ has \d+ binders|\n +has no field `")
 # where an error stands, and the declaration that it names
 PLACE = re.compile(r"(?:note: )?(?P<path>\S+?):(?P<line>\d+):\d+:(?: error: `(?P<name>[^`]*)`)?")
 CONSTANT = re.compile(r"\s*(?:pub(?:\(crate\))? )?const (\w+):")
