@@ -105,7 +105,7 @@ pub fn second(s: Held, book: &[u8]) -> HeldShown
         return dark(s, refusal::BOOK_WRONG);
     }
     let u = s.running;
-    let row = lamps::row_at(&u.copy, u.position);
+    let row = lamps_calls::row_at(&u.copy, u.position);
     let running = stepper::moved_on(u, record::cycle(&u.copy), s.requested, book);
     HeldShown {
         state: Held { running, ..s },

@@ -7,7 +7,7 @@ use native.Mathlib.Numerals.{add-one}
 use native.Mathlib.Omega.{arith}
 use borrow.Author.Tests.{ltb-true}
 use lib.Dec.{eqb, ltb}
-use lib.ListN.{length, take, set, getD}
+use lib.ListN.{length, take, drop, set, getD}
 use lib.Seq.{take-suc-set}
 use Rattle.octets.specs.Refusal as refusal
 use Rattle.octets.specs.Word.{lowOf, wordOf}
@@ -39,6 +39,10 @@ one-kind Nak Message h = absurd (omega arith)
 one-kind Nak Ack h = absurd (omega arith)
 one-kind Nak Nak h = refl
 
+-- each part is the same
+part : (j : ℕ) {u v : List ℕ} → u ≡ v → getD u j 0 ≡ getD v j 0
+part j q = ap (λ (l : List ℕ). getD l j 0) q
+
 -- at CKS too the kind stands first
 first-part : (k : Kind) (h : Head) (i : List ℕ) → getD (partsAt Cks k h i) 0 0 ≡ kindOctet k
 first-part Message h i = refl
@@ -46,16 +50,15 @@ first-part Ack h i = refl
 first-part Nak h i = refl
 
 cks-kind : (k₁ k₂ : Kind) (h₁ h₂ : Head) (i₁ i₂ : List ℕ) → partsAt Cks k₁ h₁ i₁ ≡ partsAt Cks k₂ h₂ i₂ → k₁ ≡ k₂
-cks-kind k₁ k₂ h₁ h₂ i₁ i₂ q = one-kind k₁ k₂ (sym (first-part k₁ h₁ i₁) ∙ ap (λ (l : List ℕ). getD l 0 0) q ∙ first-part k₂ h₂ i₂)
+cks-kind k₁ k₂ h₁ h₂ i₁ i₂ q = one-kind k₁ k₂ (sym (first-part k₁ h₁ i₁) ∙ part 0 q ∙ first-part k₂ h₂ i₂)
 
 -- two lists of the same parts: the kind, LEN and the count of INFO are the same
 same-parts : (P : Kind → ℕ → ℕ → Bool) {k₁ k₂ : Kind} {s₁ s₂ a₁ a₂ n₁ n₂ g₁ g₂ : ℕ} {i₁ i₂ : List ℕ}
     → _≡_ {A = List ℕ} (kindOctet k₁ ∷ s₁ ∷ a₁ ∷ n₁ ∷ g₁ ∷ i₁) (kindOctet k₂ ∷ s₂ ∷ a₂ ∷ n₂ ∷ g₂ ∷ i₂) → P k₁ n₁ g₁ ≡ true → P k₂ n₂ g₂ ≡ true
 same-parts P {k₁} {k₂} {n₁ = n₁} {n₂ = n₂} {g₁ = g₁} {g₂ = g₂} q h =
-    let o : kindOctet k₁ ≡ kindOctet k₂ = cc in
-    let k = one-kind k₁ k₂ o in
-    let n : n₁ ≡ n₂ = cc in
-    let g : g₁ ≡ g₂ = cc in
+    let k = one-kind k₁ k₂ (part 0 q) in
+    let n : n₁ ≡ n₂ = part 3 q in
+    let g : g₁ ≡ g₂ = part 4 q in
     rw (← k, ← n, ← g) h
 
 module _ (e d : Decoder) where
@@ -71,24 +74,23 @@ module _ (e d : Decoder) where
   alike-at LoneAa k₁ k₂ q h = refl
   alike-at Seq k₁ k₂ q h = refl
   alike-at AddrHigh k₁ k₂ q h = refl
-  alike-at AddrLow k₁ k₂ q h = let a : h₁ .addr ≡ h₂ .addr = cc in rw (← a) h
+  alike-at AddrLow k₁ k₂ q h = let a : h₁ .addr ≡ h₂ .addr = part 2 q in rw (← a) h
   alike-at LenHigh k₁ k₂ q h = refl
-  alike-at LenLow k₁ k₂ q h = let n : h₁ .len ≡ h₂ .len = cc in rw (← n) h
+  alike-at LenLow k₁ k₂ q h = let n : h₁ .len ≡ h₂ .len = part 3 q in rw (← n) h
   alike-at Info k₁ k₂ q h = same-parts infoDue {k₁ = k₁} {k₂ = k₂} q h
   alike-at InfoAa k₁ k₂ q h = same-parts infoDue {k₁ = k₁} {k₂ = k₂} q h
   alike-at CloseAa k₁ k₂ q h = same-parts infoWhole {k₁ = k₁} {k₂ = k₂} q h
   alike-at CloseCc k₁ k₂ q h = same-parts infoWhole {k₁ = k₁} {k₂ = k₂} q h
   alike-at Err k₁ k₂ q h =
-      let o : kindOctet k₁ ≡ kindOctet k₂ = cc in
-      let k = one-kind k₁ k₂ o in
-      let n : h₁ .len ≡ h₂ .len = cc in
+      let k = one-kind k₁ k₂ (part 0 q) in
+      let n : h₁ .len ≡ h₂ .len = part 3 q in
       rw (← k, ← n) h
   alike-at Cks k₁ k₂ q h = cks-at k₂ (rw (cks-kind k₁ k₂ h₁ h₂ (e .info) (d .info) q) at q) (rw (cks-kind k₁ k₂ h₁ h₂ (e .info) (d .info) q) at h)
     where
       cks-at : (k : Kind) → partsAt Cks k h₁ (e .info) ≡ partsAt Cks k h₂ (d .info) → cksDue k (h₁ .len) (h₁ .filled) ≡ true → cksDue k (h₂ .len) (h₂ .filled) ≡ true
       cks-at Message q h = same-parts infoWhole {k₁ = Message} {k₂ = Message} q h
-      cks-at Ack q h = let n : h₁ .len ≡ h₂ .len = cc in rw (← n) h
-      cks-at Nak q h = let n : h₁ .len ≡ h₂ .len = cc in rw (← n) h
+      cks-at Ack q h = let n : h₁ .len ≡ h₂ .len = part 3 q in rw (← n) h
+      cks-at Nak q h = let n : h₁ .len ≡ h₂ .len = part 3 q in rw (← n) h
 
   pub alike : h₁ .place ≡ h₂ .place → partsOf e ≡ partsOf d → possibleOf h₁ ≡ true → possibleOf h₂ ≡ true
   unfolding possibleOf
@@ -187,13 +189,12 @@ module _ (b e₁ e₂ : ℕ) (l₁ l₂ : List ℕ) where
       → _≡_ {A = List ℕ} (kindOctet k₁ ∷ s₁ ∷ a₁ ∷ n₁ ∷ g₁ ∷ take g₁ l₁) (kindOctet k₂ ∷ s₂ ∷ a₂ ∷ n₂ ∷ g₂ ∷ take g₂ l₂)
       → (take g₁ l₁ ≡ take g₁ l₂ → Goes p Message Message s₁ s₁ a₁ a₁ n₁ n₁ g₁ g₁) → Goes p k₁ k₂ s₁ s₂ a₁ a₂ n₁ n₂ g₁ g₂
   to-same p k₁ k₂ s₁ s₂ a₁ a₂ n₁ n₂ g₁ g₂ m q w =
-      let o : kindOctet k₁ ≡ kindOctet k₂ = cc in
-      let m₂ : k₂ ≡ Message = sym (one-kind k₁ k₂ o) ∙ m in
-      let s : s₁ ≡ s₂ = cc in
-      let a : a₁ ≡ a₂ = cc in
-      let n : n₁ ≡ n₂ = cc in
-      let g : g₁ ≡ g₂ = cc in
-      let i : take g₁ l₁ ≡ take g₁ l₂ = cc in
+      let m₂ : k₂ ≡ Message = sym (one-kind k₁ k₂ (part 0 q)) ∙ m in
+      let s : s₁ ≡ s₂ = part 1 q in
+      let a : a₁ ≡ a₂ = part 2 q in
+      let n : n₁ ≡ n₂ = part 3 q in
+      let g : g₁ ≡ g₂ = part 4 q in
+      let i : take g₁ l₁ ≡ take g₁ l₂ = ap (drop 5) q ∙ rw (← g) in
       rw (m, m₂, ← s, ← a, ← n, ← g) (w i)
 
 nak-same : (b e : ℕ) (l₁ l₂ : List ℕ) (s a n g₁ g₂ : ℕ) → Goes b e e l₁ l₂ Cks Nak Nak s s a a n n g₁ g₂
@@ -214,22 +215,22 @@ module _ (b s₁ s₂ e₁ e₂ a₁ a₂ n₁ n₂ g₁ g₂ : ℕ) (l₁ l₂ 
   err-same : (k₁ k₂ : Kind) → Parts Err k₁ k₂ → errDue k₁ n₁ ≡ true → Goes b e₁ e₂ l₁ l₂ Err k₁ k₂ s₁ s₂ a₁ a₂ n₁ n₂ g₁ g₂
   err-same Message k₂ q h = absurd (clash refl h)
   err-same Ack k₂ q h = absurd (clash refl h)
-  err-same Nak Message q h = let z : _≡_ {A = ℕ} 0xEE 0xBB = cc in absurd (omega arith)
-  err-same Nak Ack q h = let z : _≡_ {A = ℕ} 0xEE 0xDD = cc in absurd (omega arith)
+  err-same Nak Message q h = absurd (omega (arith, part 0 q))
+  err-same Nak Ack q h = absurd (omega (arith, part 0 q))
   err-same Nak Nak q h = record { outcome = refl; place = refl; parts = cc }
 
   cks-at : (k : Kind) → Parts Cks k k → cksDue k n₁ g₁ ≡ true → Goes b e₁ e₂ l₁ l₂ Cks k k s₁ s₂ a₁ a₂ n₁ n₂ g₁ g₂
   cks-at Message q h = to-same b e₁ e₂ l₁ l₂ Cks Message Message s₁ s₂ a₁ a₂ n₁ n₂ g₁ g₂ refl q (cks-same b e₁ e₂ l₁ l₂ s₁ a₁ n₁ g₁ long₁ long₂)
   cks-at Ack q h =
-      let s : s₁ ≡ s₂ = cc in
-      let a : a₁ ≡ a₂ = cc in
-      let n : n₁ ≡ n₂ = cc in
+      let s : s₁ ≡ s₂ = part 1 q in
+      let a : a₁ ≡ a₂ = part 2 q in
+      let n : n₁ ≡ n₂ = part 3 q in
       rw (← s, ← a, ← n) (ack-same b e₁ e₂ l₁ l₂ s₁ a₁ n₁ g₁ g₂)
   cks-at Nak q h =
-      let s : s₁ ≡ s₂ = cc in
-      let a : a₁ ≡ a₂ = cc in
-      let n : n₁ ≡ n₂ = cc in
-      let e : e₁ ≡ e₂ = cc in
+      let s : s₁ ≡ s₂ = part 1 q in
+      let a : a₁ ≡ a₂ = part 2 q in
+      let n : n₁ ≡ n₂ = part 3 q in
+      let e : e₁ ≡ e₂ = part 4 q in
       rw (← s, ← a, ← n, ← e) (nak-same b e₁ l₁ l₂ s₁ a₁ n₁ g₁ g₂)
 
   due-kind : (k : Kind) → infoDue k n₁ g₁ ≡ true → k ≡ Message
@@ -248,11 +249,10 @@ module _ (b s₁ s₂ e₁ e₂ a₁ a₂ n₁ n₂ g₁ g₂ : ℕ) (l₁ l₂ 
   same-at AddrLow k₁ k₂ q h = record { outcome = refl; place = refl; parts = cc }
   same-at LenHigh k₁ k₂ q h = record { outcome = refl; place = refl; parts = cc }
   same-at LenLow k₁ k₂ q h =
-      let o : kindOctet k₁ ≡ kindOctet k₂ = cc in
-      let k = one-kind k₁ k₂ o in
-      let s : s₁ ≡ s₂ = cc in
-      let a : a₁ ≡ a₂ = cc in
-      let n : n₁ ≡ n₂ = cc in
+      let k = one-kind k₁ k₂ (part 0 q) in
+      let s : s₁ ≡ s₂ = part 1 q in
+      let a : a₁ ≡ a₂ = part 2 q in
+      let n : n₁ ≡ n₂ = part 3 q in
       rw (← k, ← s, ← a, ← n) (len-same b e₁ e₂ l₁ l₂ k₁ s₁ a₁ n₁ g₁ g₂)
   same-at Info k₁ k₂ q h =
       let m = due-kind k₁ h in

@@ -1,4 +1,3 @@
 pub mod Laws
 pub mod Second
 pub mod Cycle
-pub mod Only

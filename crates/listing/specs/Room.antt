@@ -3,7 +3,7 @@ use Prim.Native.Nat.{ℕ, _≤_}
 use mathlib.Core.Path.{_≡_}
 use mathlib.Core.List.{List}
 use lib.ListN.{length}
-use Rattle.printout.specs.declared.run.Run.{Run}
+use Rattle.printout.specs.declared.Run.{Run}
 
 abbrev pub textLen : ℕ
 textLen = 8192

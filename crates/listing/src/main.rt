@@ -18,10 +18,10 @@ use libc::STDOUT_FILENO;
 use line::Line;
 use line::LineFound;
 use plan::Which;
-use printout::run;
-use printout::run::Asked;
-use printout::run::Run;
-use printout::run::WORD_LEN;
+use printout::Asked;
+use printout::Run;
+use printout_calls::run;
+use printout_calls::run::WORD_LEN;
 use record::BOOK_LEN;
 
 // The octets of one read at most.
@@ -77,7 +77,7 @@ fn list(which: Which) {
     let mut book = [0u8; BOOK_LEN];
     let mut out = [0u8; OUTPUT_LEN];
     let mut text = [0u8; TEXT_LEN];
-    let used = printout::put_header(&mut text, 0);
+    let used = printout_calls::put_header(&mut text, 0);
     let start = Reading {
         line: line::line_start(),
         printing: Printing {

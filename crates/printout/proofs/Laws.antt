@@ -17,7 +17,7 @@ use Rattle.controller.specs.declared.HeldAnswer.{HeldAnswer}
 use Rattle.controller.specs.State.{State, joined, outputLen}
 use Rattle.controller.specs.Replies.{Answer, CallLeaves, octetOf}
 use Rattle.controller.proofs.Answering.{outputs-left}
-use Rattle.printout.specs.declared.run.Run.{Run}
+use Rattle.printout.specs.declared.Run.{Run}
 use Rattle.printout.specs.Listing.{wordText, replyLine}
 use Rattle.printout.specs.Run.{textMost, Said, Listed, secondSaid, BadWith, octetMade, lineMade}
 

@@ -1,4 +1,3 @@
 pub mod Laws
 pub mod Promised
 pub mod Puts
-pub mod Only

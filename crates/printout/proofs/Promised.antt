@@ -42,7 +42,7 @@ use Rattle.text.proofs.Means.{hex-means}
 use Rattle.line.specs.Line as line
 use Rattle.line.specs.Promises.{founds, lineAfter, foundIn}
 use Rattle.printout.specs.Listing.{header, field, wordText, numbers, secondLine, replyLine, badLine}
-use Rattle.printout.specs.declared.run.Asked.the-variants.{Start, Unknown}
+use Rattle.printout.specs.declared.Asked.the-variants.{Start, Unknown}
 use Rattle.printout.specs.Run.{isOld, startAsked, runStart, secondSaid, badSaid, octetMade, lineMade, listingFrom, listingOf}
 use Rattle.printout.specs.Promises.{WordWhole, WordsWhole, SecondPrinted, ReplyPrinted, none, some, LinesPrint, StartsAsked, ListingBegins, TwoSeconds, ReplyAndBad}
 

@@ -17,7 +17,7 @@ use Rattle.controller.specs.State.{State, joined, freshOf}
 use Rattle.controller.specs.Replies.{octetOf}
 use Rattle.controller.specs.Seconds.{secondOf}
 use Rattle.printout.specs.Listing.{wordText}
-use Rattle.printout.specs.declared.run.Asked.the-variants.{Start, Unknown}
+use Rattle.printout.specs.declared.Asked.the-variants.{Start, Unknown}
 use Rattle.printout.specs.Run.{Making, startAsked, runStart, lineMade, listingFrom, listingOf}
 
 -- The lamp words

@@ -7,7 +7,7 @@ use Rattle.octets.specs.Promises.{PutSo}
 use Rattle.text.specs.Text.{ascii, decimal}
 use Rattle.lamps.specs.declared.Row.{Row}
 use Rattle.controller.specs.State.{joined}
-use Rattle.printout.specs.declared.run.Run.{Run}
+use Rattle.printout.specs.declared.Run.{Run}
 use Rattle.printout.specs.Listing.{lineMost, header, secondLine, replyLine, badLine}
 use Rattle.printout.specs.Run.{textMost, Making, Listed}
 use Rattle.printout.specs.Promises.{SecondPrinted, ReplyPrinted}

@@ -20,9 +20,9 @@ use Rattle.line.specs.declared.LineFound.{LineFound}
 use Rattle.line.specs.declared.LineFound.the-variants as found
 use Rattle.line.specs.Line.{firstLine}
 use Rattle.line.specs.Promises.{foundIn}
-use Rattle.printout.specs.declared.run.Run.{Run}
-use Rattle.printout.specs.declared.run.Asked.{Asked}
-use Rattle.printout.specs.declared.run.Asked.the-variants.{Start, Unknown}
+use Rattle.printout.specs.declared.Run.{Run}
+use Rattle.printout.specs.declared.Asked.{Asked}
+use Rattle.printout.specs.declared.Asked.the-variants.{Start, Unknown}
 use Rattle.printout.specs.Listing.{header, secondLine, replyLine, badLine}
 
 -- "starts fresh at address 0001"

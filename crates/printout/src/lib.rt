@@ -1,111 +1,19 @@
-// 01, "Cases": what the listing program prints, put as text into an output from `at` on. Each function gives the place after
-// its text; where the text does not fit, nothing is stored and the place is `at`.
-pub mod run;
+// 01, "Cases": the listing: what it prints and what each line of its input does. There is nothing to run: the texts and the calls are
+// defined in specs/, and what 01 asks of them is proved in proofs/. The functions that are proved to do so are the crate
+// `printout_calls`.
+use controller::Held;
+use plan::Which;
 
-ghost use mathlib.Core.Path.{_≡_};
-ghost use Prim.Native.Nat.{_+_, _≤_, _<_};
-ghost use mathlib.Core.List.{[], _∷_, _++_};
-ghost use lib.ListN.{length};
-ghost use Rattle.octets.specs.Put.{Put, Stored};
-ghost use Rattle.printout.specs.Listing.{lineMost, fieldMost, wordMost, header, field, numbers, wordText, secondLine, replyLine, badLine};
-use lamps::Row;
-
-// The longest line of a second: four numbers of 20 digits and a tab, two words of sixteen digits and what follows each.
-const LINE_MOST: usize = 118;
-
-// "It prints a header".
-pub fn put_header(out: &mut [u8], at: usize) -> usize
-    ensures { λ r. ⌜ Put header at (now (out .entry)) r (now (out .exit)) ⌝ }
-{
-    octets::put(b"second\tplan\tstep\tleft\tsteady\tflashing\n", out, at)
+// The controller's state but for the octets of INFO, the "seconds so far", and how much of the text is filled. The line under way is
+// no part of it, so that an octet within a line moves none of this.
+pub struct Run {
+    pub state: Held,
+    pub seconds: u64,
+    pub used: usize,
 }
 
-// "for each T one line (seconds so far, plan, step, left, steady and flashing ..)".
-pub fn put_second(n: u64, plan: u8, row: Row, out: &mut [u8], at: usize) -> usize
-    ensures { λ r. ⌜ Put (secondLine n plan row) at (now (out .entry)) r (now (out .exit)) × (length (secondLine n plan row) ≤ lineMost) ⌝ }
-{
-    let mut line = [0u8; LINE_MOST];
-    let end = store_second(n, plan, row, &mut line);
-    octets::put(&line[..end], out, at)
-}
-
-// "for each call that wrote a reply `reply`, tab, octets in hex with spaces": a call that wrote none has no line.
-pub fn put_reply(s: &[u8], out: &mut [u8], at: usize) -> usize
-    ensures { λ r. ⌜ Put (replyLine (now (s .entry))) at (now (out .entry)) r (now (out .exit)) ⌝ }
-{
-    if s.len() == 0 {
-        return at;
-    }
-    if out.len() < at {
-        return at;
-    }
-    // Three places for each octet, the last of them the line feed, and six for the word and its tab.
-    if (out.len() - at) / 3 < s.len() + 2 {
-        return at;
-    }
-    store_reply(s, out, at)
-}
-
-// "for a bad line `bad`, tab, its number from 1".
-pub fn put_bad(n: u64, out: &mut [u8], at: usize) -> usize
-    ensures { λ r. ⌜ Put (badLine n) at (now (out .entry)) r (now (out .exit)) × (length (badLine n) ≤ lineMost) ⌝ }
-{
-    let mut line = [0u8; LINE_MOST];
-    let end = store_bad(n, &mut line);
-    octets::put(&line[..end], out, at)
-}
-
-fn store_second(n: u64, plan: u8, row: Row, line: &mut [u8]) -> usize
-    requires { ⌜ length (now line) ≡ lineMost ⌝ }
-    ensures { λ r. ⌜ Stored (secondLine n plan row) 0 (now (line .entry)) r (now (line .exit)) ⌝ }
-{
-    let p = store_numbers(n, plan, row, &mut *line);
-    let q = store_word(row.steady, b'\t', &mut *line, p);
-    store_word(row.flashing, b'\n', line, q)
-}
-
-fn store_numbers(n: u64, plan: u8, row: Row, line: &mut [u8]) -> usize
-    requires { ⌜ length (now line) ≡ lineMost ⌝ }
-    ensures { λ r. ⌜ Stored (numbers n plan row) 0 (now (line .entry)) r (now (line .exit)) × (r ≤ 84) ⌝ }
-{
-    let p = store_field(n, &mut *line, 0);
-    let q = store_field(plan as u64, &mut *line, p);
-    let t = store_field(row.step as u64, &mut *line, q);
-    store_field(row.left as u64, line, t)
-}
-
-// A number and the tab after it.
-fn store_field(n: u64, line: &mut [u8], at: usize) -> usize
-    requires { ⌜ at + fieldMost ≤ length (now line) ⌝ }
-    ensures { λ r. ⌜ Stored (field n) at (now (line .entry)) r (now (line .exit)) × (r ≤ at + fieldMost) ⌝ }
-{
-    let p = text::put_decimal(n, &mut *line, at);
-    octets::put(b"\t", line, p)
-}
-
-// 02, E2: "The listing prints sixteen digits a word": a lamp word and what follows it.
-fn store_word(x: u64, mark: u8, line: &mut [u8], at: usize) -> usize
-    requires { ⌜ at + wordMost ≤ length (now line) ⌝ }
-    ensures { λ r. ⌜ Stored (wordText x ++ mark ∷ []) at (now (line .entry)) r (now (line .exit)) × (r ≤ at + wordMost) ⌝ }
-{
-    let p = text::put_hex16(x, &mut *line, at);
-    octets::put(&[mark], line, p)
-}
-
-fn store_reply(s: &[u8], out: &mut [u8], at: usize) -> usize
-    requires { ⌜ (0 < length (now s)) × (at + length (replyLine (now s)) ≤ length (now out)) ⌝ }
-    ensures { λ r. ⌜ Stored (replyLine (now (s .entry))) at (now (out .entry)) r (now (out .exit)) ⌝ }
-{
-    let p = octets::put(b"reply\t", &mut *out, at);
-    let q = text::put_octets(s, &mut *out, p);
-    octets::put(b"\n", out, q)
-}
-
-fn store_bad(n: u64, line: &mut [u8]) -> usize
-    requires { ⌜ length (now line) ≡ lineMost ⌝ }
-    ensures { λ r. ⌜ Stored (badLine n) 0 (now (line .entry)) r (now (line .exit)) ⌝ }
-{
-    let p = octets::put(b"bad\t", &mut *line, 0);
-    let q = text::put_decimal(n, &mut *line, p);
-    octets::put(b"\n", line, q)
+// The start that the program's words ask for, or words that it does not know.
+pub enum Asked {
+    Start(Which),
+    Unknown,
 }

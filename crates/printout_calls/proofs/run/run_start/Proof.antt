@@ -1,0 +1,28 @@
+-- `printout_calls::run::run_start` meets its contract: the controller starts fresh, whatever octets are kept.
+use mathlib.Core.Path.{ap}
+use mathlib.Core.List.{[]}
+use Rattle.controller.specs.State.{freshOf}
+use Rattle.controller.specs.Replies.{Answer}
+use Rattle.controller.specs.Seconds.{startedOf}
+use Rattle.printout.specs.declared.Run.{Run}
+use Rattle.printout.specs.Run.{runStart}
+use borrow.Author.Needs.{needs}
+use Rattle.printout_calls.proofs.run.run_start.Statement.{statement}
+use Rattle.printout_calls.proofs.run.run_start.Tie as tie
+
+-- the run with the struct of this answer
+abbrev runOf : Answer → Run
+runOf a =
+    let s = a .state in
+    record { state = record { own = s .own; seq = s .seq; requested = s .requested; head = s .decoder .head; running = s .running }; seconds = 0; used = 0 }
+
+returns : tie.Need-returns
+unfolding runStart startedOf freshOf
+returns c = ap runOf (c .before .started .ensures [])
+
+pub run-start-spec : {M : Type 1} → statement M
+run-start-spec =
+    tie.close
+    (tie.spec
+    (λ c κs. search needs)
+    returns)
