@@ -13,7 +13,7 @@ use lib.ListN.{length, take, drop, take-append-drop}
 use lib.Seq.{sets, sets-eq, length-sets, take-at, drop-at}
 use Rattle.octets.specs.Choice.{pick, both}
 use Rattle.octets.specs.Refusal as refusal
-use Rattle.octets.proofs.Laws.{pick-by}
+use Rattle.octets.proofs.Laws.{parted, pick-by}
 use Rattle.frame.specs.declared.Kind.{Kind}
 use Rattle.frame.specs.declared.Kind.the-variants.{Message, Ack, Nak}
 use Rattle.frame.specs.declared.decoder.Found.{Found}
@@ -22,7 +22,6 @@ use Rattle.frame.specs.Frame.{Frame, infoMost}
 use Rattle.frame.specs.Decoder.{freshHead, possibleOf, takenOf}
 use Rattle.frame.specs.Run.{foundMeans, outcomeOf}
 use Rattle.frame.proofs.Laws.{idled-done}
-use Rattle.frame.proofs.Lent.{parted}
 use Rattle.frame.proofs.Lent as lent
 use Rattle.message.specs.declared.Read.{Read}
 use Rattle.message.specs.Reader as reader

@@ -8,7 +8,8 @@ use borrow.Author.Tests.{eq-eqb, ne-eqb, lt-ltb, eqb-false, ltb-true, not-true}
 use lib.Dec.{eqb, ltb}
 use lib.ListN.{length, take, drop, set, take-append-drop, length-take}
 use lib.Seq.{length-take-le, take-set-lt, drop-set-lt}
-use Rattle.octets.proofs.Laws.{pick-by, both-left, both-right, clash}
+use Rattle.octets.specs.Choice.{both}
+use Rattle.octets.proofs.Laws.{pick-by, both-left, both-right, clash, parted}
 use Rattle.frame.specs.declared.decoder.Head.{Head}
 use Rattle.frame.specs.declared.decoder.HeadTaken.{HeadTaken}
 use Rattle.frame.specs.Frame.{infoMost, messageLen}
@@ -24,10 +25,6 @@ use Rattle.frame.proofs.Writing.{step-long}
 
 abbrev isInfo : Place → Bool
 isInfo p = infoGoesOn p 12 0 0
-
--- a list is its first n and those beyond
-pub parted : (n : ℕ) (k l : List ℕ) → take n k ≡ take n l → drop n k ≡ drop n l → k ≡ l
-parted n k l e d = sym (take-append-drop n k) ∙ (λ i. e i ++ d i) ∙ take-append-drop n l
 
 pub taken-one-to-one : (r s : HeadTaken) (k l : List ℕ) → takenWith r k ≡ takenWith s l → drop infoMost k ≡ drop infoMost l → (r ≡ s) × (k ≡ l)
 taken-one-to-one r s k l e d =
@@ -124,12 +121,13 @@ info-goes-on d b =
 
     by : (p : Place) (k : Kind) (s e a n g : ℕ) (i : List ℕ) → GoesOn (record { head = headOf p k s e a n g; info = i }) b
     by Info k s e a n g i =
+        let more : Bool = ltb (messageLen + (g + 1)) n in
+        let no-aa : both (not (eqb b 0xAA)) more ≡ true → eqb b 0xAA ≡ false = λ t. not-true (eqb b 0xAA) (both-left (not (eqb b 0xAA)) more t) in
+        let follow : both (not (eqb b 0xAA)) more ≡ true → more ≡ true = both-right (not (eqb b 0xAA)) more in
         record {
           said = λ _ m l. rw (ne-eqb b 0xAA m, lt-ltb (messageLen + (g + 1)) n l);
-          saidOnly = λ t. (refl, eqb-false b 0xAA (not-true (eqb b 0xAA) (both-left (not (eqb b 0xAA)) (ltb (messageLen + (g + 1)) n) t)), ltb-true (messageLen + (g + 1)) n (both-right (not (eqb b 0xAA)) (ltb (messageLen + (g + 1)) n) t));
-          kept = λ p t.
-              taken-done (record { head = headOf Info k s e a n g; info = i }) b p
-              ∙ rw (not-true (eqb b 0xAA) (both-left (not (eqb b 0xAA)) (ltb (messageLen + (g + 1)) n) t), both-right (not (eqb b 0xAA)) (ltb (messageLen + (g + 1)) n) t);
+          saidOnly = λ t. (refl, eqb-false b 0xAA (no-aa t), ltb-true (messageLen + (g + 1)) n (follow t));
+          kept = λ p t. taken-done (record { head = headOf Info k s e a n g; info = i }) b p ∙ rw (no-aa t, follow t);
         }
     by Idle k s e a n g i = nowhere (λ q. absurd (clash refl (ap isInfo q))) refl
     by LoneAa k s e a n g i = nowhere (λ q. absurd (clash refl (ap isInfo q))) refl

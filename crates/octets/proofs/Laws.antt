@@ -10,7 +10,7 @@ use native.Mathlib.Omega.{arith}
 use borrow.Author.Tests.{le-leb, lt-leb}
 use lib.Bits.{xor-self, xor-lt}
 use lib.Dec.{T, leb}
-use lib.ListN.{length, set, take, drop, getD, replicate, length-append, length-drop, drop-of-length-le}
+use lib.ListN.{length, set, take, drop, getD, replicate, length-append, length-drop, take-append-drop, drop-of-length-le}
 use lib.Seq.{sets, drop-cons, drop-length, getD-append-add, length-sets, take-all}
 use Rattle.octets.specs.Choice.{pick, both}
 use Rattle.octets.specs.Octet.{Octets}
@@ -20,6 +20,12 @@ use Rattle.octets.specs.Put.{Stored, Put}
 use Rattle.octets.specs.Refusal.{outputShort}
 use Rattle.octets.specs.Writing.{WriterLeaves, nothingWritten, writtenAs}
 use Rattle.octets.specs.First.{First}
+
+-- Lists
+
+-- a list is its first n and those beyond
+pub parted : (n : ℕ) (k l : List ℕ) → take n k ≡ take n l → drop n k ≡ drop n l → k ≡ l
+parted n k l e d = sym (take-append-drop n k) ∙ (λ i. e i ++ d i) ∙ take-append-drop n l
 
 -- Choice
 
