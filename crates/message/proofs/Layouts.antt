@@ -1,16 +1,14 @@
 -- The rows of a layout, and how the code's table keeps them.
 use Prim.Native.Nat.{ℕ, zero, suc, _+_, _*_, _≤_, _<_}
 use mathlib.Core.Path.{_≡_, refl, sym, ap, _∙_}
-use mathlib.Core.Bool.{Bool, true}
+use mathlib.Core.Bool.{Bool}
 use mathlib.Core.List.{List}
 use native.Mathlib.Nat.{mul-le-mul-right, zero-mul, suc-mul}
 use native.Mathlib.Omega.{arith}
-use borrow.Author.Tests.{leb-true}
 use lib.Dec.{leb}
 use lib.ListN.{length, getD, drop, length-append, length-drop, List·getD-eq-default}
 use lib.Seq.{getD-take, getD-drop, length-take-le}
 use Rattle.octets.specs.Choice.{both}
-use Rattle.octets.proofs.Laws.{both-left, both-right}
 use Rattle.octets.proofs.Every.{every, every-at}
 use Rattle.message.specs.declared.layout.Field.{Field}
 use Rattle.message.specs.declared.layout.LayoutLine.{LayoutLine}
@@ -19,6 +17,7 @@ use Rattle.message.specs.Layouts as specified
 use Rattle.message.specs.Layouts.{layouts, layoutAt, noLayout, mostAt, layoutRows, rowsAt, kFits, repeated}
 use Rattle.message.specs.Values.{fieldsMost, sizeOf}
 use Rattle.message.specs.Table.{table, tableLen, cut, keptBy, Kept}
+use Rattle.message.proofs.Ranges.{both-le}
 use Rattle.message.proofs.Values.{size-append, size-repeated, size-most}
 
 pub length-repeated : (k : ℕ) (g : List Field) → length (repeated k g) ≡ k * length g
@@ -80,12 +79,12 @@ module _ {l : ℕ} {y : LayoutLine} (h : Kept l y) (k : ℕ) where
 
 -- What holds of every layout
 
-abbrev pub fitting : specified.Layout → Bool
+abbrev fitting : specified.Layout → Bool
 fitting y = both (leb (length (y .head) + y .most * length (y .group) + length (y .tail)) fieldsMost) (leb (y .count) (length (y .head)))
 
-fitting-at : (l : ℕ) → fitting (layoutAt l) ≡ true
+pub fitting-at : (l : ℕ) → (let y = layoutAt l in (length (y .head) + y .most * length (y .group) + length (y .tail) ≤ fieldsMost) × (y .count ≤ length (y .head)))
 unfolding layouts layoutAt every
-fitting-at l = every-at fitting layouts l noLayout refl (λ _. refl)
+fitting-at l = both-le _ _ _ _ (every-at fitting layouts l noLayout refl (λ _. refl))
 
 pub rows-length : (y : specified.Layout) (k : ℕ) → length (layoutRows y k) ≡ length (y .head) + k * length (y .group) + length (y .tail)
 unfolding layoutRows
@@ -93,17 +92,7 @@ rows-length y k = simp (length-append, length-repeated) (omega arith)
 
 pub rows-most : (l k : ℕ) → k ≤ mostAt l → length (rowsAt l k) ≤ fieldsMost
 unfolding rowsAt
-rows-most l k h =
-    let y = layoutAt l in
-    let n = length (y .head) + y .most * length (y .group) + length (y .tail) in
-    let t : n ≤ fieldsMost = leb-true n fieldsMost (both-left (leb n fieldsMost) (leb (y .count) (length (y .head))) (fitting-at l)) in
-    omega (arith, rows-length y k, mul-le-mul-right (length (y .group)) h)
+rows-most l k h = omega (arith, fitting-at l .0, rows-length (layoutAt l) k, mul-le-mul-right (length (layoutAt l .group)) h)
 
 pub rows-size : (l k : ℕ) → k ≤ mostAt l → sizeOf (rowsAt l k) ≤ 2 * fieldsMost
 rows-size l k h = omega (arith, size-most (rowsAt l k), rows-most l k h)
-
-pub count-head : (l : ℕ) → layoutAt l .count ≤ length (layoutAt l .head)
-count-head l =
-    let y = layoutAt l in
-    let n = length (y .head) + y .most * length (y .group) + length (y .tail) in
-    leb-true (y .count) (length (y .head)) (both-right (leb n fieldsMost) (leb (y .count) (length (y .head))) (fitting-at l))

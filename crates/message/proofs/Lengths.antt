@@ -1,24 +1,27 @@
 -- Which lengths are refused 11, code by code: a code's layout, its count and its size are computed, and the reader's law does the rest.
-use Prim.Native.Nat.{ℕ, zero, suc, _+_, _*_, _≤_, _<_}
+use Prim.Native.Nat.{ℕ, zero, suc, _+_, _*_, _<_}
 use mathlib.Core.Path.{_≡_, refl, sym, ap, _∙_}
 use mathlib.Core.List.{List, [], _∷_}
 use native.Mathlib.Omega.{arith}
-use lib.ListN.{length, getD, drop}
-use lib.Seq.{drop-drop, getD-drop}
+use lib.ListN.{length}
 use Rattle.octets.specs.First.{firstOf}
 use Rattle.octets.specs.Octet.{Octets}
 use Rattle.message.specs.declared.Read.{Read}
-use Rattle.message.specs.Layouts.{layouts, layoutAt, numberOf, rowsAt, layoutRows}
+use Rattle.message.specs.Layouts.{layouts, layoutAt, known, numberOf, rowsAt, layoutRows}
 use Rattle.message.specs.Values.{sizeOf, valuesOf}
 use Rattle.message.specs.Reader.{kIn, partOf, readOf}
+use Rattle.message.specs.Counts.{CountAt, NoCount}
 use Rattle.message.specs.Promises.{fieldsOf, refusedReading, messageRead, HasLayout, RightLength, RightAt, unknown, wrongLength, outOfRange, accepted, Judged, short, body, LengthOf, CountFixes, LengthsAsSaid, AnswersTakeAny}
-use Rattle.message.proofs.Values.{value-one}
 use Rattle.message.proofs.Numbers.{field-numbers}
-use Rattle.message.proofs.ReadSo.{read-so}
+use Rattle.message.proofs.Counts.{counts-as-said}
+use Rattle.message.proofs.ReadSo.{known-in, read-so}
 
 module _ (high low : ℕ) where
+  abbrev c : ℕ
+  c = high * 256 + low
+
   abbrev l : ℕ
-  l = numberOf (high * 256 + low)
+  l = numberOf c
 
   abbrev k : List ℕ → ℕ
   k os = kIn (layoutAt l) os
@@ -44,44 +47,34 @@ module _ (high low : ℕ) where
     read-right os r a = ap (λ (r : Read). r .refusal) (sym (read-so (high ∷ low ∷ os) (messageRead (partOf l (k os) os)) .0 (body (omega arith) (accepted kn r a))))
 
     -- no field is repeated, so k is 0
-    plain : (n : ℕ) → layoutAt l .fewest ≡ 0 → layoutAt l .most ≡ 0 → ((os : List ℕ) → k os ≡ 0) → sizeOf (rowsAt l 0) ≡ n → LengthOf high low (λ os. length os ≡ n)
-    plain n a b ek es =
-        length-of (λ os e. record { fewest = omega (arith, a); most = omega (arith, ek os); octets = rw (ek os) (e ∙ sym es) })
-        (λ os r. rw (ek os) at (r .octets) ∙ es)
+    plain : {n : ℕ} → NoCount c → sizeOf (rowsAt l 0) ≡ n → LengthOf high low (λ os. length os ≡ n)
+    plain w es =
+        length-of (λ os e. record { fewest = omega (arith, w .fewest); most = omega (arith, w .octets os); octets = rw (w .octets os) (e ∙ sym es) })
+        (λ os r. rw (w .octets os) at (r .octets) ∙ es)
 
-    counted : (place once each : ℕ) → layoutAt l .fewest ≡ 1 → layoutAt l .most ≡ 8 → ((os : List ℕ) → k os ≡ getD os place 0) → ((k : ℕ) → sizeOf (rowsAt l k) ≡ once + each * k)
-        → LengthOf high low (CountFixes place once each)
-    counted place once each a b ek es =
-        length-of (λ os r. record { fewest = rw (a, ek os) (r .fewest); most = rw (b, ek os) (r .most); octets = rw (ek os) (r .octets ∙ sym (es (getD os place 0))) })
+    counted : {place once each : ℕ} → CountAt c place → ((k : ℕ) → sizeOf (rowsAt l k) ≡ once + each * k) → LengthOf high low (CountFixes place once each)
+    counted {place} w es =
+        length-of
         (λ os r.
-        record {
-          fewest = rw (a, ek os) at (r .fewest);
-          most = rw (b, ek os) at (r .most);
-          octets = (rw (ek os) at (r .octets)) ∙ es (getD os place 0);
-        })
-
-has : (l : ℕ) → 1 ≤ l → l < 14 → HasLayout l
-unfolding layouts
-has l a b = record { first = a; last = b }
-
-pub third : (os : List ℕ) → getD (drop 1 (drop 1 (drop 1 os))) 0 0 ≡ getD os 3 0
-third os = simp (drop-drop, getD-drop)
+        record { fewest = rw (w .fewest, w .octets os) (r .fewest); most = rw (w .most, w .octets os) (r .most); octets = rw (w .octets os) (r .octets ∙ sym (es _)) })
+        (λ os r.
+        record { fewest = rw (w .fewest, w .octets os) at (r .fewest); most = rw (w .most, w .octets os) at (r .most); octets = rw (w .octets os) at (r .octets) ∙ es _ })
 
 pub lengths-as-said : LengthsAsSaid
-unfolding numberOf firstOf layouts layoutAt
+unfolding numberOf firstOf layouts layoutAt known
 lengths-as-said =
     record {
-      carriedOut = plain 0x0F 0x80 (has 1 (omega arith) (omega arith)) 2 refl refl (λ os. refl) (field-numbers .carriedOut 0 .size);
-      refused = plain 0x0F 0x81 (has 2 (omega arith) (omega arith)) 4 refl refl (λ os. refl) (field-numbers .refused 0 .size);
-      setTimes = counted 0x5F 0x14 (has 3 (omega arith) (omega arith)) 1 2 7 refl refl (λ os. value-one os 1) (λ k. field-numbers .setTimes k .size);
-      reportTimes = counted 0x5F 0xC4 (has 4 (omega arith) (omega arith)) 1 2 7 refl refl (λ os. value-one os 1) (λ k. field-numbers .reportTimes k .size);
-      setPlan = counted 0x5F 0x15 (has 5 (omega arith) (omega arith)) 3 8 2 refl refl third (λ k. field-numbers .setPlan k .size);
-      reportPlan = counted 0x5F 0xC5 (has 6 (omega arith) (omega arith)) 3 8 2 refl refl third (λ k. field-numbers .reportPlan k .size);
-      reportRunning = counted 0x5F 0xC8 (has 7 (omega arith) (omega arith)) 3 8 2 refl refl third (λ k. field-numbers .reportRunning k .size);
-      run = plain 0x5F 0x18 (has 8 (omega arith) (omega arith)) 1 refl refl (λ os. refl) (field-numbers .run 0 .size);
-      queryTimes = plain 0x5F 0x44 (has 9 (omega arith) (omega arith)) 1 refl refl (λ os. refl) (field-numbers .queryTimes 0 .size);
-      queryPlan = plain 0x5F 0x45 (has 10 (omega arith) (omega arith)) 1 refl refl (λ os. refl) (field-numbers .queryPlan 0 .size);
-      queryRunning = plain 0x5F 0x48 (has 11 (omega arith) (omega arith)) 0 refl refl (λ os. refl) (ap sizeOf (field-numbers .queryRunning 0));
+      carriedOut = plain 0x0F 0x80 (known-in 1 refl) (counts-as-said .carriedOut) (field-numbers .carriedOut 0 .size);
+      refused = plain 0x0F 0x81 (known-in 2 refl) (counts-as-said .refused) (field-numbers .refused 0 .size);
+      setTimes = counted 0x5F 0x14 (known-in 3 refl) (counts-as-said .setTimes) (λ k. field-numbers .setTimes k .size);
+      reportTimes = counted 0x5F 0xC4 (known-in 4 refl) (counts-as-said .reportTimes) (λ k. field-numbers .reportTimes k .size);
+      setPlan = counted 0x5F 0x15 (known-in 5 refl) (counts-as-said .setPlan) (λ k. field-numbers .setPlan k .size);
+      reportPlan = counted 0x5F 0xC5 (known-in 6 refl) (counts-as-said .reportPlan) (λ k. field-numbers .reportPlan k .size);
+      reportRunning = counted 0x5F 0xC8 (known-in 7 refl) (counts-as-said .reportRunning) (λ k. field-numbers .reportRunning k .size);
+      run = plain 0x5F 0x18 (known-in 8 refl) (counts-as-said .run) (field-numbers .run 0 .size);
+      queryTimes = plain 0x5F 0x44 (known-in 9 refl) (counts-as-said .queryTimes) (field-numbers .queryTimes 0 .size);
+      queryPlan = plain 0x5F 0x45 (known-in 10 refl) (counts-as-said .queryPlan) (field-numbers .queryPlan 0 .size);
+      queryRunning = plain 0x5F 0x48 (known-in 11 refl) (counts-as-said .queryRunning) (ap sizeOf (field-numbers .queryRunning 0));
     }
 
 -- every value that fits its octets is in range
@@ -98,10 +91,10 @@ any-refusal a b e p o (suc (suc zero)) h = (omega arith, omega (arith, o .1 .1 .
 any-refusal a b e p o (suc (suc (suc j))) h = absurd (omega arith)
 
 pub answers-take-any : AnswersTakeAny
-unfolding numberOf firstOf layouts layoutAt rowsAt layoutRows
+unfolding numberOf firstOf layouts layoutAt known rowsAt layoutRows
 answers-take-any =
     record {
-      carriedOut = λ a b o. read-right 0x0F 0x80 (has 1 (omega arith) (omega arith)) (a ∷ b ∷ []) (record { fewest = omega arith; most = omega arith; octets = refl }) (any-code a b o);
+      carriedOut = λ a b o. read-right 0x0F 0x80 (known-in 1 refl) (a ∷ b ∷ []) (record { fewest = omega arith; most = omega arith; octets = refl }) (any-code a b o);
       refused = λ a b e p o.
-          read-right 0x0F 0x81 (has 2 (omega arith) (omega arith)) (a ∷ b ∷ e ∷ p ∷ []) (record { fewest = omega arith; most = omega arith; octets = refl }) (any-refusal a b e p o);
+          read-right 0x0F 0x81 (known-in 2 refl) (a ∷ b ∷ e ∷ p ∷ []) (record { fewest = omega arith; most = omega arith; octets = refl }) (any-refusal a b e p o);
     }

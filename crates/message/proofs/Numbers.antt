@@ -1,6 +1,6 @@
 -- The layouts hold what 01's table lists, each field under its number and at its place.
-use Prim.Native.Nat.{ℕ, zero, suc, _+_, _*_, _-_, _<_}
-use mathlib.Core.Path.{_≡_, refl, sym, _∙_}
+use Prim.Native.Nat.{ℕ, zero, suc, _+_, _*_, _<_}
+use mathlib.Core.Path.{_≡_, refl, _∙_}
 use mathlib.Core.List.{List, [], _∷_, _++_, append-assoc}
 use native.Mathlib.Nat.{zero-mul, suc-mul}
 use native.Mathlib.Omega.{arith}
@@ -24,8 +24,8 @@ unfolding numberOf firstOf layoutAt layouts
 codes-listed c = search-first (λ j. eqb (getD listed j 0) c) (length listed)
 
 -- a field of a list stands in it, and with others behind it and before it
-stands : (fs : List Field) (j : ℕ) → j < length fs → {n s : ℕ} → n ≡ j + 1 → s ≡ fieldStart fs j → FieldStands fs n (getD fs j noField) s
-stands fs j l en es = record { place = j; number = en; within = l; there = refl; start = sym es }
+stands : (fs : List Field) (j : ℕ) → j < length fs → FieldStands fs (j + 1) (getD fs j noField) (fieldStart fs j)
+stands fs j l = record { place = j; number = refl; within = l; there = refl; start = refl }
 
 module _ {fs : List Field} {n s : ℕ} {f : Field} (w : FieldStands fs n f s) where
   before : (gs : List Field) → FieldStands (fs ++ gs) n f s
@@ -67,15 +67,15 @@ module _ (hs g t : List Field) (k : ℕ) where
   size : sizeOf rows ≡ sizeOf hs + k * sizeOf g + sizeOf t
   size = omega (arith, size-append hs (repeated k g ++ t), size-append (repeated k g) t, size-repeated g k)
 
-  in-head : (j : ℕ) → j < length hs → {n s : ℕ} → n ≡ j + 1 → s ≡ fieldStart hs j → FieldStands rows n (getD hs j noField) s
-  in-head j l en es = before (stands hs j l en es) (repeated k g ++ t)
+  in-head : (j : ℕ) → j < length hs → FieldStands rows (j + 1) (getD hs j noField) (fieldStart hs j)
+  in-head j l = before (stands hs j l) (repeated k g ++ t)
 
   in-group : (i : ℕ) → i < k → (j : ℕ) → j < length g → {n s : ℕ} → n ≡ length hs + (i * length g + j) + 1 → s ≡ sizeOf hs + (i * sizeOf g + fieldStart g j)
       → FieldStands rows n (getD g j noField) s
-  in-group i h j l en es = behind (among (stands g j l refl refl) k i t h refl refl) hs (omega arith) es
+  in-group i h j l en es = behind (among (stands g j l) k i t h refl refl) hs (omega arith) es
 
   in-tail : (j : ℕ) → j < length t → {n s : ℕ} → n ≡ length hs + (k * length g + j) + 1 → s ≡ sizeOf hs + (k * sizeOf g + fieldStart t j) → FieldStands rows n (getD t j noField) s
-  in-tail j l en es = behind (behind (stands t j l refl refl) (repeated k g) refl refl) hs (omega (arith, length-repeated k g)) (omega (arith, size-repeated g k))
+  in-tail j l en es = behind (behind (stands t j l) (repeated k g) refl refl) hs (omega (arith, length-repeated k g)) (omega (arith, size-repeated g k))
 
 -- the fields of a phase, and the greens, the cycle and the offset, after any head
 module _ (hs : List Field) (k : ℕ) where
@@ -107,8 +107,8 @@ module _ (least k : ℕ) where
       record {
         many = omega (arith, many timesHead times [] k);
         size = omega (arith, size timesHead times [] k);
-        planned = in-head timesHead times [] k 0 (omega arith) refl refl;
-        count = in-head timesHead times [] k 1 (omega arith) refl refl;
+        planned = in-head timesHead times [] k 0 (omega arith);
+        count = in-head timesHead times [] k 1 (omega arith);
         phase = λ i h. phase timesHead k i h (omega arith) (omega arith);
       }
 
@@ -120,10 +120,10 @@ module _ (least k : ℕ) where
       record {
         many = omega (arith, many planHead greens cycleOffset k);
         size = omega (arith, size planHead greens cycleOffset k);
-        planned = in-head planHead greens cycleOffset k 0 (omega arith) refl refl;
-        direct = in-head planHead greens cycleOffset k 1 (omega arith) refl refl;
-        order = in-head planHead greens cycleOffset k 2 (omega arith) refl refl;
-        count = in-head planHead greens cycleOffset k 3 (omega arith) refl refl;
+        planned = in-head planHead greens cycleOffset k 0 (omega arith);
+        direct = in-head planHead greens cycleOffset k 1 (omega arith);
+        order = in-head planHead greens cycleOffset k 2 (omega arith);
+        count = in-head planHead greens cycleOffset k 3 (omega arith);
         greens = green planHead k refl refl;
       }
 
@@ -133,40 +133,16 @@ none-repeated zero = refl
 none-repeated (suc k) = none-repeated k
 
 module _ (k : ℕ) where
-  abbrev answerHead : List Field
-  answerHead = field.code ∷ []
+  answer-fields : AnswerFields (field.code ∷ (repeated k [] ++ []))
+  answer-fields = rw (none-repeated k) (record { many = refl; size = refl; answered = stands _ 0 (omega arith) })
 
-  answer-fields : AnswerFields (answerHead ++ (repeated k [] ++ []))
-  answer-fields =
-      record {
-        many = omega (arith, many answerHead [] [] k);
-        size = omega (arith, size answerHead [] [] k);
-        answered = in-head answerHead [] [] k 0 (omega arith) refl refl;
-      }
-
-  abbrev refusalHead : List Field
-  refusalHead = field.code ∷ field.errorNumber ∷ field.parameterNumber ∷ []
-
-  refusal-fields : RefusalFields (refusalHead ++ (repeated k [] ++ []))
+  refusal-fields : RefusalFields (field.code ∷ field.errorNumber ∷ field.parameterNumber ∷ (repeated k [] ++ []))
   refusal-fields =
-      record {
-        many = omega (arith, many refusalHead [] [] k);
-        size = omega (arith, size refusalHead [] [] k);
-        answered = in-head refusalHead [] [] k 0 (omega arith) refl refl;
-        error = in-head refusalHead [] [] k 1 (omega arith) refl refl;
-        parameter = in-head refusalHead [] [] k 2 (omega arith) refl refl;
-      }
+      rw (none-repeated k)
+      (record { many = refl; size = refl; answered = stands _ 0 (omega arith); error = stands _ 1 (omega arith); parameter = stands _ 2 (omega arith) })
 
-  abbrev oneHead : List Field
-  oneHead = field.plan ∷ []
-
-  one-plan : OnePlan (oneHead ++ (repeated k [] ++ []))
-  one-plan =
-      record {
-        many = omega (arith, many oneHead [] [] k);
-        size = omega (arith, size oneHead [] [] k);
-        planned = in-head oneHead [] [] k 0 (omega arith) refl refl;
-      }
+  one-plan : OnePlan (field.plan ∷ (repeated k [] ++ []))
+  one-plan = rw (none-repeated k) (record { many = refl; size = refl; planned = stands _ 0 (omega arith) })
 
 pub field-numbers : FieldNumbers
 unfolding numberOf firstOf layouts layoutAt rowsAt layoutRows
@@ -218,7 +194,7 @@ stored-parts k =
       phase = λ i h. phase [] k i h (omega arith) (omega arith);
       plan = refl;
       planSize = omega (arith, size storedHead greens cycleOffset k);
-      direct = in-head storedHead greens cycleOffset k 0 (omega arith) refl refl;
-      order = in-head storedHead greens cycleOffset k 1 (omega arith) refl refl;
+      direct = in-head storedHead greens cycleOffset k 0 (omega arith);
+      order = in-head storedHead greens cycleOffset k 1 (omega arith);
       greens = green storedHead k refl refl;
     }

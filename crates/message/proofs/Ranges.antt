@@ -1,7 +1,7 @@
 -- A field's test says whether its value is in range, and the search finds the first that is not.
-use Prim.Native.Nat.{ℕ, zero, suc, _-_, _≤_, _<_}
-use mathlib.Core.Path.{_≡_, refl}
-use mathlib.Core.Bool.{Bool, true, false, not}
+use Prim.Native.Nat.{ℕ, suc, _≤_, _<_}
+use mathlib.Core.Path.{_≡_}
+use mathlib.Core.Bool.{Bool, true, false, not-eq-not}
 use mathlib.Core.List.{List}
 use native.Mathlib.Decide.{decLt}
 use native.Mathlib.Omega.{arith}
@@ -15,9 +15,9 @@ use Rattle.octets.proofs.Search.{search-first}
 use Rattle.diagram.specs.Table.{phasesOf}
 use Rattle.message.specs.declared.layout.Field.{Field}
 use Rattle.message.specs.declared.layout.Field.the-variants.{Octet, Two, Order}
-use Rattle.message.specs.Fields.{passes, noField}
+use Rattle.message.specs.Fields.{noField}
 use Rattle.message.specs.Values.{fieldsMost, placed, outAt, firstOut}
-use Rattle.message.specs.Promises.{InRange, RangesAsSaid, RightAt, FirstWrong}
+use Rattle.message.specs.Promises.{RangesAsSaid, RightAt, FirstWrong}
 use Rattle.message.proofs.Values.{filled-at}
 
 -- Ranges
@@ -25,21 +25,16 @@ use Rattle.message.proofs.Values.{filled-at}
 pub both-true : {a b : Bool} → a ≡ true → b ≡ true → both a b ≡ true
 both-true p q = rw (p, q)
 
-within : (l v g : ℕ) → both (leb l v) (leb v g) ≡ true → (l ≤ v) × (v ≤ g)
-within l v g h = (leb-true l v (both-left (leb l v) (leb v g) h), leb-true v g (both-right (leb l v) (leb v g) h))
+pub both-le : (a b c d : ℕ) → both (leb a b) (leb c d) ≡ true → (a ≤ b) × (c ≤ d)
+both-le a b c d h = (leb-true a b (both-left (leb a b) (leb c d) h), leb-true c d (both-right (leb a b) (leb c d) h))
 
-pub in-range : (f : Field) (v : ℕ) → passes f v ≡ true → InRange f v
-in-range (Octet l g) v h = within l v g h
-in-range (Two l g) v h = within l v g h
-in-range Order v h = (leb-true v 255 (both-left (leb v 255) (leb 1 (phasesOf v)) h), leb-true 1 (phasesOf v) (both-right (leb v 255) (leb 1 (phasesOf v)) h))
-
-pub range-in : (f : Field) (v : ℕ) → InRange f v → passes f v ≡ true
-range-in (Octet l g) v h = both-true (le-leb l v (h .0)) (le-leb v g (h .1))
-range-in (Two l g) v h = both-true (le-leb l v (h .0)) (le-leb v g (h .1))
-range-in Order v h = both-true (le-leb v 255 (h .0)) (le-leb 1 (phasesOf v) (h .1))
+pub le-both : (a b c d : ℕ) → (a ≤ b) × (c ≤ d) → both (leb a b) (leb c d) ≡ true
+le-both a b c d h = both-true (le-leb a b (h .0)) (le-leb c d (h .1))
 
 pub ranges-as-said : RangesAsSaid
-ranges-as-said f v = (in-range f v, range-in f v)
+ranges-as-said (Octet l g) v = (both-le l v v g, le-both l v v g)
+ranges-as-said (Two l g) v = (both-le l v v g, le-both l v v g)
+ranges-as-said Order v = (both-le v 255 1 (phasesOf v), le-both v 255 1 (phasesOf v))
 
 -- The places of a message
 
@@ -51,17 +46,13 @@ placed-at vs j = filled-at fieldsMost vs j
 
 module _ (fs : List Field) (vs : List ℕ) where
   right-in : (j : ℕ) → RightAt fs vs j → outAt fs vs j ≡ false
-  right-in j h = rw (range-in (getD fs j noField) (getD vs j 0) h)
-
-  wrong-in : (j : ℕ) → (RightAt fs vs j → ⊥) → outAt fs vs j ≡ true
-  wrong-in j n = by (passes (getD fs j noField) (getD vs j 0)) refl
-    where
-      by : (b : Bool) → passes (getD fs j noField) (getD vs j 0) ≡ b → not b ≡ true
-      by true e = absurd (n (in-range (getD fs j noField) (getD vs j 0) e))
-      by false e = refl
+  right-in j h = rw (ranges-as-said (getD fs j noField) (getD vs j 0) .1 h)
 
   in-right : (j : ℕ) → outAt fs vs j ≡ false → RightAt fs vs j
-  in-right j h = in-range (getD fs j noField) (getD vs j 0) (not-false _ h)
+  in-right j h = ranges-as-said (getD fs j noField) (getD vs j 0) .0 (not-false _ h)
+
+  wrong-in : (j : ℕ) → (RightAt fs vs j → ⊥) → outAt fs vs j ≡ true
+  wrong-in j n = not-eq-not {a = outAt fs vs j} {b = true} .0 (λ e. n (in-right j e))
 
   in-wrong : (j : ℕ) → outAt fs vs j ≡ true → RightAt fs vs j → ⊥
   in-wrong j h r = clash (right-in j r) h
@@ -94,26 +85,12 @@ module _ (fs : List Field) (vs : List ℕ) (h : length fs ≤ fieldsMost) (past 
   one-out w =
       rw (w .number) (first-one (found fs vs) (first-found (omega (arith, w .within)) (λ j l. right-in fs vs j (w .before j l)) (wrong-in fs vs (w .place) (w .here))))
 
-  pub out-none : firstOut fs vs ≡ 0 → (j : ℕ) → j < length fs → RightAt fs vs j
-  out-none e j l = all-right fs vs e j (omega arith)
-
-  pub out-one : (firstOut fs vs ≡ 0 → ⊥) → FirstWrong fs vs (firstOut fs vs)
-  out-one n = by (firstOut fs vs) (found fs vs) n
-    where
-      by : (r : ℕ) → First (outAt fs vs) fieldsMost r → (r ≡ 0 → ⊥) → FirstWrong fs vs r
-      by zero f n = absurd (n refl)
-      by (suc i) f n =
-          record {
-            place = i;
-            number = omega arith;
-            within = inside i f (decLt i (length fs));
-            before = λ j l. in-right fs vs j (f .before j (omega arith));
-            here = in-wrong fs vs i (f .here i (omega arith));
-          }
-        where
-          inside : (i : ℕ) → First (outAt fs vs) fieldsMost (suc i) → Dec (i < length fs) → i < length fs
-          inside i f (yes l) = l
-          inside i f (no g) = absurd (in-wrong fs vs i (f .here i (omega arith)) (past-right i (omega arith) (f .within)))
+  pub out-one : {i : ℕ} → suc i ≡ firstOut fs vs → FirstWrong fs vs (suc i)
+  out-one {i} e =
+      let f : First (outAt fs vs) fieldsMost (suc i) = rw e (found fs vs) in
+      let w = in-wrong fs vs i (f .here i (omega arith)) in
+      let g : length fs ≤ i → ⊥ = λ l. w (past-right i l (f .within)) in
+      record { place = i; number = omega arith; within = omega arith; before = λ j l. in-right fs vs j (f .before j (omega arith)); here = w }
 
 -- lists of values that agree at each place are right and wrong at the same
 module _ (fs : List Field) (vs ws : List ℕ) (same : (j : ℕ) → getD vs j 0 ≡ getD ws j 0) where

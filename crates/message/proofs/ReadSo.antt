@@ -1,13 +1,14 @@
 -- The reader refuses when, and only when, 01 says so, and names the first field that is wrong.
 use Prim.Native.Nat.{ℕ, zero, suc, _≤_, _<_}
 use mathlib.Core.Path.{_≡_, refl, sym, subst, _∙_}
-use mathlib.Core.Bool.{Bool, true, false}
+use mathlib.Core.Bool.{Bool, true, false, not-eq-not}
 use mathlib.Core.List.{List}
-use native.Mathlib.Decide.{decLt, ℕ-discrete}
+use native.Mathlib.Decide.{decLt}
 use native.Mathlib.Omega.{arith}
-use borrow.Author.Tests.{le-leb, lt-ltb, leb-true, ltb-true}
-use lib.Dec.{leb, ltb}
+use borrow.Author.Tests.{le-leb, lt-ltb, leb-true, ltb-true, eq-eqb, eqb-true}
+use lib.Dec.{leb, ltb, eqb}
 use lib.ListN.{length, getD, List·getD-eq-default}
+use Rattle.octets.specs.Choice.{both}
 use Rattle.octets.proofs.Laws.{both-left, both-right, clash}
 use Rattle.message.specs.declared.Read.{Read}
 use Rattle.message.specs.declared.layout.Field.{Field}
@@ -17,8 +18,8 @@ use Rattle.message.specs.Reader.{noMessage, notRead, kIn, partOf, ranged
 use Rattle.message.specs.Promises.{codeWord, afterCode, refusedReading, messageRead, FirstWrong, HasLayout, RightLength, PartJudged, unknown, wrongLength, outOfRange, accepted, PartsReadSo, Judged, short, body, MessagesReadSo, FirstFieldNamed}
 use Rattle.message.proofs.Layouts.{rows-most}
 use Rattle.message.proofs.Values.{length-values}
-use Rattle.message.proofs.Reading.{most-fits, part-10, part-k, part-length, part-done, ranged-12, ranged-done, read-11, read-body}
-use Rattle.message.proofs.Ranges.{both-true, placed-at, none-out, one-out, out-none, out-one, right-same, wrong-same}
+use Rattle.message.proofs.Reading.{part-10, part-11, part-done, ranged-12, ranged-done, read-11, read-body}
+use Rattle.message.proofs.Ranges.{both-true, both-le, le-both, placed-at, none-out, one-out, all-right, out-one, right-same, wrong-same}
 
 -- what a refused reading gives, by its fields
 not-read : (n field : ℕ) → refusedReading n field ≡ notRead n field
@@ -27,7 +28,7 @@ not-read n field = refl
 
 pub known-in : (l : ℕ) → known l ≡ true → HasLayout l
 unfolding known
-known-in l h = record { first = leb-true 1 l (both-left (leb 1 l) (ltb l (length layouts)) h); last = ltb-true l (length layouts) (both-right (leb 1 l) (ltb l (length layouts)) h) }
+known-in l h = record { first = leb-true 1 l (both-left (leb 1 l) _ h); last = ltb-true l (length layouts) (both-right (leb 1 l) _ h) }
 
 pub in-known : (l : ℕ) → HasLayout l → known l ≡ true
 unfolding known
@@ -40,16 +41,16 @@ module _ (l k : ℕ) (os : List ℕ) where
   abbrev vs : List ℕ
   vs = valuesOf fs os
 
-  k-in : RightLength l k os → kFits (layoutAt l) k ≡ true
-  k-in r = both-true (le-leb (layoutAt l .fewest) k (r .fewest)) (le-leb k (layoutAt l .most) (r .most))
+  abbrev longRight : Bool
+  longRight = both (kFits (layoutAt l) k) (eqb (length os) (sizeOf fs))
 
-  right : kFits (layoutAt l) k ≡ true → length os ≡ sizeOf fs → RightLength l k os
-  right h e =
-      record {
-        fewest = leb-true (layoutAt l .fewest) k (both-left (leb (layoutAt l .fewest) k) (leb k (layoutAt l .most)) h);
-        most = most-fits l k h;
-        octets = e;
-      }
+  in-right : RightLength l k os → longRight ≡ true
+  in-right r = both-true (le-both (layoutAt l .fewest) k k (layoutAt l .most) (r .fewest, r .most)) (eq-eqb (length os) (sizeOf fs) (r .octets))
+
+  right : longRight ≡ true → RightLength l k os
+  right h =
+      let f = both-le (layoutAt l .fewest) k k (layoutAt l .most) (both-left (kFits (layoutAt l) k) _ h) in
+      record { fewest = f .0; most = f .1; octets = eqb-true (length os) (sizeOf fs) (both-right (kFits (layoutAt l) k) _ h) }
 
   past : (j : ℕ) → length fs ≤ j → j < fieldsMost → getD (placed vs) j 0 ≡ 0
   past j h _ = placed-at vs j ∙ List·getD-eq-default vs 0 (rw length-values h)
@@ -59,47 +60,37 @@ module _ (l k : ℕ) (os : List ℕ) where
   part-read z = ranged-done l k os (placed vs) 0 refl z refl refl refl
 
   parts-when : {r : Read} → PartJudged l k os r → r ≡ readPartOf l k os
-  parts-when (unknown n) = by (known l) refl
-    where
-      by : (b : Bool) → known l ≡ b → refusedReading 10 0 ≡ readPartOf l k os
-      by true e = absurd (n (known-in l e))
-      by false e = not-read 10 0 ∙ part-10 l k os e
-  parts-when (wrongLength kn n) = by (kFits (layoutAt l) k) refl (ℕ-discrete (length os) (sizeOf fs))
-    where
-      by : (b : Bool) → kFits (layoutAt l) k ≡ b → Dec (length os ≡ sizeOf fs) → refusedReading 11 0 ≡ readPartOf l k os
-      by false e d = not-read 11 0 ∙ part-k l k os (in-known l kn) e
-      by true e (no g) = not-read 11 0 ∙ part-length l k os (in-known l kn) e g
-      by true e (yes p) = absurd (n (right e p))
+  parts-when (unknown n) = not-read 10 0 ∙ part-10 l k os (not-eq-not {a = known l} {b = false} .0 (λ e. n (known-in l e)))
+  parts-when (wrongLength kn n) = not-read 11 0 ∙ part-11 l k os (in-known l kn) (not-eq-not {a = longRight} {b = false} .0 (λ e. n (right e)))
   parts-when (outOfRange n kn r w) =
       let m = rows-most l k (r .most) in
       let e = one-out fs (placed vs) m past (wrong-same fs vs (placed vs) (λ j. sym (placed-at vs j)) w) in
-      not-read 12 n ∙ ranged-12 l k os (placed vs) n refl (sym e) (λ z. absurd (omega (arith, w .number))) ∙ part-done l k os (in-known l kn) (k-in r) (r .octets)
+      not-read 12 n ∙ ranged-12 l k os (placed vs) n refl (sym e) (λ z. absurd (omega (arith, w .number))) ∙ part-done l k os (in-known l kn) (in-right r)
   parts-when (accepted kn r a) =
       let m = rows-most l k (r .most) in
       let e = none-out fs (placed vs) m past (λ j h. right-same fs vs (placed vs) (λ i. sym (placed-at vs i)) j (a j h)) in
-      part-read (sym e) ∙ part-done l k os (in-known l kn) (k-in r) (r .octets)
+      part-read (sym e) ∙ part-done l k os (in-known l kn) (in-right r)
 
   -- of a part that the reader has found of the right length
   ranged-then : HasLayout l → RightLength l k os → (n : ℕ) → n ≡ firstOut fs (placed vs) → PartJudged l k os (rangedOf l k os)
   ranged-then kn r zero e =
       subst (λ (r : Read). PartJudged l k os r) (part-read e)
-      (accepted kn r (λ j h. right-same fs (placed vs) vs (placed-at vs) j (out-none fs (placed vs) (rows-most l k (r .most)) past (sym e) j h)))
+      (accepted kn r (λ j h. right-same fs (placed vs) vs (placed-at vs) j (all-right fs (placed vs) (sym e) j (omega (arith, rows-most l k (r .most))))))
   ranged-then kn r (suc n) e =
-      let w = rw (← e) at (out-one fs (placed vs) (rows-most l k (r .most)) past (λ z. absurd (omega (arith, e, z)))) in
+      let w = out-one fs (placed vs) (rows-most l k (r .most)) past e in
       subst (λ (r : Read). PartJudged l k os r) (not-read 12 (suc n) ∙ ranged-12 l k os (placed vs) (suc n) refl e (λ z. absurd (omega arith)))
       (outOfRange (suc n) kn r (wrong-same fs (placed vs) vs (placed-at vs) w))
 
   parts-then : PartJudged l k os (readPartOf l k os)
-  parts-then = by (known l) refl (kFits (layoutAt l) k) refl (ℕ-discrete (length os) (sizeOf fs))
+  parts-then = by (known l) refl longRight refl
     where
       judged : {r s : Read} → r ≡ s → PartJudged l k os r → PartJudged l k os s
       judged e p = subst (λ (r : Read). PartJudged l k os r) e p
 
-      by : (a : Bool) → known l ≡ a → (b : Bool) → kFits (layoutAt l) k ≡ b → Dec (length os ≡ sizeOf fs) → PartJudged l k os (readPartOf l k os)
-      by false e b f d = judged (not-read 10 0 ∙ part-10 l k os e) (unknown (λ kn. clash e (in-known l kn)))
-      by true e false f d = judged (not-read 11 0 ∙ part-k l k os e f) (wrongLength (known-in l e) (λ r. clash f (k-in r)))
-      by true e true f (no g) = judged (not-read 11 0 ∙ part-length l k os e f g) (wrongLength (known-in l e) (λ r. g (r .octets)))
-      by true e true f (yes p) = judged (part-done l k os e f p) (ranged-then (known-in l e) (right f p) (firstOut fs (placed vs)) refl)
+      by : (a : Bool) → known l ≡ a → (b : Bool) → longRight ≡ b → PartJudged l k os (readPartOf l k os)
+      by false e b f = judged (not-read 10 0 ∙ part-10 l k os e) (unknown (λ kn. clash e (in-known l kn)))
+      by true e false f = judged (not-read 11 0 ∙ part-11 l k os e f) (wrongLength (known-in l e) (λ r. clash f (in-right r)))
+      by true e true f = judged (part-done l k os e f) (ranged-then (known-in l e) (right f) (firstOut fs (placed vs)) refl)
 
 pub parts-read-so : PartsReadSo
 parts-read-so l k os r = (parts-when l k os, λ e. rw e (parts-then l k os))

@@ -4,7 +4,7 @@ use mathlib.Core.Path.{_≡_, refl, sym, _∙_}
 use mathlib.Core.Bool.{Bool, true, false, not}
 use mathlib.Core.List.{List, [], _∷_, _++_, append-assoc}
 use native.Mathlib.Omega.{arith}
-use borrow.Author.Tests.{eqb-true, eq-eqb, ne-eqb, lt-ltb, le-ltb, leb-true, le-leb, not-true}
+use borrow.Author.Tests.{eqb-true, eq-eqb, ne-eqb, lt-ltb, le-ltb, le-leb, not-true}
 use lib.Dec.{eqb, leb}
 use lib.ListN.{length, getD, drop, List·getD-append}
 use lib.Seq.{drop-drop}
@@ -20,7 +20,8 @@ use Rattle.message.specs.Fields.{twoOf, widthOf, valueOf, noField}
 use Rattle.message.specs.Layouts.{Layout, layouts, noLayout, layoutAt, known, numberOf, rowsAt, layoutRows, kFits}
 use Rattle.message.specs.Values.{fieldsMost, sizeOf, fieldStart, valuesOf, placed, numbered, firstOut, outAt}
 use Rattle.message.specs.Reader.{notRead, readAs, kIn, partOf, rangedOf, readPartOf, readOf}
-use Rattle.message.proofs.Layouts.{count-head}
+use Rattle.message.proofs.Layouts.{fitting-at}
+use Rattle.message.proofs.Ranges.{both-le}
 use Rattle.message.proofs.Values.{numbered-one, value-at, length-values}
 
 pub first-out-most : (fs : List Field) (vs : List ℕ) → firstOut fs vs ≤ fieldsMost
@@ -40,7 +41,7 @@ pub k-placed : (l k : ℕ) (os : List ℕ) → numbered (placed (valuesOf (rowsA
 unfolding placed rowsAt layoutRows
 k-placed l k os =
     let y = layoutAt l in
-    rw (values-append (y .head) _ os, append-assoc) (numbered-append (valuesOf (y .head) os) _ (y .count) (rw length-values (count-head l)))
+    rw (values-append (y .head) _ os, append-assoc) (numbered-append (valuesOf (y .head) os) _ (y .count) (rw length-values (fitting-at l .1)))
 
 -- the fields up to the count have one octet each
 abbrev countOctet : Layout → Bool
@@ -60,7 +61,7 @@ k-octet l os h =
     let r : both (not t) (eqb s i) ≡ true = rw (le-leb 1 (y .count) h) at (count-octet l) in
     let one : t ≡ false = not-true t (both-left (not t) (eqb s i) r) in
     let there : s ≡ i = eqb-true s i (both-right (not t) (eqb s i) r) in
-    sym (numbered-one (valuesOf (y .head) os) (y .count) h ∙ value-at (y .head) os i (omega (arith, count-head l)) ∙ rw (one, there))
+    sym (numbered-one (valuesOf (y .head) os) (y .count) h ∙ value-at (y .head) os i (omega (arith, fitting-at l .1)) ∙ rw (one, there))
 
 -- what the code has found of the part, its values and the first out of range
 module _ (l k : ℕ) (os vs : List ℕ) (field : ℕ) (ev : vs ≡ placed (valuesOf (rowsAt l k) os)) (ef : field ≡ firstOut (rowsAt l k) vs) where
@@ -78,18 +79,13 @@ module _ (l k : ℕ) (os : List ℕ) where
   part-10 h = rw h
 
   module _ (h : known l ≡ true) where
-    pub part-k : kFits (layoutAt l) k ≡ false → notRead refusal.infoLengthWrong 0 ≡ readPartOf l k os
+    pub part-11 : both (kFits (layoutAt l) k) (eqb (length os) (sizeOf (rowsAt l k))) ≡ false → notRead refusal.infoLengthWrong 0 ≡ readPartOf l k os
     unfolding readPartOf
-    part-k f = rw (h, f)
+    part-11 f = rw (h, f)
 
-    module _ (f : kFits (layoutAt l) k ≡ true) where
-      pub part-length : (length os ≡ sizeOf (rowsAt l k) → ⊥) → notRead refusal.infoLengthWrong 0 ≡ readPartOf l k os
-      unfolding readPartOf
-      part-length n = rw (h, f, ne-eqb (length os) (sizeOf (rowsAt l k)) n)
-
-      pub part-done : length os ≡ sizeOf (rowsAt l k) → rangedOf l k os ≡ readPartOf l k os
-      unfolding readPartOf
-      part-done e = rw (h, f, eq-eqb (length os) (sizeOf (rowsAt l k)) e)
+    pub part-done : both (kFits (layoutAt l) k) (eqb (length os) (sizeOf (rowsAt l k))) ≡ true → rangedOf l k os ≡ readPartOf l k os
+    unfolding readPartOf
+    part-done f = rw (h, f)
 
 module _ (info : List ℕ) where
   pub read-11 : length info < codeLen → notRead refusal.infoLengthWrong 0 ≡ readOf info
@@ -102,4 +98,4 @@ module _ (info : List ℕ) where
   read-body h el eo ek = rw (le-ltb (length info) codeLen h, ek, eo, el)
 
 pub most-fits : (l k : ℕ) → kFits (layoutAt l) k ≡ true → k ≤ layoutAt l .most
-most-fits l k h = leb-true k (layoutAt l .most) (both-right (leb (layoutAt l .fewest) k) (leb k (layoutAt l .most)) h)
+most-fits l k h = both-le (layoutAt l .fewest) k k (layoutAt l .most) h .1

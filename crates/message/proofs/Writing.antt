@@ -6,8 +6,6 @@ use mathlib.Core.List.{List, [], _∷_, _++_}
 use native.Mathlib.Nat.{add-zero}
 use native.Mathlib.Numerals.{add-one}
 use native.Mathlib.Omega.{arith}
-use borrow.Author.Tests.{eq-eqb, ne-eqb}
-use lib.Dec.{eqb}
 use lib.ListN.{length, getD, drop, length-append}
 use lib.Seq.{sets, drop-cons, drop-drop, getD-drop}
 use Rattle.octets.specs.Put.{Put, Stored}
@@ -21,7 +19,7 @@ use Rattle.message.specs.declared.Message.{Message}
 use Rattle.message.specs.declared.layout.Field.{Field}
 use Rattle.message.specs.Fields.{twoOf, widthOf, fieldOctets, noField}
 use Rattle.message.specs.Layouts.{layoutAt, known, numberOf, rowsAt, mostAt, kFits}
-use Rattle.message.specs.Values.{sizeOf, octetsOf, numbered, firstOut}
+use Rattle.message.specs.Values.{sizeOf, octetsOf, numbered}
 use Rattle.message.specs.Writer.{writableAs, writable, infoAs, infoOf, writeMessage}
 use Rattle.message.proofs.Reading.{most-fits}
 
@@ -58,25 +56,6 @@ unfolding infoAs
 info-len c fs vs = omega (arith, length-octets fs vs)
 
 -- The calls
-
-module _ (l k n : ℕ) (vs : List ℕ) where
-  pub writable-known : known l ≡ false → writableAs l k n vs ≡ false
-  unfolding writableAs
-  writable-known h = rw h
-
-  module _ (h : known l ≡ true) where
-    pub writable-k : kFits (layoutAt l) k ≡ false → writableAs l k n vs ≡ false
-    unfolding writableAs
-    writable-k f = rw (h, f)
-
-    module _ (f : kFits (layoutAt l) k ≡ true) where
-      pub writable-fields : (n ≡ length (rowsAt l k) → ⊥) → writableAs l k n vs ≡ false
-      unfolding writableAs
-      writable-fields e = rw (h, f, ne-eqb n (length (rowsAt l k)) e)
-
-      pub writable-ranges : n ≡ length (rowsAt l k) → writableAs l k n vs ≡ eqb (firstOut (rowsAt l k) vs) 0
-      unfolding writableAs
-      writable-ranges e = rw (h, f, eq-eqb n (length (rowsAt l k)) e)
 
 module _ (m : Message) (at : ℕ) (out : List ℕ) where
   pub write-no : writable m ≡ false → nothingWritten refusal.fieldWrong out ≡ writeMessage m at out

@@ -1,12 +1,12 @@
 -- The writer refuses when, and only when, 01 says so.
 use Prim.Native.Nat.{ℕ, _+_, _≤_, _<_}
 use mathlib.Core.Path.{_≡_, refl, sym, subst, _∙_}
-use mathlib.Core.Bool.{Bool, true, false}
+use mathlib.Core.Bool.{Bool, true, false, not-eq-not}
 use mathlib.Core.List.{List, _++_, append-assoc}
 use native.Mathlib.Decide.{decLt}
 use native.Mathlib.Omega.{arith}
-use borrow.Author.Tests.{lt-leb, le-leb, leb-true, eq-eqb, eqb-true}
-use lib.Dec.{leb, eqb}
+use borrow.Author.Tests.{lt-leb, le-leb, eq-eqb, eqb-true}
+use lib.Dec.{eqb}
 use lib.ListN.{length, take, drop}
 use lib.Seq.{sets-eq}
 use Rattle.octets.specs.Writing.{Writing, writtenAs}
@@ -16,11 +16,10 @@ use Rattle.message.specs.declared.layout.Field.{Field}
 use Rattle.message.specs.Layouts.{layoutAt, known, rowsAt, kFits}
 use Rattle.message.specs.Values.{fieldsMost, firstOut}
 use Rattle.message.specs.Writer.{numberIn, kOfMessage, writableAs, writable, infoOf, writeMessage}
-use Rattle.message.specs.Promises.{Writable, noMessageWritten, MessageWriteJudged, fieldWrong, outputShort, written, MessagesWrittenSo}
+use Rattle.message.specs.Promises.{Writable, MessageWriteJudged, fieldWrong, outputShort, written, MessagesWrittenSo}
 use Rattle.message.proofs.Layouts.{rows-most}
-use Rattle.message.proofs.Reading.{most-fits}
 use Rattle.message.proofs.Writing.{write-no, write-yes}
-use Rattle.message.proofs.Ranges.{both-true, none-out, all-right, past-zero}
+use Rattle.message.proofs.Ranges.{both-true, both-le, le-both, none-out, all-right, past-zero}
 use Rattle.message.proofs.ReadSo.{known-in, in-known}
 
 module _ (m : Message) where
@@ -42,23 +41,23 @@ module _ (m : Message) where
       let h : length fs ≤ fieldsMost = rows-most l k (w .most) in
       let e = none-out fs (m .values) h (λ j p q. w .rest j (omega (arith, w .fields)) q) (λ j p. w .ranges j (omega (arith, w .fields))) in
       both-true (in-known l (w .listed))
-      (both-true (both-true (le-leb (layoutAt l .fewest) k (w .fewest)) (le-leb k (layoutAt l .most) (w .most)))
+      (both-true (le-both (layoutAt l .fewest) k k (layoutAt l .most) (w .fewest, w .most))
       (both-true (eq-eqb (m .fields) (length fs) (w .fields)) (eq-eqb (firstOut fs (m .values)) 0 e)))
 
   pub writable-in : writable m ≡ true → Writable m
   unfolding writableAs
   writable-in h =
       let a = both-right (known l) _ h in
-      let f = both-left (kFits (layoutAt l) k) _ a in
+      let f = both-le (layoutAt l .fewest) k k (layoutAt l .most) (both-left (kFits (layoutAt l) k) _ a) in
       let b = both-right (kFits (layoutAt l) k) _ a in
       let n = eqb-true (m .fields) (length fs) (both-left (eqb (m .fields) (length fs)) rest b) in
       let z = eqb-true (firstOut fs (m .values)) 0 (both-right (eqb (m .fields) (length fs)) rest b) in
       record {
         listed = known-in l (both-left (known l) _ h);
-        fewest = leb-true (layoutAt l .fewest) k (both-left (leb (layoutAt l .fewest) k) (leb k (layoutAt l .most)) f);
-        most = most-fits l k f;
+        fewest = f .0;
+        most = f .1;
         fields = n;
-        ranges = λ j p. all-right fs (m .values) z j (omega (arith, rows-most l k (most-fits l k f)));
+        ranges = λ j p. all-right fs (m .values) z j (omega (arith, rows-most l k (f .1)));
         rest = λ j p q. past-zero fs (m .values) z j (omega (arith, n)) q;
       }
 
@@ -74,11 +73,7 @@ module _ (m : Message) (at : ℕ) (out : List ℕ) where
   stored-as h = rw (le-leb (at + length vs) (length out) h, sets-eq vs out at h, append-assoc)
 
   when : {w : Writing} → MessageWriteJudged m at out w → w ≡ writeMessage m at out
-  when (fieldWrong n) = by (writable m) refl
-    where
-      by : (b : Bool) → writable m ≡ b → noMessageWritten 5 out ≡ writeMessage m at out
-      by true e = absurd (n (writable-in m e))
-      by false e = write-no m at out e
+  when (fieldWrong n) = write-no m at out (not-eq-not {a = writable m} {b = false} .0 (λ e. n (writable-in m e)))
   when (outputShort w h) = sym (written-9 vs out at refl (lt-leb (at + length vs) (length out) h)) ∙ write-yes m at out (in-writable m w)
   when (written w h) = stored-as h ∙ write-yes m at out (in-writable m w)
 

@@ -1,4 +1,4 @@
-pub mod Apart
+pub mod ByHand
 pub mod Walking
 pub mod Promised
 pub mod Only

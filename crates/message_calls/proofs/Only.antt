@@ -5,8 +5,7 @@ use base.Logic.{ent}
 use contract.Monad.{conj, conjL, conjR, fact, factI, fact-use}
 use denote.Ref.{now}
 use Rattle.message_calls.proofs.info.Reader.open as «open»
-use Rattle.message_calls.proofs.info.Reader.octet as octet
-use Rattle.message_calls.proofs.info.Reader.word as word
+use Rattle.message_calls.proofs.info.Reader.field as field
 use Rattle.message_calls.proofs.layout.passes.Reads as passes
 use Rattle.message_calls.proofs.reader.read.Reads as read
 use Rattle.message_calls.proofs.writer.write.Reads as write
@@ -29,10 +28,6 @@ only-open : {M : Type 1} (𝓤 : URA M) (H : _) (κs : _) (A : _) (m : _) (n : _
     → ent 𝓤 (conj 𝓤 («open».ensures-1 𝓤 H κs A m n a b x y r) («open».ensures-1 𝓤 H κs A m n a b x y s)) (fact 𝓤 (r ≡ s))
 only-open 𝓤 H κs A m n a b x y r s = agree 𝓤 (λ p q. p ∙ sym q)
 
-only-octet : {M : Type 1} (𝓤 : URA M) (H : _) (κs : _) (A : _) (m : _) (n : _) (a x : _) (r s : _)
-    → ent 𝓤 (conj 𝓤 (octet.ensures-1 𝓤 H κs A m n a x r) (octet.ensures-1 𝓤 H κs A m n a x s)) (fact 𝓤 (r ≡ s))
-only-octet 𝓤 H κs A m n a x r s = agree 𝓤 (λ p q. p ∙ sym q)
-
-only-word : {M : Type 1} (𝓤 : URA M) (H : _) (κs : _) (A : _) (m : _) (n : _) (a x : _) (r s : _)
-    → ent 𝓤 (conj 𝓤 (word.ensures-1 𝓤 H κs A m n a x r) (word.ensures-1 𝓤 H κs A m n a x s)) (fact 𝓤 (r ≡ s))
-only-word 𝓤 H κs A m n a x r s = agree 𝓤 (λ p q. p ∙ sym q)
+only-field : {M : Type 1} (𝓤 : URA M) (H : _) (κs : _) (A : _) (m : _) (n : _) (a b : _) (x y : _) (r s : _)
+    → ent 𝓤 (conj 𝓤 (field.ensures-1 𝓤 H κs A m n a b x y r) (field.ensures-1 𝓤 H κs A m n a b x y s)) (fact 𝓤 (r ≡ s))
+only-field 𝓤 H κs A m n a b x y r s = agree 𝓤 (λ p q. p ∙ sym q)

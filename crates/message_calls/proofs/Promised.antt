@@ -1,7 +1,15 @@
--- The promises of specs/Promises.antt: they say what a reader's octets are, and the definitions compute to it.
+-- The promises of specs/Promises.antt: what stands at the front of the octets from a place on is what stands there.
 use mathlib.Core.Path.{refl}
 use native.Mathlib.Omega.{arith}
+use denote.Ref.{now}
+use Rattle.message.proofs.Values.{value-one, value-two}
 use Rattle.message_calls.specs.Promises.{ReaderReads}
 
 pub reader-reads : ReaderReads
-reader-reads = record { octets = λ info at. refl; place = λ info at. refl; octet = λ r. refl; word = λ r. omega arith }
+reader-reads =
+    record {
+      octets = λ info at. refl;
+      place = λ info at. refl;
+      octet = λ r. value-one (now (r .src)) (r .at);
+      word = λ r. omega (arith, value-two (now (r .src)) (r .at));
+    }

@@ -7,12 +7,10 @@ use native.Mathlib.Decide.{decLt}
 use native.Mathlib.Nat.{add-zero}
 use native.Mathlib.Numerals.{add-one}
 use native.Mathlib.Omega.{arith}
-use borrow.Author.Tests.{leb-true}
 use lib.Dec.{leb}
 use lib.ListN.{length, getD}
 use lib.Seq.{drop-cons, drop-drop, getD-drop, take-add}
 use Rattle.octets.specs.Choice.{both}
-use Rattle.octets.proofs.Laws.{both-left, both-right}
 use Rattle.octets.proofs.Every.{every, every-at}
 use Rattle.message.specs.declared.layout.Field.{Field}
 use Rattle.message.specs.declared.layout.LayoutLine.{LayoutLine}
@@ -21,6 +19,7 @@ use Rattle.message.specs.Layouts.{Layout, layouts, noLayout, layoutAt, kFits, l
 use Rattle.message.specs.Table.{table, tableLen, cut, keptBy, Kept}
 use Rattle.message.specs.Values.{fieldsMost}
 use Rattle.message.proofs.Layouts.{length-cut}
+use Rattle.message.proofs.Ranges.{both-le}
 use Rattle.message_calls.specs.declared.walk.Walk.{Walk}
 use Rattle.message_calls.specs.Walk.{fieldsFrom, fieldsAhead, Walking, AtPlace}
 
@@ -72,33 +71,27 @@ module _ (y : LayoutLine) where
 abbrev repeating : Layout → Bool
 repeating y = both (leb (length (y .group)) (fieldsMost * y .fewest)) (leb (y .most) (kMost * length (y .group)))
 
-repeating-at : (l : ℕ) → repeating (layoutAt l) ≡ true
+repeating-at : (l : ℕ) → (let y = layoutAt l in (length (y .group) ≤ fieldsMost * y .fewest) × (y .most ≤ kMost * length (y .group)))
 unfolding layouts layoutAt every
-repeating-at l = every-at repeating layouts l noLayout refl (λ _. refl)
+repeating-at l = both-le _ _ _ _ (every-at repeating layouts l noLayout refl (λ _. refl))
 
 -- the walk from a layout's first row on, for k
 module _ {l : ℕ} {y : LayoutLine} (h : Kept l y) (k : ℕ) (f : kFits (layoutAt l) k ≡ true) where
   group-length : y .group ≡ length (layoutAt l .group)
   group-length = sym (length-cut (first y) (y .group) (omega (arith, h .inside))) ∙ ap (λ (l : Layout). length (l .group)) (h .is)
 
-  once : k ≡ 0 → y .group ≡ 0
-  once e =
-      let g = layoutAt l in
-      let t = leb-true (length (g .group)) (fieldsMost * g .fewest) (both-left _ (leb (g .most) (kMost * length (g .group))) (repeating-at l)) in
-      omega (arith, group-length, leb-true (g .fewest) k (both-left _ (leb k (g .most)) f))
-
-  again : 0 < k → 0 < y .group
-  again p =
-      let g = layoutAt l in
-      let t = leb-true (g .most) (kMost * length (g .group)) (both-right (leb (length (g .group)) (fieldsMost * g .fewest)) _ (repeating-at l)) in
-      omega (arith, group-length, leb-true k (g .most) (both-right (leb (g .fewest) k) _ f))
+  counted : (k ≡ 0 → y .group ≡ 0) × (0 < k → 0 < y .group)
+  counted =
+      let r = repeating-at l in
+      let t = both-le (layoutAt l .fewest) k k (layoutAt l .most) f in
+      (λ e. omega (arith, group-length), λ p. omega (arith, group-length))
 
   pub start-stands : AtPlace (rowsAt l k) 0 (record { row = y .from; rounds = k; first = first y; after = after y; end = end y })
   unfolding rowsAt
   start-stands =
       record {
-        walking = record { ends = omega arith; inside = h .inside; again = λ p. (omega (arith, again (omega arith)), omega (arith, again (omega arith))) };
-        ahead = rw (← h .is) (sym (layout-ahead y k once));
+        walking = record { ends = omega arith; inside = h .inside; again = λ p. let g = counted .1 (omega arith) in (omega arith, omega arith) };
+        ahead = rw (← h .is) (sym (layout-ahead y k (counted .0)));
       }
 
 -- A step

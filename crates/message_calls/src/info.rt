@@ -2,7 +2,7 @@
 ghost use mathlib.Core.Path.{_≡_};
 ghost use lib.ListN.{drop};
 ghost use Rattle.message.specs.Fields.{valueOf};
-ghost use Rattle.message_calls.specs.Info.{readerAt, nextOctet, nextWord};
+ghost use Rattle.message_calls.specs.Info.{readerAt, nextField};
 
 // The octets, and the place at which the next field stands.
 pub struct Reader<'a> {
@@ -17,28 +17,26 @@ impl<'a> Reader<'a> {
         Reader { src: info, at }
     }
 
-    // The next octet; one that is not there is 0.
-    pub fn octet(self) -> u8
-        ensures { λ r. ⌜ r ≡ nextOctet (self .entry) ⌝ }
+    // The field at its place: one octet, or where marked two as one number, high octet first; what is not there is 0.
+    pub fn field(self, two: bool) -> u16
+        ensures { λ r. ⌜ r ≡ nextField (self .entry) two ⌝ }
     {
-        octets::octet_at(self.src, self.at)
+        field_in(self.src, self.at, two)
     }
+}
 
-    // The next two octets as one number, high octet first.
-    pub fn word(self) -> u16
-        ensures { λ r. ⌜ r ≡ nextWord (self .entry) ⌝ }
-    {
-        octets::word_at(self.src, self.at)
+fn field_in(src: &[u8], at: usize, two: bool) -> u16
+    ensures { λ r. ⌜ r ≡ nextField (readerAt (src .entry) at) two ⌝ }
+{
+    if two {
+        return octets::word_at(src, at);
     }
+    octets::octet_at(src, at) as u16
 }
 
 // The value of the field that stands at a place. Its parameters are plain: whoever reads a field calls it.
 pub(crate) fn value_at(info: &[u8], at: usize, two: bool) -> u16
     ensures { λ r. ⌜ r ≡ valueOf two (drop at (now (info .entry))) ⌝ }
 {
-    let r = Reader::open(info, at);
-    if two {
-        return r.word();
-    }
-    r.octet() as u16
+    Reader::open(info, at).field(two)
 }

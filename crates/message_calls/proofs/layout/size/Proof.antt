@@ -39,15 +39,5 @@ returns c = let h = whole c in (h .0, omega arith)
 
 pub size-spec : {M : Type 1} → statement M
 size-spec =
-    tie.close
-    (tie.spec
-    (λ c κs. search needs)
-    (λ c. search needs)
-    (λ c κs. search needs)
-    (λ c. search needs)
-    (λ c κs. search needs)
-    add-once
-    (λ c κs. search needs)
-    mul-result
-    add-result
-    returns)
+    tie.close (tie.spec (λ c κs. search needs) (λ c. search needs) (λ c κs. search needs) (λ c. search needs) (λ c κs. search needs) add-once
+    (λ c κs. search needs) mul-result add-result returns)

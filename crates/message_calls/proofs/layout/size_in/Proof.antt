@@ -46,17 +46,5 @@ returns c =
 
 pub size-in-spec : {M : Type 1} → statement M
 size-in-spec =
-    tie.close
-    (tie.spec
-    Inv-loop
-    μ-loop
-    (λ c. (search needs, search needs, search needs))
-    (λ c. search needs)
-    (λ c κs. search needs)
-    (λ c κs. search needs)
-    (λ c κs. search needs)
-    add-size
-    (λ c. search needs)
-    (λ c. search needs)
-    loop-again
-    returns)
+    tie.close (tie.spec Inv-loop μ-loop (λ c. (search needs, search needs, search needs)) (λ c. search needs) (λ c κs. search needs)
+    (λ c κs. search needs) (λ c κs. search needs) add-size (λ c. search needs) (λ c. search needs) loop-again returns)

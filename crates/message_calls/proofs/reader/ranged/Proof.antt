@@ -29,14 +29,5 @@ returns-2 c =
 
 pub ranged-spec : {M : Type 1} → statement M
 ranged-spec =
-    tie.close
-    (tie.spec
-    (λ c κs. search needs)
-    (λ c. search needs)
-    (λ c κs. search needs)
-    cast-refused
-    (λ c κs. search needs)
-    returns
-    (λ c κs. search needs)
-    (λ c κs. search needs)
-    returns-2)
+    tie.close (tie.spec (λ c κs. search needs) (λ c. search needs) (λ c κs. search needs) cast-refused (λ c κs. search needs) returns
+    (λ c κs. search needs) (λ c κs. search needs) returns-2)

@@ -61,22 +61,6 @@ returns c =
 
 pub values-spec : {M : Type 1} → statement M
 values-spec =
-    tie.close
-    (tie.spec
-    Inv-loop
-    μ-loop
-    (λ c κs. search needs)
-    (λ c κs. search needs)
-    loop-holds
-    (λ c κs. c .before .loop .inv .3 .walking)
-    (λ c κs. search needs)
-    (λ c κs. search needs)
-    (λ c. search needs)
-    (λ c. search needs)
-    (λ c κs. search needs)
-    add-at
-    (λ c κs. c .before .before .before .before .before .loop .inv .3 .walking)
-    (λ c. search needs)
-    (λ c. search needs)
-    loop-again
-    returns)
+    tie.close (tie.spec Inv-loop μ-loop (λ c κs. search needs) (λ c κs. search needs) loop-holds (λ c κs. c .before .loop .inv .3 .walking)
+    (λ c κs. search needs) (λ c κs. search needs) (λ c. search needs) (λ c. search needs) (λ c κs. search needs) add-at
+    (λ c κs. c .before .before .before .before .before .loop .inv .3 .walking) (λ c. search needs) (λ c. search needs) loop-again returns)

@@ -60,21 +60,7 @@ returns c =
 
 pub put-fields-spec : {M : Type 1} → statement M
 put-fields-spec =
-    tie.close
-    (tie.spec
-    Inv-loop
-    μ-loop
-    (λ c κs. search needs)
-    (λ c κs. search needs)
-    (λ c. (search needs, refl, refl, c .start .ensures, refl))
-    (λ c κs. c .before .loop .inv .3 .walking)
-    (λ c κs. search needs)
-    (λ c. search needs)
-    (λ c. search needs)
-    (λ c κs. search needs)
-    (λ c κs. c .before .before .before .before .before .before .before .loop .inv .3 .walking)
-    (λ c. search needs)
-    (λ c. search needs)
-    loop-again
-    (λ c. search needs)
-    returns)
+    tie.close (tie.spec Inv-loop μ-loop (λ c κs. search needs) (λ c κs. search needs) (λ c. (search needs, refl, refl, c .start .ensures, refl))
+    (λ c κs. c .before .loop .inv .3 .walking) (λ c κs. search needs) (λ c. search needs) (λ c. search needs) (λ c κs. search needs)
+    (λ c κs. c .before .before .before .before .before .before .before .loop .inv .3 .walking) (λ c. search needs) (λ c. search needs) loop-again
+    (λ c. search needs) returns)

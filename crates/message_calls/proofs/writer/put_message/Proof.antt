@@ -53,13 +53,5 @@ returns-2 c =
 
 pub put-message-spec : {M : Type 1} → statement M
 put-message-spec =
-    tie.close
-    (tie.spec
-    (λ c κs. search needs)
-    (λ c. search needs)
-    (λ c κs. search needs)
-    returns
-    (λ c κs. search needs)
-    put-fields-requires
-    (λ c. search needs)
-    returns-2)
+    tie.close (tie.spec (λ c κs. search needs) (λ c. search needs) (λ c κs. search needs) returns (λ c κs. search needs) put-fields-requires
+    (λ c. search needs) returns-2)
