@@ -2,7 +2,7 @@
 use Prim.Native.Nat.{ℕ, zero, suc, _+_, _*_, _≤_, _<_}
 use mathlib.Core.Path.{_≡_, refl, sym, ap, _∙_}
 use mathlib.Core.Bool.{Bool}
-use mathlib.Core.List.{List}
+use mathlib.Core.List.{List, _++_}
 use native.Mathlib.Nat.{mul-le-mul-right, zero-mul, suc-mul}
 use native.Mathlib.Omega.{arith}
 use lib.Dec.{leb}
@@ -24,6 +24,13 @@ pub length-repeated : (k : ℕ) (g : List Field) → length (repeated k g) ≡ k
 length-repeated zero g = sym (zero-mul (length g))
 length-repeated (suc k) g = omega (arith, length-append g (repeated k g), length-repeated k g, suc-mul k (length g))
 
+module _ (hs g t : List Field) (k : ℕ) where
+  pub rows-length : length (hs ++ (repeated k g ++ t)) ≡ length hs + k * length g + length t
+  rows-length = simp (length-append, length-repeated) (omega arith)
+
+  pub rows-octets : sizeOf (hs ++ (repeated k g ++ t)) ≡ sizeOf hs + k * sizeOf g + sizeOf t
+  rows-octets = rw (size-append, size-append, size-repeated) (omega arith)
+
 -- the rows of a layout, as the code's table keeps them
 module _ (from n : ℕ) (h : from + n ≤ tableLen) where
   pub length-cut : length (cut from n) ≡ n
@@ -33,20 +40,6 @@ module _ (from n : ℕ) (h : from + n ≤ tableLen) where
   pub cut-at : (i : ℕ) → i < n → getD (cut from n) i noField ≡ getD table (from + i) noField
   unfolding cut
   cut-at i l = rw (getD-take, getD-drop)
-
-module _ (y : LayoutLine) (k : ℕ) (h : y .from + y .head + y .group + y .tail ≤ tableLen) where
-  head-len : length (cut (y .from) (y .head)) ≡ y .head
-  head-len = length-cut (y .from) (y .head) (omega arith)
-
-  group-len : length (cut (y .from + y .head) (y .group)) ≡ y .group
-  group-len = length-cut (y .from + y .head) (y .group) (omega arith)
-
-  tail-len : length (cut (y .from + y .head + y .group) (y .tail)) ≡ y .tail
-  tail-len = length-cut (y .from + y .head + y .group) (y .tail) (omega arith)
-
-  pub rows-len : y .head + k * y .group + y .tail ≡ length (layoutRows (keptBy y) k)
-  unfolding layoutRows
-  rows-len = simp (length-append, length-repeated, head-len, group-len, tail-len) (omega arith)
 
 -- The code's lines
 
@@ -70,12 +63,16 @@ module _ {l : ℕ} {y : LayoutLine} (h : Kept l y) (k : ℕ) where
   kept-fits = rw (← h .is)
 
   pub kept-len : y .head + k * y .group + y .tail ≡ length (rowsAt l k)
-  unfolding rowsAt
-  kept-len = rw (← h .is) (rows-len y k (h .inside))
+  unfolding rowsAt layoutRows
+  kept-len =
+      let a = length-cut (y .from) (y .head) (omega (arith, h .inside)) in
+      let b = length-cut (y .from + y .head) (y .group) (omega (arith, h .inside)) in
+      let c = length-cut (y .from + y .head + y .group) (y .tail) (omega (arith, h .inside)) in
+      rw (← h .is, rows-length, a, b, c)
 
   pub kept-size : sizeOf (cut (y .from) (y .head)) + sizeOf (cut (y .from + y .head + y .group) (y .tail)) + k * sizeOf (cut (y .from + y .head) (y .group)) ≡ sizeOf (rowsAt l k)
   unfolding rowsAt layoutRows
-  kept-size = rw (← h .is, size-append, size-append, size-repeated) (omega arith)
+  kept-size = rw (← h .is, rows-octets) (omega arith)
 
 -- What holds of every layout
 
@@ -86,13 +83,9 @@ pub fitting-at : (l : ℕ) → (let y = layoutAt l in (length (y .head) + y .mos
 unfolding layouts layoutAt every
 fitting-at l = both-le _ _ _ _ (every-at fitting layouts l noLayout refl (λ _. refl))
 
-pub rows-length : (y : specified.Layout) (k : ℕ) → length (layoutRows y k) ≡ length (y .head) + k * length (y .group) + length (y .tail)
-unfolding layoutRows
-rows-length y k = simp (length-append, length-repeated) (omega arith)
-
 pub rows-most : (l k : ℕ) → k ≤ mostAt l → length (rowsAt l k) ≤ fieldsMost
-unfolding rowsAt
-rows-most l k h = omega (arith, fitting-at l .0, rows-length (layoutAt l) k, mul-le-mul-right (length (layoutAt l .group)) h)
+unfolding rowsAt layoutRows
+rows-most l k h = let y = layoutAt l in omega (arith, fitting-at l .0, rows-length (y .head) (y .group) (y .tail) k, mul-le-mul-right (length (y .group)) h)
 
 pub rows-size : (l k : ℕ) → k ≤ mostAt l → sizeOf (rowsAt l k) ≤ 2 * fieldsMost
 rows-size l k h = omega (arith, size-most (rowsAt l k), rows-most l k h)

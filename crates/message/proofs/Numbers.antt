@@ -16,7 +16,7 @@ use Rattle.message.specs.Fields.{noField}
 use Rattle.message.specs.Layouts.{layouts, layoutAt, numberOf, rowsAt, layoutRows, repeated, times, greens, cycleOffset}
 use Rattle.message.specs.Values.{sizeOf, fieldStart}
 use Rattle.message.specs.Promises.{listed, CodesListed, FieldStands, AnswerFields, RefusalFields, PhaseFields, GreenFields, TimesFields, PlanFields, OnePlan, FieldNumbers, NamesAsSaid, StoredParts}
-use Rattle.message.proofs.Layouts.{length-repeated}
+use Rattle.message.proofs.Layouts.{length-repeated, rows-length, rows-octets}
 use Rattle.message.proofs.Values.{size-append, size-repeated}
 
 pub codes-listed : CodesListed
@@ -61,12 +61,6 @@ module _ (hs g t : List Field) (k : ℕ) where
   abbrev rows : List Field
   rows = hs ++ (repeated k g ++ t)
 
-  many : length rows ≡ length hs + k * length g + length t
-  many = omega (arith, length-append hs (repeated k g ++ t), length-append (repeated k g) t, length-repeated k g)
-
-  size : sizeOf rows ≡ sizeOf hs + k * sizeOf g + sizeOf t
-  size = omega (arith, size-append hs (repeated k g ++ t), size-append (repeated k g) t, size-repeated g k)
-
   in-head : (j : ℕ) → j < length hs → FieldStands rows (j + 1) (getD hs j noField) (fieldStart hs j)
   in-head j l = before (stands hs j l) (repeated k g ++ t)
 
@@ -105,8 +99,8 @@ module _ (least k : ℕ) where
   times-fields : TimesFields least k (timesHead ++ (repeated k times ++ []))
   times-fields =
       record {
-        many = omega (arith, many timesHead times [] k);
-        size = omega (arith, size timesHead times [] k);
+        many = omega (arith, rows-length timesHead times [] k);
+        size = omega (arith, rows-octets timesHead times [] k);
         planned = in-head timesHead times [] k 0 (omega arith);
         count = in-head timesHead times [] k 1 (omega arith);
         phase = λ i h. phase timesHead k i h (omega arith) (omega arith);
@@ -118,8 +112,8 @@ module _ (least k : ℕ) where
   plan-fields : PlanFields least k (planHead ++ (repeated k greens ++ cycleOffset))
   plan-fields =
       record {
-        many = omega (arith, many planHead greens cycleOffset k);
-        size = omega (arith, size planHead greens cycleOffset k);
+        many = omega (arith, rows-length planHead greens cycleOffset k);
+        size = omega (arith, rows-octets planHead greens cycleOffset k);
         planned = in-head planHead greens cycleOffset k 0 (omega arith);
         direct = in-head planHead greens cycleOffset k 1 (omega arith);
         order = in-head planHead greens cycleOffset k 2 (omega arith);
@@ -190,10 +184,10 @@ unfolding numberOf firstOf layouts layoutAt rowsAt layoutRows
 stored-parts k =
     record {
       times = refl;
-      timesSize = omega (arith, size [] times [] k);
+      timesSize = omega (arith, rows-octets [] times [] k);
       phase = λ i h. phase [] k i h (omega arith) (omega arith);
       plan = refl;
-      planSize = omega (arith, size storedHead greens cycleOffset k);
+      planSize = omega (arith, rows-octets storedHead greens cycleOffset k);
       direct = in-head storedHead greens cycleOffset k 0 (omega arith);
       order = in-head storedHead greens cycleOffset k 1 (omega arith);
       greens = green storedHead k refl refl;

@@ -82,16 +82,15 @@ reading-undoes-writing m at out long e = back (written-so m at out (writeMessage
 
 -- Writing undoes reading
 
-info-is : (a b : ℕ) (os : List ℕ) → Octets (a ∷ b ∷ os) → (h : Accepted (a ∷ b ∷ os) (readOf (a ∷ b ∷ os))) → infoOf (readPart (a ∷ b ∷ os) h) ≡ a ∷ b ∷ os
-unfolding infoAs partOf
-info-is a b os o h =
-    let i = a ∷ b ∷ os in
-    rw (rows-is i h, code-is i h, high-word a b (o .1 .0), low-word a b (o .1 .0), octets-same (readRows i h) (placed (readValues i h)) (readValues i h) (placed-at (readValues i h)), octets-back (readRows i h) os (h .right .octets) (o .1 .1))
-
 info-back : (info : List ℕ) → Octets info → (h : Accepted info (readOf info)) → infoOf (readPart info h) ≡ info
+unfolding infoAs partOf
 info-back [] o h = absurd (omega (arith, h .long))
 info-back (a ∷ []) o h = absurd (omega (arith, h .long))
-info-back (a ∷ b ∷ os) o h = info-is a b os o h
+info-back (a ∷ b ∷ os) o h =
+    let i = a ∷ b ∷ os in
+    let vs = readValues i h in
+    rw (rows-is i h, code-is i h, high-word a b (o .1 .0), low-word a b (o .1 .0), octets-same (readRows i h) (placed vs) vs (placed-at vs))
+    (rw (octets-back (readRows i h) os (h .right .octets) (o .1 .1)))
 
 pub writing-undoes-reading : WritingMessagesUndoesReading
 writing-undoes-reading info at out o e r =

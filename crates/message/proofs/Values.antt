@@ -4,13 +4,11 @@ use mathlib.Core.Path.{_≡_, refl, sym, ap, _∙_}
 use mathlib.Core.Bool.{Bool, true, false}
 use mathlib.Core.List.{List, [], _∷_, _++_}
 use native.Mathlib.Nat.{add-zero, zero-mul, suc-mul}
-use native.Mathlib.Decide.{decLt}
 use native.Mathlib.Numerals.{add-one}
 use native.Mathlib.Omega.{arith}
-use lib.ListN.{drop-of-length-le, replicate, set, length, getD, drop, length-append, length-replicate, List·getD-append, List·getD-eq-default}
-use lib.Seq.{sets, sets-eq, drop-drop, drop-cons, getD-drop}
+use lib.ListN.{drop-of-length-le, replicate, set, length, getD, drop, length-append, length-replicate, replicate-append-replicate, List·getD-eq-default}
+use lib.Seq.{sets, sets-eq, drop-at, drop-drop, drop-cons, getD-drop}
 use Rattle.octets.specs.Word.{wordOf}
-use Rattle.octets.proofs.Laws.{getD-past}
 use Rattle.message.specs.declared.layout.Field.{Field}
 use Rattle.message.specs.Fields.{noField, twoOf, widthOf, valueOf}
 use Rattle.message.specs.Layouts.{repeated}
@@ -70,28 +68,19 @@ module _ (fs : List Field) (os v : List ℕ) (i at x : ℕ) (t : Bool) (h : i < 
 
 -- A list, and 0 in the places past its end, up to n of them
 
-drop-same : (x n m : ℕ) → drop m (replicate n x) ≡ replicate (n - m) x
-drop-same x n zero = let e : n ≡ n - 0 = omega arith in ap (λ (k : ℕ). replicate k x) e
-drop-same x zero (suc m) = let e : 0 ≡ 0 - suc m = omega arith in ap (λ (k : ℕ). replicate k x) e
-drop-same x (suc n) (suc m) = let e : n - m ≡ suc n - suc m = omega arith in drop-same x n m ∙ ap (λ (k : ℕ). replicate k x) e
-
-getD-same : (x n i : ℕ) → getD (replicate n x) i x ≡ x
-getD-same x zero i = refl
-getD-same x (suc n) zero = refl
-getD-same x (suc n) (suc i) = getD-same x n i
+padded : (vs : List ℕ) (m j : ℕ) → getD (vs ++ replicate m 0) j 0 ≡ getD vs j 0
+padded [] zero j = refl
+padded [] (suc m) zero = refl
+padded [] (suc m) (suc j) = padded [] m j
+padded (v ∷ vs) m zero = refl
+padded (v ∷ vs) m (suc j) = padded vs m j
 
 module _ (n : ℕ) (vs : List ℕ) where
   abbrev filled : List ℕ
   filled = vs ++ replicate (n - length vs) 0
 
   pub filled-at : (j : ℕ) → getD filled j 0 ≡ getD vs j 0
-  filled-at j = by (decLt j (length vs))
-    where
-      by : Dec (j < length vs) → getD filled j 0 ≡ getD vs j 0
-      by (yes l) = List·getD-append vs (replicate (n - length vs) 0) 0 j l
-      by (no g) =
-          let h : length vs ≤ j = omega arith in
-          getD-past vs (replicate (n - length vs) 0) 0 j h ∙ getD-same 0 (n - length vs) (j - length vs) ∙ sym (List·getD-eq-default vs 0 h)
+  filled-at j = padded vs (n - length vs) j
 
   module _ (h : length vs ≤ n) where
     pub filled-long : length filled ≡ n
@@ -99,8 +88,11 @@ module _ (n : ℕ) (vs : List ℕ) where
 
     pub filled-is : sets (replicate n 0) 0 vs ≡ filled
     filled-is =
-        let e : 0 + length vs ≡ length vs = omega arith in
-        sets-eq vs (replicate n 0) 0 (omega (arith, length-replicate {A = ℕ} n 0)) ∙ rw e (ap (λ (l : List ℕ). vs ++ l) (drop-same 0 n (length vs)))
+        let m = length vs in
+        let z : 0 + m ≡ m = omega arith in
+        let e : m + (n - m) ≡ n = omega arith in
+        let d = rw (replicate-append-replicate, e) at (drop-at {A = ℕ} (replicate m 0) (replicate (n - m) 0) m (length-replicate m 0)) in
+        sets-eq vs (replicate n 0) 0 (omega (arith, length-replicate {A = ℕ} n 0)) ∙ rw (z, d)
 
 pub placed-is : (vs : List ℕ) → length vs ≤ fieldsMost → sets zeros 0 vs ≡ placed vs
 unfolding placed zeros
