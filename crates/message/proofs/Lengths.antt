@@ -1,18 +1,18 @@
 -- Which lengths are refused 11, code by code: a code's layout, its count and its size are computed, and the reader's law does the rest.
-use Prim.Native.Nat.{ℕ, zero, suc, _+_, _*_, _<_}
+use Prim.Native.Nat.{ℕ, _+_, _*_}
 use mathlib.Core.Path.{_≡_, refl, sym, ap, _∙_}
-use mathlib.Core.List.{List, [], _∷_}
+use mathlib.Core.List.{List, _∷_}
 use native.Mathlib.Omega.{arith}
 use lib.ListN.{length}
 use Rattle.octets.specs.First.{firstOf}
-use Rattle.octets.specs.Octet.{Octets}
 use Rattle.message.specs.declared.Read.{Read}
 use Rattle.message.specs.Layouts.{layouts, layoutAt, known, numberOf, rowsAt, layoutRows}
-use Rattle.message.specs.Values.{sizeOf, valuesOf}
-use Rattle.message.specs.Reader.{kIn, partOf, readOf}
+use Rattle.message.specs.Values.{sizeOf, zeros, placed, firstOut}
+use Rattle.message.specs.Reader.{noMessage, notRead, kIn, partOf, rangedOf, readPartOf, readOf}
 use Rattle.message.specs.Counts.{CountAt, NoCount}
-use Rattle.message.specs.Promises.{fieldsOf, refusedReading, messageRead, HasLayout, RightLength, RightAt, unknown, wrongLength, outOfRange, accepted, Judged, short, body, LengthOf, CountFixes, LengthsAsSaid, AnswersTakeAny}
+use Rattle.message.specs.Promises.{refusedReading, HasLayout, RightLength, unknown, wrongLength, outOfRange, accepted, Judged, short, body, LengthOf, CountFixes, LengthsAsSaid, AnswersTakeAny}
 use Rattle.message.proofs.Numbers.{field-numbers}
+use Rattle.message.proofs.Ranges.{le-both}
 use Rattle.message.proofs.Counts.{counts-as-said}
 use Rattle.message.proofs.ReadSo.{known-in, read-so}
 
@@ -41,10 +41,6 @@ module _ (high low : ℕ) where
         by os r (body h (wrongLength _ n)) e = n (to os r)
         by os r (body h (outOfRange n _ _ w)) e = omega arith
         by os r (body h (accepted _ _ a)) e = omega arith
-
-    read-right : (os : List ℕ) → RightLength l (k os) os → ((j : ℕ) → j < length (rowsAt l (k os)) → RightAt (rowsAt l (k os)) (valuesOf (rowsAt l (k os)) os) j)
-        → readOf (high ∷ low ∷ os) .refusal ≡ 0
-    read-right os r a = ap (λ (r : Read). r .refusal) (sym (read-so (high ∷ low ∷ os) (messageRead (partOf l (k os) os)) .0 (body (omega arith) (accepted kn r a))))
 
     -- no field is repeated, so k is 0
     plain : {n : ℕ} → NoCount c → sizeOf (rowsAt l 0) ≡ n → LengthOf high low (λ os. length os ≡ n)
@@ -78,23 +74,12 @@ lengths-as-said =
     }
 
 -- every value that fits its octets is in range
-any-code : (a b : ℕ) → Octets (a ∷ b ∷ []) → (j : ℕ) → j < 1 → RightAt (fieldsOf 0x0F80 0) (valuesOf (fieldsOf 0x0F80 0) (a ∷ b ∷ [])) j
-unfolding numberOf firstOf layouts layoutAt rowsAt layoutRows
-any-code a b o zero h = (omega arith, omega (arith, o .0, o .1 .0))
-any-code a b o (suc j) h = absurd (omega arith)
-
-any-refusal : (a b e p : ℕ) → Octets (a ∷ b ∷ e ∷ p ∷ []) → (j : ℕ) → j < 3 → RightAt (fieldsOf 0x0F81 0) (valuesOf (fieldsOf 0x0F81 0) (a ∷ b ∷ e ∷ p ∷ [])) j
-unfolding numberOf firstOf layouts layoutAt rowsAt layoutRows
-any-refusal a b e p o zero h = (omega arith, omega (arith, o .0, o .1 .0))
-any-refusal a b e p o (suc zero) h = (omega arith, omega (arith, o .1 .1 .0))
-any-refusal a b e p o (suc (suc zero)) h = (omega arith, omega (arith, o .1 .1 .1 .0))
-any-refusal a b e p o (suc (suc (suc j))) h = absurd (omega arith)
-
 pub answers-take-any : AnswersTakeAny
-unfolding numberOf firstOf layouts layoutAt known rowsAt layoutRows
+unfolding numberOf firstOf layouts layoutAt known rowsAt layoutRows zeros placed firstOut noMessage notRead partOf rangedOf readPartOf readOf
 answers-take-any =
     record {
-      carriedOut = λ a b o. read-right 0x0F 0x80 (known-in 1 refl) (a ∷ b ∷ []) (record { fewest = omega arith; most = omega arith; octets = refl }) (any-code a b o);
+      carriedOut = λ a b o. rw (le-both 0 (a * 256 + b) (a * 256 + b) 65535 (omega arith, omega (arith, o .0, o .1 .0)), firstOf);
       refused = λ a b e p o.
-          read-right 0x0F 0x81 (known-in 2 refl) (a ∷ b ∷ e ∷ p ∷ []) (record { fewest = omega arith; most = omega arith; octets = refl }) (any-refusal a b e p o);
+          rw (le-both 0 (a * 256 + b) (a * 256 + b) 65535 (omega arith, omega (arith, o .0, o .1 .0)), firstOf)
+          (rw (le-both 0 e e 255 (omega arith, omega (arith, o .1 .1 .0)), firstOf) (rw (le-both 0 p p 255 (omega arith, omega (arith, o .1 .1 .1 .0)), firstOf)));
     }
