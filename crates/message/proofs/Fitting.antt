@@ -9,7 +9,6 @@ use borrow.Author.Tests.{leb-true}
 use lib.Dec.{leb}
 use lib.ListN.{length, getD, take, drop, length-drop, List·getD-eq-default}
 use lib.Seq.{ext-getD, getD-take, getD-drop, length-take-le}
-use Rattle.octets.specs.Choice.{both}
 use Rattle.octets.specs.Octet.{Octets}
 use Rattle.octets.specs.Word.{lowOf}
 use Rattle.octets.proofs.Laws.{both-left, both-right, octets-append, octets-drop, word-back, high-word, low-word}
@@ -17,8 +16,7 @@ use Rattle.octets.proofs.Every.{every, every-at}
 use Rattle.message.specs.declared.layout.Field.{Field}
 use Rattle.message.specs.declared.layout.Field.the-variants.{Octet, Two, Order}
 use Rattle.message.specs.Fields.{twoOf, widthOf, valueOf, fieldOctets, noField}
-use Rattle.message.specs.Layouts as specified
-use Rattle.message.specs.Layouts.{layouts, layoutAt, noLayout, layoutRows, rowsAt, repeated}
+use Rattle.message.specs.Layouts.{Layout, layouts, layoutAt, noLayout, layoutRows, rowsAt, repeated}
 use Rattle.message.specs.Values.{fieldsMost, sizeOf, valuesOf, octetsOf, placed}
 use Rattle.message.specs.Promises.{InRange, RightAt}
 use Rattle.message.proofs.Values.{filled-long}
@@ -50,23 +48,15 @@ unfolding every
 every-repeated zero g h = refl
 every-repeated (suc k) g h = every-append g (repeated k g) h (every-repeated k g h)
 
-abbrev narrowAll : specified.Layout → Bool
-narrowAll y = both (every narrow (y .head)) (both (every narrow (y .group)) (every narrow (y .tail)))
-
-narrow-layout : (l : ℕ) → narrowAll (layoutAt l) ≡ true
-unfolding layouts layoutAt every
-narrow-layout l = every-at narrowAll layouts l noLayout refl (λ _. refl)
+narrow-part : (part : Layout → List Field) (l : ℕ) → every (λ y. every narrow (part y)) layouts ≡ true → every narrow (part noLayout) ≡ true → every narrow (part (layoutAt l)) ≡ true
+unfolding layoutAt
+narrow-part part l t n = every-at (λ y. every narrow (part y)) layouts l noLayout t (λ _. n)
 
 narrow-rows : (l k : ℕ) → every narrow (rowsAt l k) ≡ true
-unfolding rowsAt layoutRows
+unfolding rowsAt layoutRows layouts every
 narrow-rows l k =
-    let y = layoutAt l in
-    let a = every narrow (y .head) in
-    let b = every narrow (y .group) in
-    let c = every narrow (y .tail) in
-    let h = narrow-layout l in
-    every-append (y .head) (repeated k (y .group) ++ y .tail) (both-left a (both b c) h)
-    (every-append (repeated k (y .group)) (y .tail) (every-repeated k (y .group) (both-left b c (both-right a (both b c) h))) (both-right b c (both-right a (both b c) h)))
+    every-append (layoutAt l .head) _ (narrow-part (λ y. y .head) l refl refl)
+    (every-append (repeated k (layoutAt l .group)) _ (every-repeated k (layoutAt l .group) (narrow-part (λ y. y .group) l refl refl)) (narrow-part (λ y. y .tail) l refl refl))
 
 -- a value in range fits its field's octets
 pub Fits : List Field → List ℕ → Type 0
@@ -102,10 +92,9 @@ field-octets true v h = (omega arith, (omega arith, tt))
 pub fits-octets : (fs : List Field) (vs : List ℕ) → Fits fs vs → Octets (octetsOf fs vs)
 unfolding Fits
 fits-octets [] vs f = tt
-fits-octets (g ∷ fs) [] f =
-    octets-append (fieldOctets (twoOf g) 0) (octetsOf fs []) (field-octets (twoOf g) 0 (f 0 (omega arith))) (fits-octets fs [] (λ j l. f (suc j) (omega arith)))
-fits-octets (g ∷ fs) (v ∷ vs) f =
-    octets-append (fieldOctets (twoOf g) v) (octetsOf fs vs) (field-octets (twoOf g) v (f 0 (omega arith))) (fits-octets fs vs (λ j l. f (suc j) (omega arith)))
+fits-octets (g ∷ fs) vs f =
+    octets-append (fieldOctets (twoOf g) (getD vs 0 0)) (octetsOf fs (drop 1 vs)) (field-octets (twoOf g) (getD vs 0 0) (f 0 (omega arith)))
+    (fits-octets fs (drop 1 vs) (λ j l. let e : 1 + j ≡ suc j = omega arith in rw (getD-drop, e) (f (suc j) (omega arith))))
 
 -- the fields' values, with 0 past the last, are all of a message's values
 pub length-placed : (vs : List ℕ) → length vs ≤ fieldsMost → length (placed vs) ≡ fieldsMost

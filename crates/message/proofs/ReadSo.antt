@@ -84,13 +84,10 @@ module _ (l k : ℕ) (os : List ℕ) where
   parts-then : PartJudged l k os (readPartOf l k os)
   parts-then = by (known l) refl longRight refl
     where
-      judged : {r s : Read} → r ≡ s → PartJudged l k os r → PartJudged l k os s
-      judged e p = subst (λ (r : Read). PartJudged l k os r) e p
-
       by : (a : Bool) → known l ≡ a → (b : Bool) → longRight ≡ b → PartJudged l k os (readPartOf l k os)
-      by false e b f = judged (not-read 10 0 ∙ part-10 l k os e) (unknown (λ kn. clash e (in-known l kn)))
-      by true e false f = judged (not-read 11 0 ∙ part-11 l k os e f) (wrongLength (known-in l e) (λ r. clash f (in-right r)))
-      by true e true f = judged (part-done l k os e f) (ranged-then (known-in l e) (right f) (firstOut fs (placed vs)) refl)
+      by false e b f = rw (← (not-read 10 0 ∙ part-10 l k os e)) (unknown (λ kn. clash e (in-known l kn)))
+      by true e false f = rw (← (not-read 11 0 ∙ part-11 l k os e f)) (wrongLength (known-in l e) (λ r. clash f (in-right r)))
+      by true e true f = rw (← part-done l k os e f) (ranged-then (known-in l e) (right f) (firstOut fs (placed vs)) refl)
 
 pub parts-read-so : PartsReadSo
 parts-read-so l k os r = (parts-when l k os, λ e. rw e (parts-then l k os))
@@ -110,19 +107,14 @@ read-so info r = (when, λ e. rw e then′)
         by (no g) = let h : 2 ≤ length info = omega arith in subst (λ (r : Read). Judged info r) (read-body info h refl refl refl) (body h (parts-then _ _ _))
 
 -- what is refused 12 names the first field that is wrong
-module _ (info : List ℕ) where
-  abbrev l : ℕ
-  l = numberOf (codeWord info)
-
-  abbrev k : ℕ
-  k = kIn (layoutAt l) (afterCode info)
-
-  named : {r : Read} → Judged info r → r .refusal ≡ 12 → FirstWrong (rowsAt l k) (valuesOf (rowsAt l k) (afterCode info)) (r .field)
-  named (short h) e = absurd (omega arith)
-  named (body h (unknown n)) e = absurd (omega arith)
-  named (body h (wrongLength kn n)) e = absurd (omega arith)
-  named (body h (outOfRange n kn r w)) e = w
-  named (body h (accepted kn r a)) e = absurd (omega arith)
-
 pub first-field-named : FirstFieldNamed
-first-field-named info e = named info (read-so info (readOf info) .1 refl) e
+first-field-named info e = named (read-so info (readOf info) .1 refl) e
+  where
+    named : {r : Read} → Judged info r → r .refusal ≡ 12
+        → (let l = numberOf (codeWord info) in
+        let fs = rowsAt l (kIn (layoutAt l) (afterCode info)) in FirstWrong fs (valuesOf fs (afterCode info)) (r .field))
+    named (short h) e = absurd (omega arith)
+    named (body h (unknown n)) e = absurd (omega arith)
+    named (body h (wrongLength kn n)) e = absurd (omega arith)
+    named (body h (outOfRange n kn r w)) e = w
+    named (body h (accepted kn r a)) e = absurd (omega arith)

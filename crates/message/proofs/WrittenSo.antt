@@ -1,6 +1,6 @@
 -- The writer refuses when, and only when, 01 says so.
 use Prim.Native.Nat.{ℕ, _+_, _≤_, _<_}
-use mathlib.Core.Path.{_≡_, refl, sym, subst, _∙_}
+use mathlib.Core.Path.{_≡_, refl, sym, _∙_}
 use mathlib.Core.Bool.{Bool, true, false, not-eq-not}
 use mathlib.Core.List.{List, _++_, append-assoc}
 use native.Mathlib.Decide.{decLt}
@@ -80,13 +80,10 @@ module _ (m : Message) (at : ℕ) (out : List ℕ) where
   then′ : MessageWriteJudged m at out (writeMessage m at out)
   then′ = by (writable m) refl (decLt (length out) (at + length vs))
     where
-      judged : {v w : Writing} → v ≡ w → MessageWriteJudged m at out v → MessageWriteJudged m at out w
-      judged e p = subst (λ (w : Writing). MessageWriteJudged m at out w) e p
-
       by : (b : Bool) → writable m ≡ b → Dec (length out < at + length vs) → MessageWriteJudged m at out (writeMessage m at out)
-      by false e d = judged (write-no m at out e) (fieldWrong (λ w. clash e (in-writable m w)))
-      by true e (yes h) = judged (sym (written-9 vs out at refl (lt-leb (at + length vs) (length out) h)) ∙ write-yes m at out e) (outputShort (writable-in m e) h)
-      by true e (no g) = let h : at + length vs ≤ length out = omega arith in judged (stored-as h ∙ write-yes m at out e) (written (writable-in m e) h)
+      by false e d = rw (← write-no m at out e) (fieldWrong (λ w. clash e (in-writable m w)))
+      by true e (yes h) = rw (← (sym (written-9 vs out at refl (lt-leb (at + length vs) (length out) h)) ∙ write-yes m at out e)) (outputShort (writable-in m e) h)
+      by true e (no g) = let h : at + length vs ≤ length out = omega arith in rw (← (stored-as h ∙ write-yes m at out e)) (written (writable-in m e) h)
 
 pub written-so : MessagesWrittenSo
 written-so m at out w = (when m at out, λ e. rw e (then′ m at out))
