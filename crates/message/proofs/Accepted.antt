@@ -1,12 +1,11 @@
 -- What is not refused is a message, with the layout and the count that it was read by.
-use Prim.Native.Nat.{ℕ, zero, suc, _+_, _≤_, _<_}
+use Prim.Native.Nat.{ℕ, _+_, _-_, _≤_, _<_}
 use mathlib.Core.Path.{_≡_, refl, sym, ap, _∙_}
 use mathlib.Core.List.{List}
 use native.Mathlib.Omega.{arith}
 use borrow.Author.Tests.{eqb-true}
 use lib.Dec.{eqb}
 use lib.ListN.{length, List·getD-eq-default}
-use Rattle.octets.specs.First.{First}
 use Rattle.octets.specs.Part.{codeLen}
 use Rattle.octets.specs.Refusal as refusal
 use Rattle.octets.proofs.Search.{search-first}
@@ -45,13 +44,9 @@ accepted-in info e = accepted-as (read-so info (readOf info) .1 refl) e
 -- the layout found for a code has that code
 pub code-found : (c : ℕ) → 1 ≤ numberOf c → layoutAt (numberOf c) .code ≡ c
 unfolding numberOf
-code-found c h = by (numberOf c) (search-first (λ j. eqb (layoutAt (j + 1) .code) c) codes) h
-  where
-    by : (n : ℕ) → First (λ j. eqb (layoutAt (j + 1) .code) c) codes n → 1 ≤ n → layoutAt n .code ≡ c
-    by zero f h = absurd (omega arith)
-    by (suc i) f h =
-        let e : i + 1 ≡ suc i = omega arith in
-        rw e at (eqb-true (layoutAt (i + 1) .code) c (f .here i e))
+code-found c h =
+    let e : numberOf c - 1 + 1 ≡ numberOf c = omega arith in
+    rw e at (eqb-true (layoutAt (numberOf c - 1 + 1) .code) c (search-first (λ j. eqb (layoutAt (j + 1) .code) c) codes .here (numberOf c - 1) e))
 
 -- the message that was read has the layout and the count that it was read by
 module _ (info : List ℕ) (h : Accepted info (readOf info)) where

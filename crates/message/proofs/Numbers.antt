@@ -93,32 +93,28 @@ module _ (hs : List Field) (k : ℕ) where
       }
 
 module _ (least k : ℕ) where
-  abbrev timesHead : List Field
-  timesHead = Octet least 48 ∷ field.count ∷ []
-
-  times-fields : TimesFields least k (timesHead ++ (repeated k times ++ []))
+  times-fields : TimesFields least k (Octet least 48 ∷ field.count ∷ (repeated k times ++ []))
   times-fields =
+      let hs = Octet least 48 ∷ field.count ∷ [] in
       record {
-        many = omega (arith, rows-length timesHead times [] k);
-        size = omega (arith, rows-octets timesHead times [] k);
-        planned = in-head timesHead times [] k 0 (omega arith);
-        count = in-head timesHead times [] k 1 (omega arith);
-        phase = λ i h. phase timesHead k i h (omega arith) (omega arith);
+        many = omega (arith, rows-length hs times [] k);
+        size = omega (arith, rows-octets hs times [] k);
+        planned = in-head hs times [] k 0 (omega arith);
+        count = in-head hs times [] k 1 (omega arith);
+        phase = λ i h. phase hs k i h (omega arith) (omega arith);
       }
 
-  abbrev planHead : List Field
-  planHead = Octet least 48 ∷ field.direct ∷ field.order ∷ field.count ∷ []
-
-  plan-fields : PlanFields least k (planHead ++ (repeated k greens ++ cycleOffset))
+  plan-fields : PlanFields least k (Octet least 48 ∷ field.direct ∷ field.order ∷ field.count ∷ (repeated k greens ++ cycleOffset))
   plan-fields =
+      let hs = Octet least 48 ∷ field.direct ∷ field.order ∷ field.count ∷ [] in
       record {
-        many = omega (arith, rows-length planHead greens cycleOffset k);
-        size = omega (arith, rows-octets planHead greens cycleOffset k);
-        planned = in-head planHead greens cycleOffset k 0 (omega arith);
-        direct = in-head planHead greens cycleOffset k 1 (omega arith);
-        order = in-head planHead greens cycleOffset k 2 (omega arith);
-        count = in-head planHead greens cycleOffset k 3 (omega arith);
-        greens = green planHead k refl refl;
+        many = omega (arith, rows-length hs greens cycleOffset k);
+        size = omega (arith, rows-octets hs greens cycleOffset k);
+        planned = in-head hs greens cycleOffset k 0 (omega arith);
+        direct = in-head hs greens cycleOffset k 1 (omega arith);
+        order = in-head hs greens cycleOffset k 2 (omega arith);
+        count = in-head hs greens cycleOffset k 3 (omega arith);
+        greens = green hs k refl refl;
       }
 
 -- the layouts with no repeated field: nothing comes k times, whatever k is
@@ -176,19 +172,17 @@ names-as-said =
       offset = λ k. omega arith;
     }
 
-abbrev storedHead : List Field
-storedHead = field.direct ∷ field.order ∷ []
-
 pub stored-parts : StoredParts
 unfolding numberOf firstOf layouts layoutAt rowsAt layoutRows
 stored-parts k =
+    let hs = field.direct ∷ field.order ∷ [] in
     record {
       times = refl;
       timesSize = omega (arith, rows-octets [] times [] k);
       phase = λ i h. phase [] k i h (omega arith) (omega arith);
       plan = refl;
-      planSize = omega (arith, rows-octets storedHead greens cycleOffset k);
-      direct = in-head storedHead greens cycleOffset k 0 (omega arith);
-      order = in-head storedHead greens cycleOffset k 1 (omega arith);
-      greens = green storedHead k refl refl;
+      planSize = omega (arith, rows-octets hs greens cycleOffset k);
+      direct = in-head hs greens cycleOffset k 0 (omega arith);
+      order = in-head hs greens cycleOffset k 1 (omega arith);
+      greens = green hs k refl refl;
     }

@@ -1,74 +1,56 @@
 -- Reading undoes writing, and writing undoes reading, for every layout at once.
-use Prim.Native.Nat.{ℕ, _+_, _≤_}
+use Prim.Native.Nat.{ℕ, _+_}
 use mathlib.Core.Path.{_≡_, refl, sym, ap, subst, _∙_}
 use mathlib.Core.List.{List, [], _∷_, _++_}
 use native.Mathlib.Omega.{arith}
-use lib.ListN.{length, getD, take, drop}
+use lib.ListN.{length, take, drop}
 use lib.Seq.{length-take-le, take-at, drop-at}
 use Rattle.octets.specs.Octet.{Octets}
 use Rattle.octets.specs.Writing.{Writing}
 use Rattle.octets.proofs.Laws.{word-back, high-word, low-word}
 use Rattle.message.specs.declared.Message.{Message}
-use Rattle.message.specs.declared.layout.Field.{Field}
-use Rattle.message.specs.Layouts.{layoutAt, numberOf, rowsAt}
-use Rattle.message.specs.Values.{fieldsMost, valuesOf, octetsOf, placed, numbered}
-use Rattle.message.specs.Reader.{kIn, partOf, readOf}
-use Rattle.message.specs.Writer.{numberIn, kOfMessage, infoAs, infoOf, writeMessage}
+use Rattle.message.specs.Layouts.{numberOf}
+use Rattle.message.specs.Values.{fieldsMost, valuesOf, octetsOf, placed}
+use Rattle.message.specs.Reader.{partOf, readOf}
+use Rattle.message.specs.Writer.{infoAs, infoOf, writeMessage}
 use Rattle.message.specs.Promises.{messageRead, PartJudged, accepted, Writable, MessageWriteJudged, fieldWrong, outputShort, written, ReadingMessagesUndoesWriting, WritingMessagesUndoesReading}
-use Rattle.message.proofs.Fitting.{Fits, right-fits, values-back, placed-back, octets-back, octets-same}
+use Rattle.message.proofs.Fitting.{right-fits, values-back, placed-back, octets-back, octets-same}
 use Rattle.message.proofs.Layouts.{rows-most}
 use Rattle.message.proofs.Ranges.{placed-at, right-same}
 use Rattle.message.proofs.ReadSo.{parts-read-so}
 use Rattle.message.proofs.Reading.{k-placed, read-body}
 use Rattle.message.proofs.Writing.{length-octets}
-use Rattle.message.proofs.WrittenSo.{written-so}
+use Rattle.message.proofs.WrittenSo.{l, k, fs, written-so}
 use Rattle.message.proofs.Accepted.{Accepted, accepted-in, code-found, is-part, code-is, rows-is, again, readRows, readValues, readPart}
 
 -- Reading undoes writing
 
 module _ (m : Message) (long : length (m .values) ≡ fieldsMost) (w : Writable m) where
-  abbrev l : ℕ
-  l = numberIn m
-
-  abbrev k : ℕ
-  k = kOfMessage m
-
-  abbrev fs : List Field
-  fs = rowsAt l k
-
   abbrev os : List ℕ
-  os = octetsOf fs (m .values)
+  os = octetsOf (fs m) (m .values)
 
-  most : length fs ≤ fieldsMost
-  most = rows-most l k (w .most)
+  all : placed (valuesOf (fs m) os) ≡ m .values
+  all =
+      let most = rows-most (l m) (k m) (w .most) in
+      let fits = right-fits (l m) (k m) (m .values) (λ j h. w .ranges j (omega (arith, w .fields))) in
+      rw (values-back (fs m) (m .values) (omega (arith, long, most)) fits)
+      (placed-back (length (fs m)) (m .values) long most (λ j h p. w .rest j (omega (arith, w .fields)) p))
 
-  fits : Fits fs (m .values)
-  fits = right-fits l k (m .values) (λ j h. w .ranges j (omega (arith, w .fields)))
-
-  values : valuesOf fs os ≡ take (length fs) (m .values)
-  values = values-back fs (m .values) (omega (arith, long, most)) fits
-
-  all : placed (valuesOf fs os) ≡ m .values
-  all = rw values (placed-back (length fs) (m .values) long most (λ j h p. w .rest j (omega (arith, w .fields)) p))
-
-  count : k ≡ kIn (layoutAt l) os
-  count = sym (ap (λ (vs : List ℕ). numbered vs (layoutAt l .count)) all) ∙ k-placed l k os
-
-  part : partOf l k os ≡ m
+  part : partOf (l m) (k m) os ≡ m
   unfolding partOf
   part = λ i. record { code = code-found (m .code) (w .listed .first) i; fields = sym (w .fields) i; values = all i }
 
-  read : PartJudged l k os (messageRead m)
+  read : PartJudged (l m) (k m) os (messageRead m)
   read =
-      subst (λ (p : Message). PartJudged l k os (messageRead p)) part
-      (accepted (w .listed) (record { fewest = w .fewest; most = w .most; octets = length-octets fs (m .values) })
-      (λ j h. right-same fs (m .values) (valuesOf fs os) (λ i. sym (ap (λ (vs : List ℕ). getD vs i 0) all) ∙ placed-at (valuesOf fs os) i) j (w .ranges j (omega (arith, w .fields)))))
+      subst (λ (p : Message). PartJudged (l m) (k m) os (messageRead p)) part
+      (accepted (w .listed) (record { fewest = w .fewest; most = w .most; octets = length-octets (fs m) (m .values) })
+      (λ j h. right-same (fs m) (m .values) (valuesOf (fs m) os) (λ i. rw all at (placed-at (valuesOf (fs m) os) i)) j (w .ranges j (omega (arith, w .fields)))))
 
   read-info : readOf (infoOf m) ≡ messageRead m
   unfolding infoAs
   read-info =
-      sym (parts-read-so l k os (messageRead m) .0 read
-      ∙ read-body (infoOf m) (omega arith) (ap numberOf (sym (word-back (m .code)))) refl count)
+      sym (parts-read-so (l m) (k m) os (messageRead m) .0 read
+      ∙ read-body (infoOf m) (omega arith) (ap numberOf (sym (word-back (m .code)))) refl (rw all at (k-placed (l m) (k m) os)))
 
 pub reading-undoes-writing : ReadingMessagesUndoesWriting
 reading-undoes-writing m at out long e = back (written-so m at out (writeMessage m at out) .1 refl) e

@@ -23,17 +23,14 @@ use Rattle.message.proofs.Ranges.{both-true, both-le, le-both, none-out
 use Rattle.message.proofs.ReadSo.{known-in, in-known}
 
 module _ (m : Message) where
-  abbrev l : ℕ
+  abbrev pub l : ℕ
   l = numberIn m
 
-  abbrev k : ℕ
+  abbrev pub k : ℕ
   k = kOfMessage m
 
-  abbrev fs : List Field
+  abbrev pub fs : List Field
   fs = rowsAt l k
-
-  abbrev rest : Bool
-  rest = eqb (firstOut fs (m .values)) 0
 
   pub in-writable : Writable m → writable m ≡ true
   unfolding writableAs
@@ -50,8 +47,8 @@ module _ (m : Message) where
       let a = both-right (known l) _ h in
       let f = both-le (layoutAt l .fewest) k k (layoutAt l .most) (both-left (kFits (layoutAt l) k) _ a) in
       let b = both-right (kFits (layoutAt l) k) _ a in
-      let n = eqb-true (m .fields) (length fs) (both-left (eqb (m .fields) (length fs)) rest b) in
-      let z = eqb-true (firstOut fs (m .values)) 0 (both-right (eqb (m .fields) (length fs)) rest b) in
+      let n = eqb-true (m .fields) (length fs) (both-left (eqb (m .fields) (length fs)) _ b) in
+      let z = eqb-true (firstOut fs (m .values)) 0 (both-right (eqb (m .fields) (length fs)) _ b) in
       record {
         listed = known-in l (both-left (known l) _ h);
         fewest = f .0;
@@ -65,10 +62,8 @@ module _ (m : Message) (at : ℕ) (out : List ℕ) where
   abbrev vs : List ℕ
   vs = infoOf m
 
-  abbrev stored : Writing
-  stored = record { answer = record { refusal = 0; count = length vs }; out = take at out ++ (vs ++ drop (at + length vs) out) }
-
-  pub stored-as : at + length vs ≤ length out → stored ≡ writtenAs vs at out
+  stored-as : at + length vs ≤ length out
+      → record { answer = record { refusal = 0; count = length vs }; out = take at out ++ (vs ++ drop (at + length vs) out) } ≡ writtenAs vs at out
   unfolding writtenAs
   stored-as h = rw (le-leb (at + length vs) (length out) h, sets-eq vs out at h, append-assoc)
 
