@@ -115,17 +115,6 @@ module _ (w : Walk) (h : Walking w) where
           rw (s, cut-next (w .row) (w .after) (h .again p .0) (omega (arith, h .ends, h .inside)))
       by (no q) = let s : w .rounds - 1 ≡ 0 = omega arith in rw (s, cut-next (w .row) (w .end) l (h .inside))
 
-  pub ahead-again : w .row + 1 ≡ w .after → 1 < w .rounds
-      → fieldsFrom (w .first) (w .after) (w .end) (w .row + 1) (w .rounds - 1) ≡ fieldsFrom (w .first) (w .after) (w .end) (w .first) (w .rounds - 1 - 1)
-  unfolding fieldsFrom
-  ahead-again e p =
-      let s : w .rounds - 1 ≡ suc (w .rounds - 2) = omega arith in
-      let t : w .rounds - 1 - 1 ≡ w .rounds - 2 = omega arith in
-      rw (t, s, cut-done (w .row + 1) (w .after) (omega arith))
-
-  pub done-stands : w .end ≤ w .row → AtPlace (fieldsAhead w) 1 w
-  done-stands d = record { walking = h; ahead = rw (ahead-done d) }
-
   module _ (l : w .row < w .end) where
     pub on-stands : (1 < w .rounds → w .row + 1 ≡ w .after → ⊥)
         → AtPlace (fieldsAhead w) 1 (record { row = w .row + 1; rounds = w .rounds; first = w .first; after = w .after; end = w .end })
@@ -137,10 +126,13 @@ module _ (w : Walk) (h : Walking w) where
 
     pub again-stands : w .row + 1 ≡ w .after → 1 < w .rounds
         → AtPlace (fieldsAhead w) 1 (record { row = w .first; rounds = w .rounds - 1; first = w .first; after = w .after; end = w .end })
+    unfolding fieldsFrom
     again-stands e p =
+        let s : w .rounds - 1 ≡ suc (w .rounds - 2) = omega arith in
+        let t : w .rounds - 1 - 1 ≡ w .rounds - 2 = omega arith in
         record {
           walking = record { ends = h .ends; inside = h .inside; again = λ q. (h .again p .1, h .again p .1) };
-          ahead = rw (ahead-next l) (sym (ahead-again e p));
+          ahead = rw (ahead-next l, t, s, cut-done (w .row + 1) (w .after) (omega arith));
         }
 
 -- A walk at a place of the fields

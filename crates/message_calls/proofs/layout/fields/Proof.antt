@@ -16,17 +16,7 @@ rows : (c : tie.After-layout-at)
     let y = c .layout-at .result in (y .head + a .k * y .group + y .tail ≡ length (rowsAt (a .l) (a .k))) × (length (rowsAt (a .l) (a .k)) ≤ fieldsMost))
 rows c = let a = c .before .args in (kept-len (c .layout-at .ensures) (a .k), rows-most (a .l) (a .k) (most-fits (a .l) (a .k) (c .before .pre)))
 
-mul-result : tie.Need-mul-result
-mul-result c = let h = rows (c .before) in omega arith
-
-add-result : tie.Need-add-result
-add-result c = let h = rows (c .before .before) in omega arith
-
-add-result-2 : tie.Need-add-result-2
-add-result-2 c = let h = rows (c .before .before .before) in omega arith
-
-returns : tie.Need-returns
-returns c = let h = rows (c .before .before .before) in (h .0, omega arith)
-
 pub fields-spec : {M : Type 1} → statement M
-fields-spec = tie.close (tie.spec (λ c κs. search needs) mul-result add-result add-result-2 returns)
+fields-spec =
+    tie.close (tie.spec (λ c κs. search needs) (λ c. let h = rows (c .before) in omega arith) (λ c. let h = rows (c .before .before) in omega arith)
+    (λ c. let h = rows (c .before .before .before) in omega arith) (λ c. let h = rows (c .before .before .before) in (h .0, omega arith)))

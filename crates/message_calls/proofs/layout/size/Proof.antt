@@ -28,16 +28,7 @@ whole : (c : tie.After-size-in3)
     × (sizeOf (rowsAt (a .l) (a .k)) ≤ 2 * fieldsMost))
 whole c = rw (c .size-in3 .ensures, c .before .size-in2 .ensures, c .before .before .before .size-in .ensures) (octets (c .before .before .before .before .before))
 
-mul-result : tie.Need-mul-result
-mul-result c = let h = whole c in omega arith
-
-add-result : tie.Need-add-result
-add-result c = let h = whole c in omega arith
-
-returns : tie.Need-returns
-returns c = let h = whole c in (h .0, omega arith)
-
 pub size-spec : {M : Type 1} → statement M
 size-spec =
     tie.close (tie.spec (λ c κs. search needs) (λ c. search needs) (λ c κs. search needs) (λ c. search needs) (λ c κs. search needs) add-once
-    (λ c κs. search needs) mul-result add-result returns)
+    (λ c κs. search needs) (λ c. let h = whole c in omega arith) (λ c. let h = whole c in omega arith) (λ c. let h = whole c in (h .0, omega arith)))

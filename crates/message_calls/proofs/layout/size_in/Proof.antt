@@ -32,12 +32,6 @@ counted c =
     let w = c .width .ensures ∙ ap widthOf (c .before .two .ensures ∙ ap twoOf f) in
     (omega (arith, w, size-next (cut (a .from) (a .len)) i h), omega (arith, c .width .ensures, width-most (c .before .two .result)))
 
-add-size : tie.Need-add-size Inv-loop μ-loop
-add-size c = let h = counted c in omega arith
-
-loop-again : tie.Need-loop-again Inv-loop μ-loop
-loop-again c = let h = counted c in omega arith
-
 returns : tie.Need-returns Inv-loop μ-loop
 returns c =
     let s = c .before .before in
@@ -47,4 +41,5 @@ returns c =
 pub size-in-spec : {M : Type 1} → statement M
 size-in-spec =
     tie.close (tie.spec Inv-loop μ-loop (λ c. (search needs, search needs, search needs)) (λ c. search needs) (λ c κs. search needs)
-    (λ c κs. search needs) (λ c κs. search needs) add-size (λ c. search needs) (λ c. search needs) loop-again returns)
+    (λ c κs. search needs) (λ c κs. search needs) (λ c. let h = counted c in omega arith) (λ c. search needs) (λ c. search needs)
+    (λ c. let h = counted c in omega arith) returns)

@@ -6,9 +6,6 @@ use Rattle.message.proofs.Reading.{read-11, read-body}
 use Rattle.message_calls.proofs.reader.read.Statement.{statement}
 use Rattle.message_calls.proofs.reader.read.Tie as tie
 
-returns : tie.Need-returns
-returns c = c .refused .ensures ∙ read-11 (c .before .before .before .args .info .now) (c .before .if1 .taken)
-
 returns-2 : tie.Need-returns-2
 returns-2 c =
     let b = c .before .before .before .before .before in
@@ -18,5 +15,6 @@ returns-2 c =
 
 pub read-spec : {M : Type 1} → statement M
 read-spec =
-    tie.close (tie.spec (λ c κs. search needs) returns (λ c κs. search needs) (λ c κs. search needs) (λ c κs. search needs) (λ c κs. search needs)
-    (λ c κs. search needs) returns-2)
+    tie.close (tie.spec (λ c κs. search needs)
+    (λ c. c .refused .ensures ∙ read-11 (c .before .before .before .args .info .now) (c .before .if1 .taken)) (λ c κs. search needs)
+    (λ c κs. search needs) (λ c κs. search needs) (λ c κs. search needs) (λ c κs. search needs) returns-2)

@@ -17,9 +17,6 @@ returns-2 c =
     c .refused2 .ensures
     ∙ rw (sym (d .before .known .ensures) ∙ not-false _ (d .if1 .left), sym (c .before .before .k-fits .ensures) ∙ not-true _ (c .before .if2 .taken))
 
-size-requires : tie.Need-size-requires
-size-requires c κs = sym (c .before .k-fits .ensures) ∙ not-false _ (c .if2 .left)
-
 returns-3 : tie.Need-returns-3
 unfolding readPartOf
 returns-3 c =
@@ -28,9 +25,6 @@ returns-3 c =
     c .refused3 .ensures
     ∙ rw (sym (d .before .known .ensures) ∙ not-false _ (d .if1 .left), sym (b .before .k-fits .ensures) ∙ not-false _ (b .if2 .left))
     (rw (ne-eqb _ _ (λ e. c .before .if3 .taken (e ∙ sym (c .before .before .size .ensures .0)))))
-
-ranged-requires : tie.Need-ranged-requires
-ranged-requires c κs = sym (c .before .before .before .k-fits .ensures) ∙ not-false _ (c .before .before .if2 .left)
 
 returns-4 : tie.Need-returns-4
 unfolding readPartOf
@@ -44,4 +38,5 @@ returns-4 c =
 pub read-part-spec : {M : Type 1} → statement M
 read-part-spec =
     tie.close (tie.spec (λ c κs. search needs) (λ c κs. search needs) returns (λ c κs. search needs) (λ c κs. search needs) returns-2
-    size-requires (λ c κs. search needs) returns-3 ranged-requires returns-4)
+    (λ c κs. sym (c .before .k-fits .ensures) ∙ not-false _ (c .if2 .left)) (λ c κs. search needs) returns-3
+    (λ c κs. sym (c .before .before .before .k-fits .ensures) ∙ not-false _ (c .before .before .if2 .left)) returns-4)

@@ -31,9 +31,6 @@ loop-holds c = (search needs, search needs, refl, c .start .ensures, refl)
 wide : (c : tie.After-width Inv-loop μ-loop) → (c .width .result ≡ widthOf (c .before .before .two .result)) × (c .width .result ≤ 2)
 wide c = (c .width .ensures, omega (arith, c .width .ensures, width-most (c .before .before .two .result)))
 
-add-at : tie.Need-add-at Inv-loop μ-loop
-add-at c = let w = wide c in omega arith
-
 loop-again : tie.Need-loop-again Inv-loop μ-loop
 loop-again c =
     let two = c .before .before .before .two in
@@ -62,5 +59,5 @@ returns c =
 pub values-spec : {M : Type 1} → statement M
 values-spec =
     tie.close (tie.spec Inv-loop μ-loop (λ c κs. search needs) (λ c κs. search needs) loop-holds (λ c κs. c .before .loop .inv .3 .walking)
-    (λ c κs. search needs) (λ c κs. search needs) (λ c. search needs) (λ c. search needs) (λ c κs. search needs) add-at
+    (λ c κs. search needs) (λ c κs. search needs) (λ c. search needs) (λ c. search needs) (λ c κs. search needs) (λ c. let w = wide c in omega arith)
     (λ c κs. c .before .before .before .before .before .loop .inv .3 .walking) (λ c. search needs) (λ c. search needs) loop-again returns)

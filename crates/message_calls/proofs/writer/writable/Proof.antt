@@ -15,9 +15,6 @@ unfolding writableAs
 returns-2 c =
     let b = c .before .before in rw (sym (b .before .known .ensures) ∙ not-false _ (b .if1 .left), sym (c .before .k-fits .ensures) ∙ not-true _ (c .if2 .taken))
 
-fields-requires : tie.Need-fields-requires
-fields-requires c κs = sym (c .before .k-fits .ensures) ∙ not-false _ (c .if2 .left)
-
 returns-3 : tie.Need-returns-3
 unfolding writableAs
 returns-3 c =
@@ -40,5 +37,5 @@ returns-4 c =
 
 pub writable-spec : {M : Type 1} → statement M
 writable-spec =
-    tie.close (tie.spec (λ c κs. search needs) returns (λ c κs. search needs) returns-2 fields-requires returns-3
-    (λ c. search needs) first-out-requires returns-4)
+    tie.close (tie.spec (λ c κs. search needs) returns (λ c κs. search needs) returns-2
+    (λ c κs. sym (c .before .k-fits .ensures) ∙ not-false _ (c .if2 .left)) returns-3 (λ c. search needs) first-out-requires returns-4)

@@ -1,12 +1,9 @@
 -- `message_calls::walk::Walk::next` meets its contract: the row after, or the first of the repeated rows, has one row less ahead.
 use native.Mathlib.Omega.{arith}
 use borrow.Author.Needs.{needs}
-use Rattle.message_calls.proofs.Walking.{done-stands, on-stands, again-stands}
+use Rattle.message_calls.proofs.Walking.{ahead-done, on-stands, again-stands}
 use Rattle.message_calls.proofs.walk.Walk.next.Statement.{statement}
 use Rattle.message_calls.proofs.walk.Walk.next.Tie as tie
-
-returns : tie.Need-returns
-returns c = let b = c .before .before in done-stands (b .args .self) (b .pre) (c .if1 .taken)
 
 returns-2 : tie.Need-returns-2
 returns-2 c =
@@ -22,4 +19,7 @@ returns-4 : tie.Need-returns-4
 returns-4 c = let b = c .before .before .before in on-stands (b .before .before .args .self) (b .before .before .pre) (b .if1 .left) (λ p e. c .if2 .left e)
 
 pub next-spec : {M : Type 1} → statement M
-next-spec = tie.close (tie.spec returns (λ c. search needs) (λ c. search needs) returns-2 returns-3 returns-4)
+next-spec =
+    tie.close (tie.spec
+    (λ c. let b = c .before .before in record { walking = b .pre; ahead = rw (ahead-done (b .args .self) (b .pre) (c .if1 .taken)) })
+    (λ c. search needs) (λ c. search needs) returns-2 returns-3 returns-4)
