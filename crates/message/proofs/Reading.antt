@@ -4,7 +4,7 @@ use mathlib.Core.Path.{_≡_, refl, sym, _∙_}
 use mathlib.Core.Bool.{Bool, true, false, not}
 use mathlib.Core.List.{List, [], _∷_, _++_, append-assoc}
 use native.Mathlib.Omega.{arith}
-use borrow.Author.Tests.{eqb-true, eq-eqb, ne-eqb, lt-ltb, le-ltb, le-leb, not-true}
+use borrow.Author.Tests.{eqb-true, lt-ltb, le-ltb, le-leb, not-true}
 use lib.Dec.{eqb, leb}
 use lib.ListN.{length, getD, drop, List·getD-append}
 use lib.Seq.{drop-drop}
@@ -17,9 +17,9 @@ use Rattle.octets.proofs.Every.{every, every-at}
 use Rattle.octets.proofs.Search.{search-first}
 use Rattle.message.specs.declared.layout.Field.{Field}
 use Rattle.message.specs.Fields.{twoOf, widthOf, valueOf, noField}
-use Rattle.message.specs.Layouts.{Layout, layouts, noLayout, layoutAt, known, numberOf, rowsAt, layoutRows, kFits}
+use Rattle.message.specs.Layouts.{Layout, layouts, noLayout, layoutAt, numberOf, rowsAt, layoutRows, kFits}
 use Rattle.message.specs.Values.{fieldsMost, sizeOf, fieldStart, valuesOf, placed, numbered, firstOut, outAt}
-use Rattle.message.specs.Reader.{notRead, readAs, kIn, partOf, rangedOf, readPartOf, readOf}
+use Rattle.message.specs.Reader.{notRead, kIn, readPartOf, readOf}
 use Rattle.message.proofs.Layouts.{fitting-at}
 use Rattle.message.proofs.Ranges.{both-le}
 use Rattle.message.proofs.Values.{numbered-one, value-at, length-values}
@@ -62,30 +62,6 @@ k-octet l os h =
     let one : t ≡ false = not-true t (both-left (not t) (eqb s i) r) in
     let there : s ≡ i = eqb-true s i (both-right (not t) (eqb s i) r) in
     sym (numbered-one (valuesOf (y .head) os) (y .count) h ∙ value-at (y .head) os i (omega (arith, fitting-at l .1)) ∙ rw (one, there))
-
--- what the code has found of the part, its values and the first out of range
-module _ (l k : ℕ) (os vs : List ℕ) (field : ℕ) (ev : vs ≡ placed (valuesOf (rowsAt l k) os)) (ef : field ≡ firstOut (rowsAt l k) vs) where
-  pub ranged-12 : (field ≡ 0 → ⊥) → notRead refusal.outOfRange field ≡ rangedOf l k os
-  unfolding rangedOf partOf
-  ranged-12 h = rw (← ev, ← ef, ne-eqb field 0 h)
-
-  pub ranged-done : field ≡ 0 → {n c : ℕ} → c ≡ layoutAt l .code → n ≡ length (rowsAt l k) → readAs (record { code = c; fields = n; values = vs }) ≡ rangedOf l k os
-  unfolding rangedOf partOf
-  ranged-done h ec en = rw (← ev, ← ef, eq-eqb field 0 h, ec, en)
-
-module _ (l k : ℕ) (os : List ℕ) where
-  pub part-10 : known l ≡ false → notRead refusal.codeNotHandled 0 ≡ readPartOf l k os
-  unfolding readPartOf
-  part-10 h = rw h
-
-  module _ (h : known l ≡ true) where
-    pub part-11 : both (kFits (layoutAt l) k) (eqb (length os) (sizeOf (rowsAt l k))) ≡ false → notRead refusal.infoLengthWrong 0 ≡ readPartOf l k os
-    unfolding readPartOf
-    part-11 f = rw (h, f)
-
-    pub part-done : both (kFits (layoutAt l) k) (eqb (length os) (sizeOf (rowsAt l k))) ≡ true → rangedOf l k os ≡ readPartOf l k os
-    unfolding readPartOf
-    part-done f = rw (h, f)
 
 module _ (info : List ℕ) where
   pub read-11 : length info < codeLen → notRead refusal.infoLengthWrong 0 ≡ readOf info

@@ -8,10 +8,9 @@ use native.Mathlib.Numerals.{add-one}
 use native.Mathlib.Omega.{arith}
 use lib.ListN.{length, getD, drop, length-append}
 use lib.Seq.{sets, drop-cons, drop-drop, getD-drop}
-use Rattle.octets.specs.Put.{Put, Stored}
+use Rattle.octets.specs.Put.{Stored}
 use Rattle.octets.specs.Part.{codeLen}
 use Rattle.octets.specs.Refusal as refusal
-use Rattle.octets.specs.Word.{highOf, lowOf}
 use Rattle.octets.specs.Writing.{WriterLeaves, nothingWritten, writtenAs}
 use Rattle.octets.specs.declared.Written.{Written}
 use Rattle.octets.proofs.Laws.{both-left, both-right, sets-append}
@@ -33,13 +32,6 @@ pub length-octets : (fs : List Field) (vs : List ℕ) → length (octetsOf fs vs
 length-octets [] vs = refl
 length-octets (f ∷ fs) vs =
     omega (arith, length-append (fieldOctets (twoOf f) (getD vs 0 0)) (octetsOf fs (drop 1 vs)), field-len (twoOf f) (getD vs 0 0), length-octets fs (drop 1 vs))
-
-module _ (v : ℕ) {i r : ℕ} {l l′ : List ℕ} {t : Bool} where
-  pub put-two : t ≡ true → {h o : ℕ} → h ≡ highOf v → o ≡ lowOf v → Put (h ∷ o ∷ []) i l r l′ → Put (fieldOctets t v) i l r l′
-  put-two et eh eo p = rw (et, ← eh, ← eo) p
-
-  pub put-one : t ≡ false → {o : ℕ} → o ≡ lowOf v → Put (o ∷ []) i l r l′ → Put (fieldOctets t v) i l r l′
-  put-one et eo p = rw (et, ← eo) p
 
 -- a turn of the writer: the field at i is stored where the octets before it end
 module _ (fs : List Field) (vs : List ℕ) (i : ℕ) (h : i < length fs) where

@@ -21,10 +21,6 @@ Inv-loop l k values w₀ i₀ w i = (firstOf (outAt (rowsAt l k) values) i (fiel
 abbrev μ-loop : tie.MeasureT-loop
 μ-loop l k values w₀ i₀ w i = fieldsMost - i
 
-loop-holds : tie.Need-loop-holds Inv-loop μ-loop
-unfolding firstOut
-loop-holds c = (refl, c .start .ensures)
-
 -- the test of the turn is the search's
 judged : (c : tie.After-passes Inv-loop μ-loop)
     → (let a = c .before .before .before .before .before .before .before .args in
@@ -56,7 +52,8 @@ returns-2 c =
     sym (search-stops (outAt (rowsAt (a .l) (a .k)) (a .values .now)) fieldsMost (v .i) (search needs) (sym (judged p) ∙ c .if2 .taken)) ∙ v .inv .0
 
 pub first-out-spec : {M : Type 1} → statement M
+unfolding firstOut
 first-out-spec =
-    tie.close (tie.spec Inv-loop μ-loop (λ c κs. search needs) loop-holds (λ c κs. c .before .loop .inv .1 .walking) (λ c. search needs)
+    tie.close (tie.spec Inv-loop μ-loop (λ c κs. search needs) (λ c. (refl, c .start .ensures)) (λ c κs. c .before .loop .inv .1 .walking) (λ c. search needs)
     (λ c. search needs) (λ c κs. search needs) (λ c. search needs) (λ c κs. c .before .before .before .before .before .loop .inv .1 .walking)
     (λ c. search needs) (λ c. search needs) loop-again returns returns-2)

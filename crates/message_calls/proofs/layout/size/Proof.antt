@@ -4,29 +4,30 @@ use mathlib.Core.Path.{_≡_}
 use native.Mathlib.Omega.{arith}
 use borrow.Author.Needs.{needs}
 use Rattle.message.specs.Layouts.{rowsAt}
-use Rattle.message.specs.Table.{cut}
 use Rattle.message.specs.Values.{fieldsMost, sizeOf}
 use Rattle.message.proofs.Layouts.{kept-size, rows-size}
 use Rattle.message.proofs.Reading.{most-fits}
 use Rattle.message_calls.proofs.layout.size.Statement.{statement}
 use Rattle.message_calls.proofs.layout.size.Tie as tie
 
-octets : (c : tie.After-layout-at)
-    → (let a = c .before .args in
-    let y = c .layout-at .result in
-    (sizeOf (cut (y .from) (y .head)) + sizeOf (cut (y .from + y .head + y .group) (y .tail)) + a .k * sizeOf (cut (y .from + y .head) (y .group)) ≡ sizeOf (rowsAt (a .l) (a .k)))
-    × (sizeOf (rowsAt (a .l) (a .k)) ≤ 2 * fieldsMost))
-octets c = let a = c .before .args in (kept-size (c .layout-at .ensures) (a .k), rows-size (a .l) (a .k) (most-fits (a .l) (a .k) (c .before .pre)))
-
 add-once : tie.Need-add-once
-add-once c = let h = octets (c .before .before .before .before) in omega (arith, c .size-in2 .ensures, c .before .before .size-in .ensures)
+add-once c =
+    let b = c .before .before .before .before in
+    let a = b .before .args in
+    let h = kept-size (b .layout-at .ensures) (a .k) in
+    let m = rows-size (a .l) (a .k) (most-fits (a .l) (a .k) (b .before .pre)) in
+    omega (arith, c .size-in2 .ensures, c .before .before .size-in .ensures)
 
 -- with what has been counted
 whole : (c : tie.After-size-in3)
     → (let a = c .before .before .before .before .before .before .args in
     (c .before .before .before .size-in .result + c .before .size-in2 .result + a .k * c .size-in3 .result ≡ sizeOf (rowsAt (a .l) (a .k)))
     × (sizeOf (rowsAt (a .l) (a .k)) ≤ 2 * fieldsMost))
-whole c = rw (c .size-in3 .ensures, c .before .size-in2 .ensures, c .before .before .before .size-in .ensures) (octets (c .before .before .before .before .before))
+whole c =
+    let b = c .before .before .before .before .before in
+    let a = b .before .args in
+    rw (c .size-in3 .ensures, c .before .size-in2 .ensures, c .before .before .before .size-in .ensures)
+    (kept-size (b .layout-at .ensures) (a .k), rows-size (a .l) (a .k) (most-fits (a .l) (a .k) (b .before .pre)))
 
 pub size-spec : {M : Type 1} → statement M
 size-spec =

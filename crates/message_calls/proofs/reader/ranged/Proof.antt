@@ -2,9 +2,11 @@
 use mathlib.Core.Path.{_∙_}
 use native.Mathlib.Omega.{arith}
 use borrow.Author.Needs.{needs}
+use borrow.Author.Tests.{eq-eqb, ne-eqb}
 use Rattle.message.specs.Layouts.{rowsAt}
 use Rattle.message.proofs.Layouts.{kept-code}
-use Rattle.message.proofs.Reading.{first-out-most, ranged-12, ranged-done}
+use Rattle.message.specs.Reader.{partOf, rangedOf}
+use Rattle.message.proofs.Reading.{first-out-most}
 use Rattle.message_calls.proofs.reader.ranged.Statement.{statement}
 use Rattle.message_calls.proofs.reader.ranged.Tie as tie
 
@@ -14,18 +16,16 @@ cast-refused c =
     omega (arith, c .before .first-out .ensures, first-out-most (rowsAt (a .l) (a .k)) (c .before .before .before .values .result))
 
 returns : tie.Need-returns
+unfolding rangedOf partOf
 returns c =
-    let a = c .before .before .before .before .before .before .args in
-    c .refused .ensures
-    ∙ ranged-12 (a .l) (a .k) (a .part .now) (c .before .before .before .before .values .result) (c .before .before .first-out .result)
-    (c .before .before .before .before .values .ensures) (c .before .before .first-out .ensures) (c .before .if1 .taken)
+    let b = c .before .before in c .refused .ensures ∙ rw (← b .before .before .values .ensures, ← b .first-out .ensures, ne-eqb _ _ (c .before .if1 .taken))
 
 returns-2 : tie.Need-returns-2
+unfolding rangedOf partOf
 returns-2 c =
-    let a = c .before .before .before .before .before .before .before .args in
-    ranged-done (a .l) (a .k) (a .part .now) (c .before .before .before .before .before .values .result) (c .before .before .before .first-out .result)
-    (c .before .before .before .before .before .values .ensures) (c .before .before .before .first-out .ensures) (c .before .before .if1 .left)
-    (kept-code (c .before .layout-at .ensures)) (c .fields .ensures .0)
+    let b = c .before .before .before in
+    rw (← b .before .before .values .ensures, ← b .first-out .ensures, eq-eqb _ _ (c .before .before .if1 .left))
+    (rw (kept-code (c .before .layout-at .ensures), c .fields .ensures .0))
 
 pub ranged-spec : {M : Type 1} → statement M
 ranged-spec =

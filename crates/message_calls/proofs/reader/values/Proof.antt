@@ -23,10 +23,6 @@ Inv-loop l k body n w₀ v₀ at₀ i₀ w v at i =
 abbrev μ-loop : tie.MeasureT-loop
 μ-loop l k body n w₀ v₀ at₀ i₀ w v at i = n - i
 
-loop-holds : tie.Need-loop-holds Inv-loop μ-loop
-unfolding zeros
-loop-holds c = (search needs, search needs, refl, c .start .ensures, refl)
-
 -- the width of the field at i
 wide : (c : tie.After-width Inv-loop μ-loop) → (c .width .result ≡ widthOf (c .before .before .two .result)) × (c .width .result ≤ 2)
 wide c = (c .width .ensures, omega (arith, c .width .ensures, width-most (c .before .before .two .result)))
@@ -57,7 +53,8 @@ returns c =
     rw e at (v .inv .4) ∙ placed-is (valuesOf fs (a .body .now)) (omega (arith, length-values fs (a .body .now)))
 
 pub values-spec : {M : Type 1} → statement M
+unfolding zeros
 values-spec =
-    tie.close (tie.spec Inv-loop μ-loop (λ c κs. search needs) (λ c κs. search needs) loop-holds (λ c κs. c .before .loop .inv .3 .walking)
+    tie.close (tie.spec Inv-loop μ-loop (λ c κs. search needs) (λ c κs. search needs) (λ c. (search needs, search needs, refl, c .start .ensures, refl)) (λ c κs. c .before .loop .inv .3 .walking)
     (λ c κs. search needs) (λ c κs. search needs) (λ c. search needs) (λ c. search needs) (λ c κs. search needs) (λ c. let w = wide c in omega arith)
     (λ c κs. c .before .before .before .before .before .loop .inv .3 .walking) (λ c. search needs) (λ c. search needs) loop-again returns)

@@ -1,18 +1,15 @@
 -- `message_calls::writer::put_field` meets its contract: its octets are the field's.
 use borrow.Author.Needs.{needs}
-use Rattle.message.proofs.Writing.{put-two, put-one}
 use Rattle.message_calls.proofs.writer.put_field.Statement.{statement}
 use Rattle.message_calls.proofs.writer.put_field.Tie as tie
 
 returns : tie.Need-returns
 returns c =
     let b = c .before .before .before .before .before in
-    put-two (b .before .before .before .before .args .v) (b .before .before .if1 .taken) (b .before .high .ensures) (b .low .ensures) (c .before .before .put .ensures)
+    rw (b .before .before .if1 .taken, ← b .before .high .ensures, ← b .low .ensures) (c .before .before .put .ensures)
 
 returns-2 : tie.Need-returns-2
-returns-2 c =
-    let b = c .before .before .before .before .before in
-    put-one (b .before .before .before .args .v) (b .before .if1 .left) (b .low2 .ensures) (c .before .before .put2 .ensures)
+returns-2 c = let b = c .before .before .before .before .before in rw (b .before .if1 .left, ← b .low2 .ensures) (c .before .before .put2 .ensures)
 
 pub put-field-spec : {M : Type 1} → statement M
 put-field-spec =
