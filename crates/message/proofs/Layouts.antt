@@ -1,7 +1,6 @@
 -- The rows of a layout, and how the code's table keeps them.
 use Prim.Native.Nat.{ℕ, zero, suc, _+_, _*_, _≤_, _<_}
 use mathlib.Core.Path.{_≡_, refl, sym, ap, _∙_}
-use mathlib.Core.Bool.{Bool}
 use mathlib.Core.List.{List, _++_}
 use native.Mathlib.Nat.{mul-le-mul-right, zero-mul, suc-mul}
 use native.Mathlib.Omega.{arith}
@@ -76,12 +75,12 @@ module _ {l : ℕ} {y : LayoutLine} (h : Kept l y) (k : ℕ) where
 
 -- What holds of every layout
 
-abbrev fitting : specified.Layout → Bool
-fitting y = both (leb (length (y .head) + y .most * length (y .group) + length (y .tail)) fieldsMost) (leb (y .count) (length (y .head)))
-
 pub fitting-at : (l : ℕ) → (let y = layoutAt l in (length (y .head) + y .most * length (y .group) + length (y .tail) ≤ fieldsMost) × (y .count ≤ length (y .head)))
 unfolding layouts layoutAt every
-fitting-at l = both-le _ _ _ _ (every-at fitting layouts l noLayout refl (λ _. refl))
+fitting-at l =
+    both-le _ _ _ _
+    (every-at (λ (y : specified.Layout). both (leb (length (y .head) + y .most * length (y .group) + length (y .tail)) fieldsMost) (leb (y .count) (length (y .head))))
+    layouts l noLayout refl (λ _. refl))
 
 pub rows-most : (l k : ℕ) → k ≤ mostAt l → length (rowsAt l k) ≤ fieldsMost
 unfolding rowsAt layoutRows

@@ -1,7 +1,7 @@
 -- A walk over the fields of a layout has the layout's rows ahead at first, and from each row one less.
 use Prim.Native.Nat.{ℕ, zero, suc, _+_, _*_, _-_, _≤_, _<_}
 use mathlib.Core.Path.{_≡_, refl, sym, ap, _∙_}
-use mathlib.Core.Bool.{Bool, true}
+use mathlib.Core.Bool.{true}
 use mathlib.Core.List.{List, [], _∷_, _++_, append-assoc}
 use native.Mathlib.Decide.{decLt}
 use native.Mathlib.Nat.{add-zero}
@@ -62,29 +62,23 @@ module _ (y : LayoutLine) where
   layout-ahead zero h = cut-on (y .from) (y .head) (y .tail) after (end - y .from) (omega (arith, h refl)) (omega (arith, h refl))
   layout-ahead (suc again) h =
       let e : suc again - 1 ≡ again = omega arith in
-      let rest = repeated again (cut first (y .group)) ++ cut after (y .tail) in
-      rw (e, append-assoc (cut first (y .group)))
-      (sym (append-assoc (cut (y .from) (y .head)) (cut first (y .group)) rest)
-      ∙ rw (cut-on (y .from) (y .head) (y .group) first (after - y .from) refl (omega arith)) (rounds-ahead again (y .from) (omega arith)))
+      rw (e, ← rounds-ahead again (y .from) (omega arith), ← cut-on (y .from) (y .head) (y .group) first (after - y .from) refl (omega arith)) (simp append-assoc)
 
 -- rows come k times just where k may be more than 0
-abbrev repeating : Layout → Bool
-repeating y = both (leb (length (y .group)) (fieldsMost * y .fewest)) (leb (y .most) (kMost * length (y .group)))
-
 repeating-at : (l : ℕ) → (let y = layoutAt l in (length (y .group) ≤ fieldsMost * y .fewest) × (y .most ≤ kMost * length (y .group)))
 unfolding layouts layoutAt every
-repeating-at l = both-le _ _ _ _ (every-at repeating layouts l noLayout refl (λ _. refl))
+repeating-at l =
+    both-le _ _ _ _
+    (every-at (λ (y : Layout). both (leb (length (y .group)) (fieldsMost * y .fewest)) (leb (y .most) (kMost * length (y .group)))) layouts l noLayout refl (λ _. refl))
 
 -- the walk from a layout's first row on, for k
 module _ {l : ℕ} {y : LayoutLine} (h : Kept l y) (k : ℕ) (f : kFits (layoutAt l) k ≡ true) where
-  group-length : y .group ≡ length (layoutAt l .group)
-  group-length = sym (length-cut (first y) (y .group) (omega (arith, h .inside))) ∙ ap (λ (l : Layout). length (l .group)) (h .is)
-
   counted : (k ≡ 0 → y .group ≡ 0) × (0 < k → 0 < y .group)
   counted =
+      let g = sym (length-cut (first y) (y .group) (omega (arith, h .inside))) ∙ ap (λ (l : Layout). length (l .group)) (h .is) in
       let r = repeating-at l in
       let t = both-le (layoutAt l .fewest) k k (layoutAt l .most) f in
-      (λ e. omega (arith, group-length), λ p. omega (arith, group-length))
+      (λ e. omega arith, λ p. omega arith)
 
   pub start-stands : AtPlace (rowsAt l k) 0 (record { row = y .from; rounds = k; first = first y; after = after y; end = end y })
   unfolding rowsAt
@@ -99,11 +93,10 @@ module _ {l : ℕ} {y : LayoutLine} (h : Kept l y) (k : ℕ) (f : kFits (layoutA
 module _ (w : Walk) (h : Walking w) where
   pub ahead-done : w .end ≤ w .row → fieldsAhead w ≡ []
   unfolding fieldsFrom
-  ahead-done d = by (decLt 1 (w .rounds))
-    where
-      by : Dec (1 < w .rounds) → fieldsAhead w ≡ []
-      by (yes p) = absurd (omega (arith, h .again p .0, h .ends))
-      by (no q) = let s : w .rounds - 1 ≡ 0 = omega arith in rw s (cut-done (w .row) (w .end) d)
+  ahead-done d =
+      let q : 1 < w .rounds → ⊥ = λ p. omega (arith, h .again p .0, h .ends) in
+      let s : w .rounds - 1 ≡ 0 = omega arith in
+      rw s (cut-done (w .row) (w .end) d)
 
   pub ahead-next : w .row < w .end → fieldsAhead w ≡ getD table (w .row) noField ∷ fieldsFrom (w .first) (w .after) (w .end) (w .row + 1) (w .rounds - 1)
   unfolding fieldsFrom
