@@ -48,7 +48,8 @@ unfolding every
 every-repeated zero g h = refl
 every-repeated (suc k) g h = every-append g (repeated k g) h (every-repeated k g h)
 
-narrow-part : (part : Layout → List Field) (l : ℕ) → every (λ y. every narrow (part y)) layouts ≡ true → every narrow (part noLayout) ≡ true → every narrow (part (layoutAt l)) ≡ true
+narrow-part : (part : Layout → List Field) (l : ℕ) → every (λ y. every narrow (part y)) layouts ≡ true → every narrow (part noLayout) ≡ true
+    → every narrow (part (layoutAt l)) ≡ true
 unfolding layoutAt
 narrow-part part l t n = every-at (λ y. every narrow (part y)) layouts l noLayout t (λ _. n)
 

@@ -99,10 +99,4 @@ module _ (fs : List Field) (vs ws : List ℕ) (same : (j : ℕ) → getD vs j 0 
 
   pub wrong-same : {n : ℕ} → FirstWrong fs vs n → FirstWrong fs ws n
   wrong-same w =
-      record {
-        place = w .place;
-        number = w .number;
-        within = w .within;
-        before = λ j l. right-same j (w .before j l);
-        here = λ r. w .here (rw (same (w .place)) r);
-      }
+      record { place = w .place; number = w .number; within = w .within; before = λ j l. right-same j (w .before j l); here = λ r. w .here (rw same r) }

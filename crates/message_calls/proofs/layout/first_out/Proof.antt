@@ -54,6 +54,6 @@ returns-2 c =
 pub first-out-spec : {M : Type 1} → statement M
 unfolding firstOut
 first-out-spec =
-    tie.close (tie.spec Inv-loop μ-loop (λ c κs. search needs) (λ c. (refl, c .start .ensures)) (λ c κs. c .before .loop .inv .1 .walking) (λ c. search needs)
-    (λ c. search needs) (λ c κs. search needs) (λ c. search needs) (λ c κs. c .before .before .before .before .before .loop .inv .1 .walking)
-    (λ c. search needs) (λ c. search needs) loop-again returns returns-2)
+    tie.close (tie.spec Inv-loop μ-loop (λ c κs. search needs) (λ c. (refl, c .start .ensures)) (λ c κs. c .before .loop .inv .1 .walking)
+    (λ c. search needs) (λ c. search needs) (λ c κs. search needs) (λ c. search needs)
+    (λ c κs. c .before .before .before .before .before .loop .inv .1 .walking) (λ c. search needs) (λ c. search needs) loop-again returns returns-2)

@@ -55,6 +55,7 @@ returns c =
 pub values-spec : {M : Type 1} → statement M
 unfolding zeros
 values-spec =
-    tie.close (tie.spec Inv-loop μ-loop (λ c κs. search needs) (λ c κs. search needs) (λ c. (search needs, search needs, refl, c .start .ensures, refl)) (λ c κs. c .before .loop .inv .3 .walking)
-    (λ c κs. search needs) (λ c κs. search needs) (λ c. search needs) (λ c. search needs) (λ c κs. search needs) (λ c. let w = wide c in omega arith)
+    tie.close (tie.spec Inv-loop μ-loop (λ c κs. search needs) (λ c κs. search needs)
+    (λ c. (search needs, search needs, refl, c .start .ensures, refl)) (λ c κs. c .before .loop .inv .3 .walking) (λ c κs. search needs)
+    (λ c κs. search needs) (λ c. search needs) (λ c. search needs) (λ c κs. search needs) (λ c. let w = wide c in omega arith)
     (λ c κs. c .before .before .before .before .before .loop .inv .3 .walking) (λ c. search needs) (λ c. search needs) loop-again returns)
