@@ -12,12 +12,6 @@ returns c =
     let a = b .before .before .before .args in
     write-5 (a .m) (a .at) (a .out .now) (b .find .ensures) (c .before .before .count .ensures) (c .before .writable .ensures) (not-true _ (c .if1 .taken))
 
-put-message-requires : tie.Need-put-message-requires
-put-message-requires c κs =
-    let b = c .before .before .before .before in
-    let m = b .before .before .before .args .m in
-    writable-fits (b .find .result) (c .before .before .before .count .result) (m .fields) (m .values) (sym (c .before .before .writable .ensures) ∙ not-false _ (c .before .if1 .left))
-
 returns-2 : tie.Need-returns-2
 returns-2 c =
     let w = c .before .before .before .before .before in
@@ -28,5 +22,5 @@ returns-2 c =
 
 pub write-spec : {M : Type 1} → statement M
 write-spec =
-    tie.close (tie.spec (λ c κs. search needs) (λ c κs. search needs) (λ c κs. search needs) returns put-message-requires (λ c. search needs)
-    returns-2)
+    tie.close (tie.spec (λ c κs. search needs) (λ c κs. search needs) (λ c κs. search needs) returns
+    (λ c κs. writable-fits _ _ _ _ (sym (c .before .before .writable .ensures) ∙ not-false _ (c .before .if1 .left))) (λ c. search needs) returns-2)

@@ -4,8 +4,7 @@ use Rattle.message_calls.proofs.Walking.{start-stands}
 use Rattle.message_calls.proofs.walk.Walk.start.Statement.{statement}
 use Rattle.message_calls.proofs.walk.Walk.start.Tie as tie
 
-returns : tie.Need-returns
-returns c = let b = c .before .before .before .before in start-stands (c .before .before .before .layout-at .ensures) (b .args .k) (b .pre)
-
 pub start-spec : {M : Type 1} → statement M
-start-spec = tie.close (tie.spec (λ c κs. search needs) (λ c. search needs) (λ c. search needs) (λ c. search needs) returns)
+start-spec =
+    tie.close (tie.spec (λ c κs. search needs) (λ c. search needs) (λ c. search needs) (λ c. search needs)
+    (λ c. start-stands (c .before .before .before .layout-at .ensures) _ (c .before .before .before .before .pre)))
