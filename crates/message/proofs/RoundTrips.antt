@@ -60,7 +60,8 @@ reading-undoes-writing m at out long e = back (written-so m at out (writeMessage
     back (outputShort w h) e = absurd (omega arith)
     back (written w h) e =
         let vs = infoOf m in
-        rw (drop-at (take at out) (vs ++ drop (at + length vs) out) at (length-take-le at out (omega arith)), take-at vs (drop (at + length vs) out) (length vs) refl) (read-info m long w)
+        rw (drop-at (take at out) (vs ++ drop (at + length vs) out) at (length-take-le at out (omega arith)), take-at vs (drop (at + length vs) out) (length vs) refl)
+        (read-info m long w)
 
 -- Writing undoes reading
 

@@ -66,7 +66,8 @@ module _ (m : Message) (at : ℕ) (out : List ℕ) where
     pub write-5 : t ≡ false → WriterLeaves (writeMessage m at out) (record { refusal = refusal.fieldWrong; count = 0 }) out
     write-5 h = rw (← write-no (sym tested ∙ h)) (record { answer = refl; out = refl })
 
-    pub write-on : t ≡ true → {r : Written} {out′ : List ℕ} → WriterLeaves (writtenAs (infoAs (m .code) (rowsAt l k) (m .values)) at out) r out′ → WriterLeaves (writeMessage m at out) r out′
+    pub write-on : t ≡ true → {r : Written} {out′ : List ℕ} → WriterLeaves (writtenAs (infoAs (m .code) (rowsAt l k) (m .values)) at out) r out′
+        → WriterLeaves (writeMessage m at out) r out′
     write-on h w = rw (← write-yes (sym tested ∙ h)) (rw (ek, el) at w)
 
 module _ (l k n : ℕ) (vs : List ℕ) (h : writableAs l k n vs ≡ true) where

@@ -16,7 +16,9 @@ returns-12 : tie.Need-returns-12
 unfolding numberOf firstOf layouts layoutAt
 returns-12 c =
     let r = c .match .rest in
-    rw (other (r .0 .0 .0 .0 .0 .0 .0 .0 .0 .0 .1), other (r .0 .0 .0 .0 .0 .0 .0 .0 .0 .1), other (r .0 .0 .0 .0 .0 .0 .0 .0 .1), other (r .0 .0 .0 .0 .0 .0 .0 .1), other (r .0 .0 .0 .0 .0 .0 .1), other (r .0 .0 .0 .0 .0 .1), other (r .0 .0 .0 .0 .1), other (r .0 .0 .0 .1), other (r .0 .0 .1), other (r .0 .1), other (r .1), firstOf)
+    let s = r .0 .0 .0 .0 .0 .0 in
+    rw (other (s .0 .0 .0 .0 .1), other (s .0 .0 .0 .1), other (s .0 .0 .1), other (s .0 .1), other (s .1), other (r .0 .0 .0 .0 .0 .1), firstOf)
+    (rw (other (r .0 .0 .0 .0 .1), other (r .0 .0 .0 .1), other (r .0 .0 .1), other (r .0 .1), other (r .1), firstOf))
 
 pub find-spec : {M : Type 1} → statement M
 unfolding numberOf firstOf layouts layoutAt

@@ -7,7 +7,7 @@ use borrow.Author.Needs.{needs}
 use lib.ListN.{length, getD, drop, drop-of-length-le}
 use lib.Seq.{sets}
 use Rattle.octets.proofs.Laws.{put-stored}
-use Rattle.message.specs.Fields.{twoOf, widthOf, fieldOctets, noField}
+use Rattle.message.specs.Fields.{twoOf, widthOf, noField}
 use Rattle.message.specs.Layouts.{rowsAt}
 use Rattle.message.specs.Values.{sizeOf, octetsOf}
 use Rattle.message.proofs.Values.{size-next, size-done}
@@ -35,7 +35,7 @@ loop-again c =
     let fs = rowsAt (a .l) (a .k) in
     let h : v .i < length fs = search needs in
     let t : two .result ≡ twoOf (getD fs (v .i) noField) = two .ensures ∙ ap twoOf (field-there (v .inv .3) (f .field .ensures)) in
-    let w : length (fieldOctets (two .result) (getD (a .t3) (v .i) 0)) ≡ widthOf (twoOf (getD fs (v .i) noField)) = field-len (two .result) (getD (a .t3) (v .i) 0) ∙ ap widthOf t in
+    let w = field-len (two .result) (getD (a .t3) (v .i) 0) ∙ ap widthOf t in
     let s = put-stored (c .before .before .before .put-field .ensures) (omega (arith, w, size-next fs (v .i) h)) in (
       search needs,
       omega (arith, w, s .place, size-next fs (v .i) h),
