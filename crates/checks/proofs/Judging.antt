@@ -8,10 +8,10 @@ use borrow.Author.Tests.{eq-eqb, le-leb, lt-leb, le-ltb, eqb-true, leb-true, leb
 use lib.Dec.{eqb, leb, ltb}
 use lib.ListN.{length}
 use Rattle.octets.specs.Choice.{pick, both}
-use Rattle.octets.proofs.Laws.{both-left, both-right, clash}
+use Rattle.octets.proofs.Laws.{pick-by, both-left, both-right, clash}
 use Rattle.record.specs.Record.{recordLen, minimumOf, maximumOf, yellowOf, allRedOf, walkFlashOf, redManOf, directOf, orderOf, cycleOf, Within, TimesFit, AllTimesFit}
 use Rattle.checks.specs.Standing.{Tells, planDisagree, planStands}
-use Rattle.checks.proofs.Stands.{both-true, plan-agrees, agrees-plan, plan-fits, fits-plan}
+use Rattle.checks.proofs.Stands.{plan-agrees, agrees-plan, agree-greens, greens-agree, plan-fits, fits-plan}
 
 -- One check, and several
 
@@ -22,15 +22,11 @@ told-within {t} {l} {x} {y} {m} e h =
         least = omega (arith, leb-true l x (both-left (leb l x) (leb x m) (sym h ∙ p)));
         most = omega (arith, leb-true x m (both-right (leb l x) (leb x m) (sym h ∙ p)));
       };
-      told = λ w. h ∙ both-true (le-leb l x (omega (arith, w .least))) (le-leb x m (omega (arith, w .most)));
+      told = λ w. h ∙ rw (le-leb l x (omega (arith, w .least)), le-leb x m (omega (arith, w .most)));
     }
 
 told-and : {a b : Bool} {P Q : Type 0} → Tells a P → Tells b Q → Tells (a && b) (P × Q)
-told-and {a} {b} p q =
-    record {
-      holds = λ h. (p .holds (both-left a b h), q .holds (both-right a b h));
-      told = λ w. both-true (p .told (w .0)) (q .told (w .1));
-    }
+told-and {a} {b} p q = record { holds = λ h. (p .holds (both-left a b h), q .holds (both-right a b h)); told = λ w. rw (p .told (w .0), q .told (w .1)) }
 
 told-as : {t : Bool} {P Q : Type 0} → (P → Q) → (Q → P) → Tells t P → Tells t Q
 told-as f g p = record { holds = λ h. f (p .holds h); told = λ w. p .told (g w) }
@@ -39,12 +35,10 @@ told-as f g p = record { holds = λ h. f (p .holds h); told = λ w. p .told (g w
 
 module _ (a m w : ℕ) {n : ℕ} (e : n ≡ pick (ltb m a) 1 (pick (leb a w) 2 0)) where
   agreed : n ≡ 0 → (a ≤ m) × (w < a)
-  agreed z = by (ltb m a) (leb a w) refl refl (sym e ∙ z)
-    where
-      by : (s t : Bool) → ltb m a ≡ s → leb a w ≡ t → _≡_ {A = ℕ} (pick s 1 (pick t 2 0)) 0 → (a ≤ m) × (w < a)
-      by true t p q h = absurd (omega arith)
-      by false true p q h = absurd (omega arith)
-      by false false p q h = (ltb-false m a p, leb-false a w q)
+  agreed z =
+      pick-by (λ (r : ℕ). r ≡ 0 → (a ≤ m) × (w < a)) (ltb m a) (λ p h. absurd (omega arith))
+      (λ p. pick-by (λ (r : ℕ). r ≡ 0 → (a ≤ m) × (w < a)) (leb a w) (λ q h. absurd (omega arith)) (λ q h. (ltb-false m a p, leb-false a w q)))
+      (sym e ∙ z)
 
   pub told-agrees : Tells (eqb n 0) ((a ≤ m) × (w < a))
   told-agrees = record { holds = λ h. agreed (eqb-true n 0 h); told = λ p. eq-eqb n 0 (e ∙ rw (le-ltb m a (p .0), lt-leb a w (p .1))) }
@@ -88,15 +82,7 @@ alike false false f g = refl
 -- direct's and the cycle's range and the agreement are all there is to tell
 module _ (rec : List ℕ) (long : length rec ≡ recordLen) (o : orderOf rec < 256) (t : AllTimesFit rec) (d : Within 0 (directOf rec) 7) (c : Within 1 (cycleOf rec) 900)
     {n : ℕ} (e : n ≡ planDisagree rec) where
-  agrees-stands : eqb n 0 ≡ true → planStands rec ≡ true
-  agrees-stands h =
-      let a = plan-agrees rec (sym e ∙ eqb-true n 0 h) in
-      fits-plan rec long o t (record { direct = d; count = a .count; green = a .green; cycle = a .cycle; most = c .most; offset = a .offset })
-
-  stands-agrees : planStands rec ≡ true → eqb n 0 ≡ true
-  stands-agrees s =
-      let f = plan-fits rec s in
-      eq-eqb n 0 (e ∙ agrees-plan rec (record { count = f .count; green = f .green; cycle = f .cycle; offset = f .offset }))
-
   pub plan-told : eqb n 0 ≡ planStands rec
-  plan-told = alike (eqb n 0) (planStands rec) agrees-stands stands-agrees
+  plan-told =
+      alike (eqb n 0) (planStands rec) (λ h. fits-plan rec long o t (agree-greens rec (plan-agrees rec (sym e ∙ eqb-true n 0 h)) d (c .most)))
+      (λ s. eq-eqb n 0 (e ∙ agrees-plan rec (greens-agree rec (plan-fits rec s))))

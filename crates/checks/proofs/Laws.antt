@@ -1,7 +1,7 @@
 -- What follows from the definitions of specs/: one law for each way through.
-use Prim.Native.Nat.{ℕ, _+_, _≤_, _<_}
-use mathlib.Core.Path.{_≡_, refl, sym, ap, _∙_}
-use mathlib.Core.Bool.{Bool, true, false}
+use Prim.Native.Nat.{ℕ, _+_, _≤_, _<_, max}
+use mathlib.Core.Path.{_≡_, sym, ap, _∙_}
+use mathlib.Core.Bool.{Bool, true, false, and-true, and-false}
 use mathlib.Core.List.{List}
 use native.Mathlib.Decide.{decLt}
 use native.Mathlib.Omega.{arith}
@@ -13,28 +13,18 @@ use Rattle.octets.proofs.Laws.{drop-next}
 use Rattle.record.specs.Record.{recordLen, empty, timesSet, ready, stateOf, timesEnd, readyEnd}
 use Rattle.checks.specs.Standing.{timesStand, planStands, readyStands, allZero, standingOf}
 
--- Every octet is looked at: what was found so far, and what the rest says
-
-pub both-none : (a : Bool) → both a false ≡ false
-both-none true = refl
-both-none false = refl
-
-pub both-all : (a : Bool) → both a true ≡ a
-both-all true = refl
-both-all false = refl
-
 -- The rest of a record
 
 module _ (rec : List ℕ) (i : ℕ) where
-  pub zero-stops : i < length rec → (getD rec i 0 ≡ 0 → ⊥) → false ≡ allZero (drop i rec)
+  zero-stops : i < length rec → (getD rec i 0 ≡ 0 → ⊥) → false ≡ allZero (drop i rec)
   unfolding allZero
   zero-stops h n = rw (drop-next rec i h, ne-eqb (getD rec i 0) 0 n)
 
-  pub zero-goes : i < length rec → getD rec i 0 ≡ 0 → allZero (drop (i + 1) rec) ≡ allZero (drop i rec)
+  zero-goes : i < length rec → getD rec i 0 ≡ 0 → allZero (drop (i + 1) rec) ≡ allZero (drop i rec)
   unfolding allZero
   zero-goes h e = rw (drop-next rec i h, eq-eqb (getD rec i 0) 0 e)
 
-  pub zero-ends : length rec ≤ i → true ≡ allZero (drop i rec)
+  zero-ends : length rec ≤ i → true ≡ allZero (drop i rec)
   unfolding allZero
   zero-ends h = rw (drop-of-length-le rec h)
 
@@ -43,44 +33,35 @@ module _ (rec : List ℕ) (i : ℕ) where
 module _ (rec : List ℕ) (at : ℕ) where
   -- what the octets from i on say of it
   abbrev pub restFrom : ℕ → Bool
-  restFrom i = pick (leb at i) (allZero (drop i rec)) (allZero (drop at rec))
-
-  here : (i : ℕ) → at ≤ i → restFrom i ≡ allZero (drop i rec)
-  here i h = rw (le-leb at i h)
-
-  later : (i : ℕ) → i ≤ at → restFrom i ≡ allZero (drop at rec)
-  later i h = by (decLt i at)
-    where
-      by : Dec (i < at) → restFrom i ≡ allZero (drop at rec)
-      by (yes l) = rw (lt-leb at i l)
-      by (no n) = let e : i ≡ at = omega arith in rw (e, le-leb at at (omega arith))
+  restFrom i = allZero (drop (max at i) rec)
 
   pub last-none : both (leb 0 at) (restFrom 0) ≡ allZero (drop at rec)
-  last-none = rw (le-leb 0 at (omega arith)) (later 0 (omega arith))
+  last-none = let m : max at 0 ≡ at = omega arith in rw (le-leb 0 at (omega arith), m)
 
   module _ (end i : ℕ) (h : i < length rec) (e : both (leb end at) (restFrom i) ≡ allZero (drop at rec)) where
     pub last-is : (getD rec i 0 ≡ 0 → ⊥) → both (leb (i + 1) at) (restFrom (i + 1)) ≡ allZero (drop at rec)
     last-is n = by (decLt i at)
       where
         by : Dec (i < at) → both (leb (i + 1) at) (restFrom (i + 1)) ≡ allZero (drop at rec)
-        by (yes l) = rw (le-leb (i + 1) at (omega arith)) (later (i + 1) (omega arith))
-        by (no m) =
-            rw (lt-leb (i + 1) at (omega arith))
-            (sym (both-none (leb end at)) ∙ (ap (both (leb end at)) (zero-stops rec i h n ∙ sym (here i (omega arith))) ∙ e))
+        by (yes l) = let m : max at (i + 1) ≡ at = omega arith in rw (le-leb (i + 1) at (omega arith), m)
+        by (no l) = let m : max at i ≡ i = omega arith in rw (lt-leb (i + 1) at (omega arith)) (sym (and-false (leb end at)) ∙ rw (m, ← zero-stops rec i h n) at e)
 
     pub last-stays : end ≤ i → getD rec i 0 ≡ 0 → both (leb end at) (restFrom (i + 1)) ≡ allZero (drop at rec)
     last-stays l z = by (decLt i at)
       where
         by : Dec (i < at) → both (leb end at) (restFrom (i + 1)) ≡ allZero (drop at rec)
-        by (yes m) = rw (le-leb end at (omega arith)) (later (i + 1) (omega arith))
-        by (no m) = ap (both (leb end at)) (here (i + 1) (omega arith) ∙ (zero-goes rec i h z ∙ sym (here i (omega arith)))) ∙ e
+        by (yes g) = let m : max at (i + 1) ≡ at = omega arith in rw (le-leb end at (omega arith), m)
+        by (no g) =
+            let m : max at i ≡ i = omega arith in
+            let m′ : max at (i + 1) ≡ i + 1 = omega arith in
+            rw (m′, zero-goes rec i h z) (rw m at e)
 
   pub last-of-all : (end i : ℕ) → end ≤ i → length rec ≤ i → both (leb end at) (restFrom i) ≡ allZero (drop at rec) → leb end at ≡ allZero (drop at rec)
   last-of-all end i l h e = by (decLt i at)
     where
       by : Dec (i < at) → leb end at ≡ allZero (drop at rec)
-      by (yes m) = le-leb end at (omega arith) ∙ zero-ends rec at (omega arith)
-      by (no m) = sym (both-all (leb end at)) ∙ (ap (both (leb end at)) (zero-ends rec i h ∙ sym (here i (omega arith))) ∙ e)
+      by (yes g) = le-leb end at (omega arith) ∙ zero-ends rec at (omega arith)
+      by (no g) = let m : max at i ≡ i = omega arith in sym (and-true (leb end at)) ∙ rw (m, ← zero-ends rec i h) at e
 
 -- The parts of a record
 
@@ -105,18 +86,18 @@ module _ (rec : List ℕ) where
     unfolding standingOf
     stands-not f = rw (eq-eqb (length rec) recordLen h, ← et, f)
 
-    module _ (f : t ≡ true) {s : ℕ} (es : s ≡ stateOf rec) where
-      pub stands-times : s ≡ timesSet → {end : ℕ} → end ≡ timesEnd rec → {z : Bool} → z ≡ allZero (drop end rec) → pick z timesSet empty ≡ standingOf rec
+    module _ (f : t ≡ true) where
+      pub stands-times : stateOf rec ≡ timesSet → {end : ℕ} → end ≡ timesEnd rec → {z : Bool} → z ≡ allZero (drop end rec) → pick z timesSet empty ≡ standingOf rec
       unfolding standingOf
       stands-times e ee ez =
-          rw (eq-eqb (length rec) recordLen h, ← et, f, ← es, eq-eqb s timesSet e, ← (ez ∙ ap (λ (n : ℕ). allZero (drop n rec)) ee))
+          rw (eq-eqb (length rec) recordLen h, ← et, f, eq-eqb (stateOf rec) timesSet e, ← (ez ∙ ap (λ (n : ℕ). allZero (drop n rec)) ee))
 
-      pub stands-ready : s ≡ ready → {z : Bool} → z ≡ readyStands rec → pick z ready empty ≡ standingOf rec
+      pub stands-ready : stateOf rec ≡ ready → {z : Bool} → z ≡ readyStands rec → pick z ready empty ≡ standingOf rec
       unfolding standingOf
       stands-ready e ez =
-          let n : s ≡ timesSet → ⊥ = λ (q : s ≡ timesSet). omega arith in
-          rw (eq-eqb (length rec) recordLen h, ← et, f, ← es, ne-eqb s timesSet n, eq-eqb s ready e, ez)
+          let n : stateOf rec ≡ timesSet → ⊥ = λ (q : stateOf rec ≡ timesSet). omega arith in
+          rw (eq-eqb (length rec) recordLen h, ← et, f, ne-eqb (stateOf rec) timesSet n, eq-eqb (stateOf rec) ready e, ez)
 
-      pub stands-else : (s ≡ timesSet → ⊥) → (s ≡ ready → ⊥) → empty ≡ standingOf rec
+      pub stands-else : (stateOf rec ≡ timesSet → ⊥) → (stateOf rec ≡ ready → ⊥) → empty ≡ standingOf rec
       unfolding standingOf
-      stands-else n m = rw (eq-eqb (length rec) recordLen h, ← et, f, ← es, ne-eqb s timesSet n, ne-eqb s ready m)
+      stands-else n m = rw (eq-eqb (length rec) recordLen h, ← et, f, ne-eqb (stateOf rec) timesSet n, ne-eqb (stateOf rec) ready m)

@@ -13,7 +13,7 @@ use lib.Seq.{length-take-le, getD-take, getD-drop}
 use Rattle.octets.specs.Choice.{pick, both}
 use Rattle.octets.specs.First.{First}
 use Rattle.octets.specs.Refusal as refusal
-use Rattle.octets.proofs.Laws.{both-left, both-right, clash, first-none, first-one}
+use Rattle.octets.proofs.Laws.{pick-by, both-left, both-right, clash, first-none, first-one}
 use Rattle.octets.proofs.Search.{search-first}
 use Rattle.diagram.specs.Table.{phasesOf}
 use Rattle.message.specs.Fields as field
@@ -46,24 +46,33 @@ module _ (rec : List ℕ) where
   unfolding timesDisagree
   times-first = search-first (timesFail rec) (timesChecks rec)
 
-  pub agree-times : ((i : ℕ) → i < kOf rec → minimumOf rec i ≤ maximumOf rec i) → ((i : ℕ) → i < kOf rec → walkFlashOf rec i + redManOf rec i < minimumOf rec i)
-      → timesDisagree rec ≡ 0
-  agree-times o w = first-one times-first (first-none (λ c l. by c l (ℕ-discrete (c % 2) 0)))
+  pub agree-times : AllTimesFit rec → timesDisagree rec ≡ 0
+  agree-times f = first-one times-first (first-none (λ c l. by c l (ℕ-discrete (c % 2) 0)))
     where
       by : (c : ℕ) → c < 2 * kOf rec → Dec (c % 2 ≡ 0) → timesFail rec c ≡ false
       by c l (yes e) =
           let q : 2 * (c / 2) ≡ c = omega arith in
-          rw q at (check-maximum (c / 2) ∙ le-ltb (maximumOf rec (c / 2)) (minimumOf rec (c / 2)) (o (c / 2) (omega arith)))
+          rw q at (check-maximum (c / 2) ∙ le-ltb (maximumOf rec (c / 2)) (minimumOf rec (c / 2)) (f .phases (c / 2) (omega arith) .ordered))
       by c l (no n) =
           let q : 2 * (c / 2) + 1 ≡ c = omega arith in
-          rw q at (check-redman (c / 2) ∙ lt-leb (minimumOf rec (c / 2)) (walkFlashOf rec (c / 2) + redManOf rec (c / 2)) (w (c / 2) (omega arith)))
+          rw q at (check-redman (c / 2) ∙ lt-leb (minimumOf rec (c / 2)) (walkFlashOf rec (c / 2) + redManOf rec (c / 2)) (f .phases (c / 2) (omega arith) .walk))
 
-  module _ (e : timesDisagree rec ≡ 0) (i : ℕ) (l : i < kOf rec) where
-    pub times-ordered : minimumOf rec i ≤ maximumOf rec i
-    times-ordered = ltb-false (maximumOf rec i) (minimumOf rec i) (sym (check-maximum i) ∙ times-first .none e (2 * i) (omega arith))
+  module _ (i : ℕ) where
+    pub ordered-by : timesFail rec (2 * i) ≡ false → minimumOf rec i ≤ maximumOf rec i
+    ordered-by e = ltb-false (maximumOf rec i) (minimumOf rec i) (sym (check-maximum i) ∙ e)
 
-    pub times-walk : walkFlashOf rec i + redManOf rec i < minimumOf rec i
-    times-walk = leb-false (minimumOf rec i) (walkFlashOf rec i + redManOf rec i) (sym (check-redman i) ∙ times-first .none e (2 * i + 1) (omega arith))
+    pub walk-by : timesFail rec (2 * i + 1) ≡ false → walkFlashOf rec i + redManOf rec i < minimumOf rec i
+    walk-by e = leb-false (minimumOf rec i) (walkFlashOf rec i + redManOf rec i) (sym (check-redman i) ∙ e)
+
+  -- and each field of them in its range: the times fit, and fitting times are so
+  pub ranged-fit : Within 1 (kOf rec) 8 → Ranged (repeated (kOf rec) times ++ []) rec headLen → timesDisagree rec ≡ 0 → AllTimesFit rec
+  ranged-fit c r e =
+      let p = ranged-repeated rec times [] (kOf rec) headLen .0 r .0 in
+      let f = times-first .none e in
+      record { count = c; phases = λ i l. phase-in rec i (p i l) (ordered-by i (f (2 * i) (omega arith))) (walk-by i (f (2 * i + 1) (omega arith))) }
+
+  pub fit-ranged : AllTimesFit rec → Ranged (repeated (kOf rec) times ++ []) rec headLen
+  fit-ranged f = ranged-repeated rec times [] (kOf rec) headLen .1 (λ i l. phase-out rec i (f .phases i l), tt)
 
 -- The agreement of the rest
 
@@ -73,12 +82,9 @@ module _ (rec : List ℕ) where
   plan-first = search-first (planFails rec) (planChecks rec)
 
   pub green-within : (i : ℕ) → greenFails rec i ≡ false → Within (minimumOf rec i) (greenOf rec i) (maximumOf rec i)
-  green-within i e = by (ltb (greenOf rec i) (minimumOf rec i)) refl e
-    where
-      by : (t : Bool) → ltb (greenOf rec i) (minimumOf rec i) ≡ t → pick t true (ltb (maximumOf rec i) (greenOf rec i)) ≡ false
-          → Within (minimumOf rec i) (greenOf rec i) (maximumOf rec i)
-      by true h e = absurd (clash e refl)
-      by false h e = record { least = ltb-false (greenOf rec i) (minimumOf rec i) h; most = ltb-false (maximumOf rec i) (greenOf rec i) e }
+  green-within i =
+      pick-by (λ (t : Bool). t ≡ false → Within (minimumOf rec i) (greenOf rec i) (maximumOf rec i)) (ltb (greenOf rec i) (minimumOf rec i)) (λ h e. absurd (clash e refl))
+      (λ h e. record { least = ltb-false (greenOf rec i) (minimumOf rec i) h; most = ltb-false (maximumOf rec i) (greenOf rec i) e })
 
   pub within-green : (i : ℕ) → Within (minimumOf rec i) (greenOf rec i) (maximumOf rec i) → greenFails rec i ≡ false
   within-green i w = rw (le-ltb (greenOf rec i) (minimumOf rec i) (w .least), le-ltb (maximumOf rec i) (greenOf rec i) (w .most))
@@ -122,10 +128,14 @@ module _ (rec : List ℕ) where
           let e : c ≡ kOf rec + 2 = omega arith in
           rw e (check-offset ∙ lt-leb (cycleOf rec) (offsetOf rec) (a .offset))
 
--- The parts
+  -- with direct's and the cycle's range they are the greens that fit
+  pub agree-greens : PlanAgrees → Within 0 (directOf rec) 7 → cycleOf rec ≤ 900 → GreensFit rec
+  agree-greens a d m = record { direct = d; count = a .count; green = a .green; cycle = a .cycle; most = m; offset = a .offset }
 
-pub both-true : {a b : Bool} → a ≡ true → b ≡ true → both a b ≡ true
-both-true e f = rw (e, f)
+  pub greens-agree : GreensFit rec → PlanAgrees
+  greens-agree f = record { count = f .count; green = f .green; cycle = f .cycle; offset = f .offset }
+
+-- The parts
 
 pub part-long : (from end : ℕ) (rec : List ℕ) → from ≤ end → end ≤ length rec → length (between from end rec) ≡ end - from
 part-long from end rec h l = length-take-le (end - from) (drop from rec) (simp length-drop (omega arith))
@@ -145,8 +155,7 @@ module _ (l from end : ℕ) (rec : List ℕ) (h : from ≤ end) where
             let r = reads .0 (eqb-true n refusal.none (both-right (leb end (length rec)) (eqb n refusal.none) t)) in
             (leb-true end (length rec) (both-left (leb end (length rec)) (eqb n refusal.none) t), r .count, r .ranges),
         λ p.
-            both-true (le-leb end (length rec) (p .0))
-            (eq-eqb n refusal.none (reads .1 (record { long = part-long from end rec h (p .0); count = p .1; ranges = p .2 }))),
+            rw (le-leb end (length rec) (p .0)) (eq-eqb n refusal.none (reads .1 (record { long = part-long from end rec h (p .0); count = p .1; ranges = p .2 }))),
       )
 
 module _ (rec : List ℕ) where
@@ -164,17 +173,11 @@ module _ (rec : List ℕ) where
   times-fit h =
       let d = eqb-true (timesDisagree rec) 0 (both-right (ranged storedTimes headLen (timesEnd rec) rec) (eqb (timesDisagree rec) 0) h) in
       let p = times-ranged .0 (both-left (ranged storedTimes headLen (timesEnd rec) rec) (eqb (timesDisagree rec) 0) h) in
-      let q = ranged-repeated rec times [] k headLen .0 (p .2) in
-      record { count = p .1; phases = λ i l. phase-in rec i (q .0 i l) (times-ordered rec d i l) (times-walk rec d i l) }
-
-  pub fit-ranged : AllTimesFit rec → Ranged (repeated k times ++ []) rec headLen
-  fit-ranged f = ranged-repeated rec times [] k headLen .1 (λ i l. phase-out rec i (f .phases i l), tt)
+      ranged-fit rec (p .1) (p .2) d
 
   pub fit-times : length rec ≡ recordLen → AllTimesFit rec → timesStand rec ≡ true
   unfolding timesStand
-  fit-times e f =
-      both-true (times-ranged .1 (omega (arith, f .count .most), f .count, fit-ranged f))
-      (eq-eqb (timesDisagree rec) 0 (agree-times rec (λ i h. f .phases i h .ordered) (λ i h. f .phases i h .walk)))
+  fit-times e f = rw (times-ranged .1 (omega (arith, f .count .most), f .count, fit-ranged rec f), agree-times rec f)
 
   plan-ranged : (ranged storedPlan (timesEnd rec) (readyEnd rec) rec ≡ true)
       ↔ (readyEnd rec ≤ length rec) × (Within 1 k 8) × Ranged (field.direct ∷ field.order ∷ (repeated k greens ++ cycleOffset)) rec (timesEnd rec)
@@ -197,14 +200,7 @@ module _ (rec : List ℕ) where
       let d = plan-agrees rec (eqb-true (planDisagree rec) 0 (both-right (ranged storedPlan (timesEnd rec) (readyEnd rec) rec) (eqb (planDisagree rec) 0) h)) in
       let p = plan-places h in
       let g = ranged-repeated rec greens cycleOffset k (greensAt rec) .0 (p .2) in
-      record {
-        direct = p .0;
-        count = d .count;
-        green = d .green;
-        cycle = d .cycle;
-        most = g .1 .0 .most;
-        offset = d .offset;
-      }
+      agree-greens rec d (p .0) (g .1 .0 .most)
 
   pub fits-plan : length rec ≡ recordLen → orderOf rec < 256 → AllTimesFit rec → GreensFit rec → planStands rec ≡ true
   unfolding planStands
@@ -216,8 +212,7 @@ module _ (rec : List ℕ) where
       let offset : Within 0 (offsetOf rec) 899 = record { least = omega arith; most = omega (arith, f .offset, f .most) } in
       let g = ranged-repeated rec greens cycleOffset k (greensAt rec) .1 (λ i l. (green i l, tt), (cycle, (offset, tt))) in
       let order : (orderOf rec ≤ 255) × (1 ≤ phasesOf (orderOf rec)) = (omega arith, omega (arith, t .count .least, f .count)) in
-      both-true (plan-ranged .1 (omega (arith, t .count .most), t .count, (f .direct, (order, rw at g))))
-      (eq-eqb (planDisagree rec) 0 (agrees-plan rec (record { count = f .count; green = f .green; cycle = f .cycle; offset = f .offset })))
+      rw (plan-ranged .1 (omega (arith, t .count .most), t .count, (f .direct, (order, rw at g))), agrees-plan rec (greens-agree rec f))
 
 -- The rest
 
@@ -242,124 +237,72 @@ module _ (rec : List ℕ) (at : ℕ) where
   pub zero-rest : ZeroFrom rec at → allZero (drop at rec) ≡ true
   zero-rest z = rw z (zeros (recordLen - at))
 
--- How a record stands
+-- How a record stands: what each standing tells of the tests that give it
 
-standAs : Bool → Bool → Bool → Bool → Bool → ℕ
-standAs a b c d e = pick a (pick b (pick c timesSet empty) (pick d (pick e ready empty) empty)) empty
+record Told (a b c d e : Bool) (s : ℕ) : Type 0 where
+  some : (s ≡ empty → ⊥) → a ≡ true
+  asTimes : s ≡ timesSet → (b ≡ true) × (c ≡ true)
+  asReady : s ≡ ready → (d ≡ true) × (e ≡ true)
+  most : s ≤ ready
 
-as-some : (a b c d e : Bool) → (standAs a b c d e ≡ empty → ⊥) → a ≡ true
-unfolding standAs
-as-some true b c d e n = refl
-as-some false b c d e n = absurd (n refl)
-
-as-ready : (a b c d e : Bool) → standAs a b c d e ≡ ready → (a ≡ true) × (d ≡ true) × (e ≡ true)
-unfolding standAs
-as-ready true true true d e h = absurd (omega arith)
-as-ready true true false d e h = absurd (omega arith)
-as-ready true false c true true h = (refl, refl, refl)
-as-ready true false c true false h = absurd (omega arith)
-as-ready true false c false e h = absurd (omega arith)
-as-ready false b c d e h = absurd (omega arith)
-
-as-times : (a b c d e : Bool) → standAs a b c d e ≡ timesSet → (a ≡ true) × (b ≡ true) × (c ≡ true)
-unfolding standAs
-as-times true true true d e h = (refl, refl, refl)
-as-times true true false d e h = absurd (omega arith)
-as-times true false c true true h = absurd (omega arith)
-as-times true false c true false h = absurd (omega arith)
-as-times true false c false e h = absurd (omega arith)
-as-times false b c d e h = absurd (omega arith)
-
-as-most : (a b c d e : Bool) → standAs a b c d e ≤ ready
-unfolding standAs
-as-most true true true d e = omega arith
-as-most true true false d e = omega arith
-as-most true false c true true = omega arith
-as-most true false c true false = omega arith
-as-most true false c false e = omega arith
-as-most false b c d e = omega arith
+tell : (a b c d e : Bool) → Told a b c d e (pick a (pick b (pick c timesSet empty) (pick d (pick e ready empty) empty)) empty)
+tell true true true d e = record { some = λ n. refl; asTimes = λ h. (refl, refl); asReady = λ h. absurd (omega arith); most = omega arith }
+tell true true false d e = record { some = λ n. refl; asTimes = λ h. absurd (omega arith); asReady = λ h. absurd (omega arith); most = omega arith }
+tell true false c true true = record { some = λ n. refl; asTimes = λ h. absurd (omega arith); asReady = λ h. (refl, refl); most = omega arith }
+tell true false c true false = record { some = λ n. refl; asTimes = λ h. absurd (omega arith); asReady = λ h. absurd (omega arith); most = omega arith }
+tell true false c false e = record { some = λ n. refl; asTimes = λ h. absurd (omega arith); asReady = λ h. absurd (omega arith); most = omega arith }
+tell false b c d e = record { some = λ n. absurd (n refl); asTimes = λ h. absurd (omega arith); asReady = λ h. absurd (omega arith); most = omega arith }
 
 module _ (rec : List ℕ) where
-  abbrev a : Bool
-  a = both (eqb (length rec) recordLen) (timesStand rec)
-
-  abbrev b : Bool
-  b = eqb (stateOf rec) timesSet
-
-  abbrev c : Bool
-  c = allZero (drop (timesEnd rec) rec)
-
-  abbrev d : Bool
-  d = eqb (stateOf rec) ready
-
-  long : a ≡ true → length rec ≡ recordLen
-  long h = eqb-true (length rec) recordLen (both-left (eqb (length rec) recordLen) (timesStand rec) h)
-
-  fit : a ≡ true → AllTimesFit rec
-  fit h = times-fit rec (both-right (eqb (length rec) recordLen) (timesStand rec) h)
-
-  is : length rec ≡ recordLen → AllTimesFit rec → a ≡ true
-  is e f = both-true (eq-eqb (length rec) recordLen e) (fit-times rec e f)
+  told : Told (both (eqb (length rec) recordLen) (timesStand rec)) (eqb (stateOf rec) timesSet) (allZero (drop (timesEnd rec) rec)) (eqb (stateOf rec) ready)
+      (readyStands rec)
+      (standingOf rec)
+  unfolding standingOf
+  told = tell _ _ _ _ _
 
   -- what is not empty
   module _ (n : standingOf rec ≡ empty → ⊥) where
-    some : a ≡ true
-    unfolding standingOf standAs
-    some = as-some a b c d (readyStands rec) n
-
     pub some-long : length rec ≡ recordLen
-    some-long = long some
+    some-long = eqb-true (length rec) recordLen (both-left (eqb (length rec) recordLen) (timesStand rec) (told .some n))
 
-    pub some-times : timesStand rec ≡ true
-    some-times = both-right (eqb (length rec) recordLen) (timesStand rec) some
+    pub some-fit : AllTimesFit rec
+    some-fit = times-fit rec (both-right (eqb (length rec) recordLen) (timesStand rec) (told .some n))
 
   -- what is ready
   pub ready-plan : standingOf rec ≡ ready → planStands rec ≡ true
-  unfolding standingOf standAs readyStands
-  ready-plan h = both-left (planStands rec) (allZero (drop (readyEnd rec) rec)) (as-ready a b c d (readyStands rec) h .2)
+  unfolding readyStands
+  ready-plan h = both-left (planStands rec) (allZero (drop (readyEnd rec) rec)) (told .asReady h .1)
 
   ready-from : standingOf rec ≡ ready → Ready rec
-  unfolding standingOf standAs readyStands
+  unfolding readyStands
   ready-from h =
-      let s = as-ready a b c d (readyStands rec) h in
+      let n : standingOf rec ≡ empty → ⊥ = λ z. omega arith in
+      let z = both-right (planStands rec) (allZero (drop (readyEnd rec) rec)) (told .asReady h .1) in
       record {
-        long = long (s .0);
-        state = eqb-true (stateOf rec) ready (s .1);
-        times = fit (s .0);
+        long = some-long n;
+        state = eqb-true (stateOf rec) ready (told .asReady h .0);
+        times = some-fit n;
         greens = plan-fits rec (ready-plan h);
-        rest = rest-zero rec (readyEnd rec) (long (s .0)) (both-right (planStands rec) (allZero (drop (readyEnd rec) rec)) (s .2));
+        rest = rest-zero rec (readyEnd rec) (some-long n) z;
       }
 
   pub ready-to : orderOf rec < 256 → Ready rec → standingOf rec ≡ ready
   unfolding standingOf readyStands
   ready-to o r =
       let n : stateOf rec ≡ timesSet → ⊥ = λ z. absurd (omega (arith, r .state)) in
-      rw (
-        is (r .long) (r .times),
-        ne-eqb (stateOf rec) timesSet n,
-        eq-eqb (stateOf rec) ready (r .state),
-        fits-plan rec (r .long) o (r .times) (r .greens),
-        zero-rest rec (readyEnd rec) (r .rest),
-      )
+      rw (eq-eqb (length rec) recordLen (r .long), fit-times rec (r .long) (r .times), ne-eqb (stateOf rec) timesSet n, eq-eqb (stateOf rec) ready (r .state))
+      (rw (fits-plan rec (r .long) o (r .times) (r .greens), zero-rest rec (readyEnd rec) (r .rest)))
 
   times-from : standingOf rec ≡ timesSet → TimesSet rec
-  unfolding standingOf standAs
   times-from h =
-      let s = as-times a b c d (readyStands rec) h in
-      record {
-        long = long (s .0);
-        state = eqb-true (stateOf rec) timesSet (s .1);
-        times = fit (s .0);
-        rest = rest-zero rec (timesEnd rec) (long (s .0)) (s .2);
-      }
+      let n : standingOf rec ≡ empty → ⊥ = λ z. omega arith in
+      let s = told .asTimes h in
+      record { long = some-long n; state = eqb-true (stateOf rec) timesSet (s .0); times = some-fit n; rest = rest-zero rec (timesEnd rec) (some-long n) (s .1) }
 
   pub times-to : TimesSet rec → standingOf rec ≡ timesSet
   unfolding standingOf
-  times-to r = rw (is (r .long) (r .times), eq-eqb (stateOf rec) timesSet (r .state), zero-rest rec (timesEnd rec) (r .rest))
-
-  most : standingOf rec ≤ ready
-  unfolding standingOf standAs
-  most = as-most a b c d (readyStands rec)
+  times-to r =
+      rw (eq-eqb (length rec) recordLen (r .long), fit-times rec (r .long) (r .times), eq-eqb (stateOf rec) timesSet (r .state), zero-rest rec (timesEnd rec) (r .rest))
 
   -- what is not empty stands as its state says
   pub some-state : (standingOf rec ≡ empty → ⊥) → stateOf rec ≡ standingOf rec
@@ -367,8 +310,8 @@ module _ (rec : List ℕ) where
     where
       by : Dec (standingOf rec ≡ ready) → stateOf rec ≡ standingOf rec
       by (yes e) = ready-from e .state ∙ sym e
-      by (no z) = let e : standingOf rec ≡ timesSet = omega (arith, most) in times-from e .state ∙ sym e
+      by (no z) = let e : standingOf rec ≡ timesSet = omega (arith, told .most) in times-from e .state ∙ sym e
 
 pub stands-as-it-is : StandsAsItIs
 stands-as-it-is rec o =
-    record { readyFrom = ready-from rec; readyTo = ready-to rec (octet-below rec (timesEnd rec + 1) o); timesFrom = times-from rec; timesTo = times-to rec; most = most rec }
+    record { readyFrom = ready-from rec; readyTo = ready-to rec (octet-below rec (timesEnd rec + 1) o); timesFrom = times-from rec; timesTo = times-to rec; most = told rec .most }

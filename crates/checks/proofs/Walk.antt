@@ -3,51 +3,42 @@ use Prim.Native.Nat.{ℕ, zero, suc, _+_, _*_, _-_, _≤_, _<_}
 use mathlib.Core.Path.{_≡_, refl, sym, ap, _∙_}
 use mathlib.Core.Bool.{Bool, true, false, not}
 use mathlib.Core.List.{List, _++_}
-use native.Mathlib.Decide.{decLt}
 use native.Mathlib.Omega.{arith}
 use borrow.Author.Tests.{eq-eqb, ne-eqb, le-leb, lt-leb}
 use lib.Dec.{eqb, leb, ltb}
-use lib.ListN.{length, drop, replicate, List·getD-append, List·getD-eq-default}
-use lib.Seq.{sets, sets-eq, getD-drop}
+use lib.ListN.{length, replicate}
 use Rattle.octets.specs.Choice.{pick}
 use Rattle.octets.specs.First.{firstOf}
 use Rattle.octets.specs.Put.{Put}
-use Rattle.octets.proofs.Laws.{getD-past, put-stored}
+use Rattle.octets.proofs.Laws.{put-stored}
 use Rattle.octets.proofs.Search.{search-ends, search-stops, search-goes}
 use Rattle.diagram.specs.Table.{phasesOf}
+use Rattle.message.proofs.Values.{filled-at, filled-is}
 use Rattle.record.specs.Record.{recordLen, octetAt, wordAt, kOf, greensAt, minimumOf, maximumOf, walkFlashOf, redManOf, orderOf, cycleOf, sumOf}
-use Rattle.checks.specs.Standing.{timesFail, greenFails, planFails, planChecks, planDisagree}
+use Rattle.checks.specs.Standing.{timesFail, timesDisagree, greenFails, planFails, planChecks, planDisagree}
 use Rattle.checks.proofs.Stands.{check-maximum, check-redman, check-green, check-cycle, check-offset}
 
 -- The checks of the times, two of each phase
 
-module _ (t : ℕ → Bool) (k i : ℕ) (l : i < k) {n : ℕ} where
-  pair-stops : (a b : Bool) → t (2 * i) ≡ a → t (2 * i + 1) ≡ b → n ≡ pick a 1 (pick b 2 0) → (n ≡ 0 → ⊥) → 2 * i + n ≡ firstOf t (2 * i) (2 * k - 2 * i)
-  pair-stops true b p q e z = omega (arith, search-stops t (2 * k) (2 * i) (omega arith) p)
-  pair-stops false true p q e z = omega (arith, search-goes t (2 * k) (2 * i) (omega arith) p, search-stops t (2 * k) (2 * i + 1) (omega arith) q)
-  pair-stops false false p q e z = absurd (z e)
+-- what is left of the search: a number for the first of the two that fails, or what is left behind them
+pair-next : (t : ℕ → Bool) (k i : ℕ) → i < k → {n : ℕ} (a b : Bool) → t (2 * i) ≡ a → t (2 * i + 1) ≡ b → n ≡ pick a 1 (pick b 2 0)
+    → pick (eqb n 0) (firstOf t (2 * (i + 1)) (2 * k - 2 * (i + 1))) (2 * i + n) ≡ firstOf t (2 * i) (2 * k - 2 * i)
+pair-next t k i l true b p q e = rw e (sym (search-stops t (2 * k) (2 * i) (omega arith) p))
+pair-next t k i l false true p q e = rw e (omega (arith, search-goes t (2 * k) (2 * i) (omega arith) p, search-stops t (2 * k) (2 * i + 1) (omega arith) q))
+pair-next t k i l false false p q e =
+    let next : 2 * (i + 1) ≡ 2 * i + 1 + 1 = omega arith in
+    rw (e, next) (sym (search-goes t (2 * k) (2 * i) (omega arith) p ∙ search-goes t (2 * k) (2 * i + 1) (omega arith) q))
 
-  pair-goes : (a b : Bool) → t (2 * i) ≡ a → t (2 * i + 1) ≡ b → n ≡ pick a 1 (pick b 2 0) → n ≡ 0
-      → firstOf t (2 * (i + 1)) (2 * k - 2 * (i + 1)) ≡ firstOf t (2 * i) (2 * k - 2 * i)
-  pair-goes true b p q e z = absurd (omega arith)
-  pair-goes false true p q e z = absurd (omega arith)
-  pair-goes false false p q e z =
-      let next : 2 * (i + 1) ≡ 2 * i + 1 + 1 = omega arith in
-      rw next (sym (search-goes t (2 * k) (2 * i) (omega arith) p ∙ search-goes t (2 * k) (2 * i + 1) (omega arith) q))
+module _ (rec : List ℕ) {k i a m f r n : ℕ} (l : i < k) (ea : a ≡ minimumOf rec i) (em : m ≡ maximumOf rec i) (ef : f ≡ walkFlashOf rec i) (er : r ≡ redManOf rec i)
+    (en : n ≡ pick (ltb m a) 1 (pick (leb a (f + r)) 2 0)) (left : firstOf (timesFail rec) (2 * i) (2 * k - 2 * i) ≡ timesDisagree rec) where
+  next : pick (eqb n 0) (firstOf (timesFail rec) (2 * (i + 1)) (2 * k - 2 * (i + 1))) (2 * i + n) ≡ timesDisagree rec
+  next = pair-next (timesFail rec) k i l (ltb m a) (leb a (f + r)) (check-maximum rec i ∙ rw (em, ea)) (check-redman rec i ∙ rw (ea, ef, er)) en ∙ left
 
-module _ (rec : List ℕ) (k i : ℕ) (l : i < k) {a m f r n : ℕ} (ea : a ≡ minimumOf rec i) (em : m ≡ maximumOf rec i) (ef : f ≡ walkFlashOf rec i)
-    (er : r ≡ redManOf rec i) (en : n ≡ pick (ltb m a) 1 (pick (leb a (f + r)) 2 0)) where
-  maximum-at : timesFail rec (2 * i) ≡ ltb m a
-  maximum-at = check-maximum rec i ∙ rw (em, ea)
+  pub phase-stops : (n ≡ 0 → ⊥) → 2 * i + n ≡ timesDisagree rec
+  phase-stops z = rw (ne-eqb n 0 z) at next
 
-  redman-at : timesFail rec (2 * i + 1) ≡ leb a (f + r)
-  redman-at = check-redman rec i ∙ rw (ea, ef, er)
-
-  pub phase-stops : (n ≡ 0 → ⊥) → 2 * i + n ≡ firstOf (timesFail rec) (2 * i) (2 * k - 2 * i)
-  phase-stops = pair-stops (timesFail rec) k i l (ltb m a) (leb a (f + r)) maximum-at redman-at en
-
-  pub phase-goes : n ≡ 0 → firstOf (timesFail rec) (2 * (i + 1)) (2 * k - 2 * (i + 1)) ≡ firstOf (timesFail rec) (2 * i) (2 * k - 2 * i)
-  phase-goes = pair-goes (timesFail rec) k i l (ltb m a) (leb a (f + r)) maximum-at redman-at en
+  pub phase-goes : n ≡ 0 → firstOf (timesFail rec) (2 * (i + 1)) (2 * k - 2 * (i + 1)) ≡ timesDisagree rec
+  phase-goes z = rw (eq-eqb n 0 z) at next
 
 -- The checks of the rest: the count's, each green's, the cycle's, the offset's
 
@@ -105,24 +96,6 @@ module _ (rec : List ℕ) where
 
 -- Octets that are missing are 0
 
-zeros-at : (n i : ℕ) → octetAt (replicate n 0) i ≡ 0
-zeros-at zero i = refl
-zeros-at (suc n) zero = refl
-zeros-at (suc n) (suc i) = zeros-at n i
-
-padded-at : (rec : List ℕ) → length rec ≤ recordLen → (at : ℕ) → octetAt (sets (replicate recordLen 0) 0 rec) at ≡ octetAt rec at
-padded-at rec h at = rw (sets-eq rec (replicate recordLen 0) 0 (omega arith)) (by (decLt at (length rec)))
-  where
-    rest : List ℕ
-    rest = drop (0 + length rec) (replicate recordLen 0)
-
-    by : Dec (at < length rec) → octetAt (rec ++ rest) at ≡ octetAt rec at
-    by (yes l) = List·getD-append rec rest 0 at l
-    by (no g) =
-        getD-past rec rest 0 at (omega arith)
-        ∙ (getD-drop (0 + length rec) (replicate recordLen 0) (at - length rec) 0
-        ∙ (zeros-at recordLen (0 + length rec + (at - length rec)) ∙ sym (List·getD-eq-default rec 0 (omega arith))))
-
 module _ (a b : List ℕ) (same : (at : ℕ) → octetAt a at ≡ octetAt b at) where
   same-sum : (n : ℕ) → sumOf a n ≡ sumOf b n
   same-sum zero = refl
@@ -137,4 +110,5 @@ module _ (a b : List ℕ) (same : (at : ℕ) → octetAt a at ≡ octetAt b at) 
 
 pub padded-plan : (rec : List ℕ) {r : ℕ} {l : List ℕ} → length rec < recordLen → Put rec 0 (replicate recordLen 0) r l → planDisagree l ≡ planDisagree rec
 padded-plan rec h p =
-    ap planDisagree (put-stored p (omega arith) .holds) ∙ same-plan (sets (replicate recordLen 0) 0 rec) rec (padded-at rec (omega arith))
+    ap planDisagree (put-stored p (omega arith) .holds ∙ filled-is recordLen rec (omega arith))
+    ∙ same-plan (rec ++ replicate (recordLen - length rec) 0) rec (filled-at recordLen rec)

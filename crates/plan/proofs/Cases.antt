@@ -1,16 +1,13 @@
 -- The cases, computed, and what the built-in records are.
 use Prim.Native.Nat.{ℕ, zero, suc, _<_}
 use mathlib.Core.Path.{_≡_, refl}
-use mathlib.Core.Bool.{Bool, true}
-use mathlib.Core.List.{List, [], _∷_}
+use mathlib.Core.List.{_∷_, _++_}
 use native.Mathlib.Nat.{zero-add}
 use native.Mathlib.Omega.{arith}
-use borrow.Author.Tests.{ltb-true}
-use lib.Dec.{ltb}
-use Rattle.octets.specs.Choice.{both}
+use lib.ListN.{replicate}
 use Rattle.octets.specs.First.{firstOf}
 use Rattle.octets.specs.Octet.{Octets}
-use Rattle.octets.proofs.Laws.{both-left, both-right}
+use Rattle.octets.proofs.Laws.{octets-append, octets-zero}
 use Rattle.diagram.specs.Rows.{directory}
 use Rattle.diagram.specs.Table.{find, diagramOf}
 use Rattle.message.specs.Layouts.{layouts, layoutAt, known, numberOf, rowsAt, layoutRows}
@@ -20,7 +17,7 @@ use Rattle.record.specs.Record.{ready, kOf}
 use Rattle.checks.specs.Standing.{timesDisagree, planDisagree, ranged, timesStand, planStands, readyStands, allZero, standingOf}
 use Rattle.plan.specs.declared.Which.{Which}
 use Rattle.plan.specs.declared.Which.the-variants.{New, Old}
-use Rattle.plan.specs.BuiltIn.{padded, builtInGreen, builtInCycle, builtIn, PhaseSays, PlanZero, BuiltInIsSo, BuiltInsDiffer}
+use Rattle.plan.specs.BuiltIn.{padded, builtInTimes, builtInPlan, builtInGreen, builtInCycle, builtIn, PhaseSays, PlanZero, BuiltInIsSo, BuiltInsDiffer}
 use Rattle.plan.specs.Setting.{notMade, timesRecord, readyRecord, timesField, timesMade, readyMade, keptAs, setFront, setOf}
 use Rattle.plan.specs.Cases.{setAnswers, dueSetAnswers, stands, dueStands, PlanCases, booksLeft, dueBooksLeft, failedTimes, dueFailedTimes, failedPlans, dueFailedPlans, SetCases}
 use Rattle.checks.proofs.Stands.{stands-as-it-is}
@@ -29,40 +26,19 @@ pub plan-cases : PlanCases
 unfolding firstOf find directory diagramOf layouts layoutAt known numberOf rowsAt layoutRows zeros placed firstOut noMessage notRead partOf rangedOf readPartOf readOf timesDisagree planDisagree ranged timesStand planStands readyStands allZero standingOf padded notMade timesRecord readyRecord timesField timesMade readyMade keptAs setFront setOf setAnswers dueSetAnswers stands dueStands
 plan-cases = (refl, refl)
 
-books-left : booksLeft ≡ dueBooksLeft
-unfolding firstOf find directory diagramOf layouts layoutAt known numberOf rowsAt layoutRows zeros placed firstOut noMessage notRead partOf rangedOf readPartOf readOf timesDisagree planDisagree ranged timesStand planStands readyStands allZero standingOf padded notMade timesRecord readyRecord timesField timesMade readyMade keptAs setFront setOf booksLeft dueBooksLeft
-books-left = refl
-
-failed-times : failedTimes ≡ dueFailedTimes
-unfolding firstOf find directory diagramOf layouts layoutAt known numberOf rowsAt layoutRows zeros placed firstOut noMessage notRead partOf rangedOf readPartOf readOf timesDisagree planDisagree ranged timesStand planStands readyStands allZero standingOf padded notMade timesRecord readyRecord timesField timesMade readyMade keptAs setFront setOf failedTimes dueFailedTimes
-failed-times = refl
-
-failed-plans : failedPlans ≡ dueFailedPlans
-unfolding firstOf find directory diagramOf layouts layoutAt known numberOf rowsAt layoutRows zeros placed firstOut noMessage notRead partOf rangedOf readPartOf readOf timesDisagree planDisagree ranged timesStand planStands readyStands allZero standingOf padded notMade timesRecord readyRecord timesField timesMade readyMade keptAs setFront setOf failedPlans dueFailedPlans
-failed-plans = refl
-
 pub set-cases : SetCases
-set-cases = (books-left, failed-times, failed-plans)
+unfolding firstOf find directory diagramOf layouts layoutAt known numberOf rowsAt layoutRows zeros placed firstOut noMessage notRead partOf rangedOf readPartOf readOf timesDisagree planDisagree ranged timesStand planStands readyStands allZero standingOf padded notMade timesRecord readyRecord timesField timesMade readyMade keptAs setFront setOf booksLeft dueBooksLeft failedTimes dueFailedTimes failedPlans dueFailedPlans
+set-cases = (refl, refl, refl)
 
 pub built-in-stands : (which : Which) → standingOf (builtIn which) ≡ ready
 unfolding firstOf find directory diagramOf layouts layoutAt known rowsAt layoutRows zeros placed firstOut noMessage notRead partOf rangedOf readPartOf timesDisagree planDisagree ranged timesStand planStands readyStands allZero standingOf padded builtIn
 built-in-stands New = refl
 built-in-stands Old = refl
 
--- a list that passes the test is one of octets
-allOctets : List ℕ → Bool
-allOctets [] = true
-allOctets (x ∷ xs) = both (ltb x 256) (allOctets xs)
-
-octets-in : (xs : List ℕ) → allOctets xs ≡ true → Octets xs
-unfolding allOctets
-octets-in [] h = tt
-octets-in (x ∷ xs) h = (ltb-true x 256 (both-left (ltb x 256) (allOctets xs) h), octets-in xs (both-right (ltb x 256) (allOctets xs) h))
-
 pub octets-built-in : (which : Which) → Octets (builtIn which)
-unfolding padded builtIn allOctets
-octets-built-in New = octets-in (builtIn New) refl
-octets-built-in Old = octets-in (builtIn Old) refl
+unfolding padded builtIn
+octets-built-in New = octets-append (ready ∷ 2 ∷ (builtInTimes ++ (builtInTimes ++ builtInPlan New))) (replicate 54 0) (omega arith) (octets-zero 54)
+octets-built-in Old = octets-append (ready ∷ 2 ∷ (builtInTimes ++ (builtInTimes ++ builtInPlan Old))) (replicate 54 0) (omega arith) (octets-zero 54)
 
 plan-zero : (which : Which) → PlanZero (builtInGreen which) (builtInCycle which) (builtIn which)
 unfolding padded builtIn

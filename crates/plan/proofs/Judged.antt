@@ -1,6 +1,6 @@
 -- Refusals 8, 12 and 13 of reading a plan come when, and only when, 01 says, and the part is then empty; each other way gives the part that it names.
 use Prim.Native.Nat.{ℕ, _+_, _*_, _-_, _≤_}
-use mathlib.Core.Path.{_≡_, refl, sym, ap, subst, _∙_}
+use mathlib.Core.Path.{_≡_, refl, sym, ap, _∙_}
 use mathlib.Core.Bool.{Bool, true, false}
 use mathlib.Core.List.{List, []}
 use native.Mathlib.Nat.{zero-add}
@@ -22,39 +22,25 @@ use Rattle.plan.specs.BuiltIn.{builtIn}
 use Rattle.plan.specs.Reading.{recordStart, recordAt, eitherBuiltIn, readRefusal, PartRead}
 use Rattle.plan.specs.Promises.{ReadingJudged, wrongLength, overRange, unlike, emptyPlan, builtInRead, bookRead, BuiltInKnown, PlansReadSo, PartsGivenSo}
 use Rattle.plan.proofs.Readying.{stands-has, has-stands}
-use Rattle.plan.proofs.Laws.{same-is, is-same, length-built-in, either-is, is-either, refused-book, refused-copy, refused-range, read-zero, refused-zero, refused-empty, read-set}
+use Rattle.plan.proofs.Laws.{same-is, is-same, length-built-in, either-is, is-either, refused-book, refused-copy, refused-range, read-zero, refused-zero, refused-empty, read-set, read-sound}
 
 module _ (book copy : List ℕ) (p : ℕ) (o : Octets book) where
   octets : Octets (recordAt book p)
   octets = octets-part recordLen (recordStart p) book o
 
-  module _ (hb : length book ≡ bookLen) (ho : length copy ≡ recordLen) where
-    zero-by : p ≡ 0 → (t : Bool) → t ≡ eitherBuiltIn copy → ReadingJudged book copy p (readRefusal book copy p)
-    zero-by z true e =
-        let w = either-is copy (sym e) in
-        subst (ReadingJudged book copy p) (read-zero book copy p hb ho (omega (arith, z)) z e refl) (builtInRead (w .0) hb z (w .1))
-    zero-by z false e =
-        let n : (which : Which) → copy ≡ builtIn which → ⊥ = λ which q. clash (sym e) (rw q (is-either which)) in
-        subst (ReadingJudged book copy p) (refused-zero book copy p hb ho (omega (arith, z)) z e refl) (unlike hb ho z (n New) (n Old))
-
-    module _ (l : 1 ≤ p) (m : p ≤ plansMost) where
-      stands-by : Dec (standingOf (recordAt book p) ≡ empty) → ReadingJudged book copy p (readRefusal book copy p)
-      stands-by (yes z) =
-          subst (ReadingJudged book copy p) (refused-empty book copy p hb ho m (λ z. omega (arith, z)) refl z)
-          (emptyPlan hb ho l m (λ h. has-stands (recordAt book p) octets h z))
-      stands-by (no n) =
-          subst (ReadingJudged book copy p) (read-set book copy p hb ho m (λ z. omega (arith, z)) refl n)
-          (bookRead hb ho l m (stands-has (recordAt book p) octets n))
-
-    known-by : Dec (p ≤ plansMost) → Dec (p ≡ 0) → ReadingJudged book copy p (readRefusal book copy p)
-    known-by (no n) d = subst (ReadingJudged book copy p) (refused-range book copy p hb ho (omega (arith, n))) (overRange hb ho (omega (arith, n)))
-    known-by (yes m) (yes z) = zero-by z (eitherBuiltIn copy) refl
-    known-by (yes m) (no n) = stands-by (omega (arith, n)) m (ℕ-discrete (standingOf (recordAt book p)) empty)
-
-  only-then : Dec (length book ≡ bookLen) → Dec (length copy ≡ recordLen) → ReadingJudged book copy p (readRefusal book copy p)
-  only-then (no n) d = subst (ReadingJudged book copy p) (refused-book book copy p n) (wrongLength (λ b _. n b))
-  only-then (yes b) (no n) = subst (ReadingJudged book copy p) (refused-copy book copy p b n) (wrongLength (λ _ q. n q))
-  only-then (yes b) (yes q) = known-by b q (decLe p plansMost) (ℕ-discrete p 0)
+  only-then : Dec (length book ≡ bookLen) → Dec (length copy ≡ recordLen) → Dec (p ≤ plansMost) → Dec (p ≡ 0) → (t : Bool) → t ≡ eitherBuiltIn copy
+      → Dec (standingOf (recordAt book p) ≡ empty) → ReadingJudged book copy p (readRefusal book copy p)
+  only-then (no n) d d′ d″ t e s = rw (← refused-book book copy p n) (wrongLength (λ b _. n b))
+  only-then (yes b) (no n) d′ d″ t e s = rw (← refused-copy book copy p b n) (wrongLength (λ _ q. n q))
+  only-then (yes b) (yes q) (no n) d″ t e s = rw (← refused-range book copy p b q (omega (arith, n))) (overRange b q (omega (arith, n)))
+  only-then (yes b) (yes q) (yes m) (yes z) true e s = let w = either-is copy (sym e) in rw (← read-zero book copy p b q m z e refl) (builtInRead (w .0) b z (w .1))
+  only-then (yes b) (yes q) (yes m) (yes z) false e s =
+      let n : (which : Which) → copy ≡ builtIn which → ⊥ = λ which q. clash (sym e) (rw q (is-either which)) in
+      rw (← refused-zero book copy p b q m z e refl) (unlike b q z (n New) (n Old))
+  only-then (yes b) (yes q) (yes m) (no n) t e (yes z) =
+      rw (← refused-empty book copy p b q m n refl z) (emptyPlan b q (omega (arith, n)) m (λ h. has-stands (recordAt book p) octets h z))
+  only-then (yes b) (yes q) (yes m) (no n) t e (no s) =
+      rw (← read-set book copy p b q m n refl s) (bookRead b q (omega (arith, n)) m (stands-has (recordAt book p) octets s))
 
   when : {n : ℕ} → ReadingJudged book copy p n → n ≡ readRefusal book copy p
   when (wrongLength n) = by (ℕ-discrete (length book) bookLen)
@@ -83,7 +69,10 @@ module _ (book copy : List ℕ) (p : ℕ) (o : Octets book) where
 pub plans-read-so : PlansReadSo
 plans-read-so book copy p n o = (
   when book copy p o,
-  λ e. subst (ReadingJudged book copy p) (sym e) (only-then book copy p o (ℕ-discrete (length book) bookLen) (ℕ-discrete (length copy) recordLen)),
+  λ e.
+      rw e
+      (only-then book copy p o (ℕ-discrete (length book) bookLen) (ℕ-discrete (length copy) recordLen) (decLe p plansMost) (ℕ-discrete p 0) (eitherBuiltIn copy) refl
+      (ℕ-discrete (standingOf (recordAt book p)) empty)),
 )
 
 pub built-in-known : BuiltInKnown
@@ -91,28 +80,21 @@ built-in-known which rec = (same-is rec (builtIn which), λ e. rw e (is-same (bu
 
 -- The part
 
-module _ (book copy r : RefT (List ℕ)) (p : ℕ) (o : Octets (now book)) (h : PartRead book copy p r) where
+module _ (book copy r : RefT (List ℕ)) (p : ℕ) (h : PartRead book copy p r) where
   abbrev why : ℕ
   why = readRefusal (now book) (now copy) p
-
-  judged : ReadingJudged (now book) (now copy) p why
-  judged = plans-read-so (now book) (now copy) p why o .1 refl
 
   part-refused : (why ≡ 0 → ⊥) → now r ≡ []
   part-refused n = (rw (ne-eqb why 0 n) at h) .octets
 
   module _ (e : why ≡ 0) where
-    is-built-in : {n : ℕ} → ReadingJudged (now book) (now copy) p n → n ≡ 0 → p ≡ 0 → (which : Which) × (now copy ≡ builtIn which)
-    is-built-in (wrongLength n) e z = absurd (omega arith)
-    is-built-in (overRange b q l) e z = absurd (omega arith)
-    is-built-in (unlike b q z n m) e z′ = absurd (omega arith)
-    is-built-in (emptyPlan b q l m t) e z = absurd (omega arith)
-    is-built-in (builtInRead which b z c) e z′ = (which, c)
-    is-built-in (bookRead b q l m t) e z = absurd (omega arith)
+    is-built-in : p ≡ 0 → (t : Bool) → t ≡ eitherBuiltIn (now copy) → (which : Which) × (now copy ≡ builtIn which)
+    is-built-in z true q = either-is (now copy) (sym q)
+    is-built-in z false q = let s = read-sound (now book) (now copy) p e in absurd (omega (arith, refused-zero (now book) (now copy) p (s .0) (s .1) (s .2) z q refl))
 
     all-of-copy : p ≡ 0 → (r .ptr ≡ copy .ptr) × (now r ≡ now copy) × ((which : Which) × (now copy ≡ builtIn which))
     all-of-copy z =
-        let c = is-built-in judged e z in
+        let c = is-built-in z (eitherBuiltIn (now copy)) refl in
         let g : PartOf copy 0 recordLen r = rw (eq-eqb why 0 e, eq-eqb p 0 z) at h in
         let l : length (now copy) ≤ 80 = omega (arith, ap length (c .1), length-built-in (c .0)) in
         (g .place ∙ rw zero-add, g .octets ∙ take-all 80 (now copy) l, c)
@@ -127,8 +109,8 @@ pub parts-given-so : PartsGivenSo
 parts-given-so book copy r p why o h =
     rw (h .refusal)
     (record {
-      judged = judged book copy r p o (h .part);
-      refused = part-refused book copy r p o (h .part);
-      builtInAll = all-of-copy book copy r p o (h .part);
-      ofBook = of-book book copy r p o (h .part);
+      judged = plans-read-so (now book) (now copy) p (readRefusal (now book) (now copy) p) o .1 refl;
+      refused = part-refused book copy r p (h .part);
+      builtInAll = all-of-copy book copy r p (h .part);
+      ofBook = of-book book copy r p (h .part);
     })

@@ -13,21 +13,16 @@ use Rattle.octets.specs.Refusal as refusal
 use Rattle.message.specs.declared.Read.{Read}
 use Rattle.message.specs.Reader.{codeIn, bodyIn, notRead, readOf}
 use Rattle.message.proofs.Reading.{read-11}
-use Rattle.plan.specs.declared.setting.Answered.{Answered}
 use Rattle.plan.specs.declared.setting.NewRecord.{NewRecord}
 use Rattle.record.specs.Record.{bookLen, plansMost}
 use Rattle.plan.specs.Reading.{recordAt, readRefusal}
 use Rattle.plan.specs.Setting.{planIn, answered, setFront, setOf, timesMade, readyMade, setTimesCode, setPlanCode, setTimesOf, setPlanOf}
 use Rattle.plan.specs.Promises.{SetRefused, SetsRefuse, RecordStored, OthersRead, SetsLeaveOthers, WellFormed, BookWellFormed, SetsKeepForm}
-use Rattle.plan.proofs.Sets.{front-book, front-code, front-read, other-code, no-code, front-sound}
+use Rattle.plan.proofs.Sets.{front-book, front-code, front-read, other-code, no-code, front-sound, set-is}
 use Rattle.plan.proofs.Storing.{times-stored-exactly-when}
 use Rattle.plan.proofs.Readying.{plan-stored-exactly-when}
 
 module _ (code : ℕ) (m : NewRecord) (book info : List ℕ) where
-  set-is : {a : Answered} → a ≡ setFront (length book) code info → (a .refusal ≡ refusal.none → ⊥) → setOf code m book info ≡ record { answer = a; book = book }
-  unfolding setOf
-  set-is {a} e n = rw (← e, ne-eqb (a .refusal) refusal.none n)
-
   short : length info < codeLen → answered refusal.infoLengthWrong 0 ≡ answered (readOf info .refusal) (readOf info .field)
   unfolding notRead
   short l = ap (λ (r : Read). answered (r .refusal) (r .field)) (read-11 info l)
@@ -35,9 +30,9 @@ module _ (code : ℕ) (m : NewRecord) (book info : List ℕ) where
   set-refuses : SetRefused code book info (setOf code m book info)
   set-refuses =
       record {
-        wrongBook = λ n. set-is (front-book (length book) code info n) (λ z. absurd (omega arith));
-        otherCode = λ hb l n. set-is (front-code (length book) code info hb (other-code (length book) code info l n) refl) (λ z. absurd (omega arith));
-        noCode = λ hb l. set-is (short l ∙ front-read (length book) code info hb (no-code (length book) code info l) refl refl) (λ z. absurd (omega arith));
+        wrongBook = λ n. set-is code m book info (front-book (length book) code info n) (λ z. absurd (omega arith));
+        otherCode = λ hb l n. set-is code m book info (front-code (length book) code info hb (other-code (length book) code info l n) refl) (λ z. absurd (omega arith));
+        noCode = λ hb l. set-is code m book info (short l ∙ front-read (length book) code info hb (no-code (length book) code info l) refl refl) (λ z. absurd (omega arith));
       }
 
 pub sets-refuse : SetsRefuse

@@ -1,7 +1,7 @@
 -- What follows from the definitions of specs/: one law for each way through.
 use Prim.Native.Nat.{ℕ, _+_, _-_, _≤_, _<_}
 use mathlib.Core.Path.{_≡_, refl, sym, ap, _∙_}
-use mathlib.Core.Bool.{Bool, true, false, not, _||_}
+use mathlib.Core.Bool.{Bool, true, false, not, _||_, or-true}
 use mathlib.Core.List.{List, [], _∷_}
 use native.Mathlib.Omega.{arith}
 use borrow.Author.Tests.{eq-eqb, ne-eqb, le-leb, lt-leb, eqb-true, leb-true}
@@ -71,11 +71,7 @@ either-is copy h = by (same copy (builtIn New)) refl h
 pub is-either : (which : Which) → eitherBuiltIn (builtIn which) ≡ true
 unfolding eitherBuiltIn
 is-either New = rw (is-same (builtIn New))
-is-either Old = by (same (builtIn Old) (builtIn New))
-  where
-    by : (t : Bool) → t || same (builtIn Old) (builtIn Old) ≡ true
-    by true = refl
-    by false = is-same (builtIn Old)
+is-either Old = rw (is-same (builtIn Old)) (or-true (same (builtIn Old) (builtIn New)))
 
 pub record-from : (book : List ℕ) (at p : ℕ) → at ≡ recordStart p → take (at + recordLen - at) (drop at book) ≡ recordAt book p
 record-from book at p e = let n : at + recordLen - at ≡ recordLen = omega arith in rw (n, e)

@@ -61,13 +61,11 @@ pub record PlanReport (code : ℕ) : Type 0 where
 pub plan-report : {code : ℕ} → (code ≡ reportPlanCode) ⊎ (code ≡ reportRunningCode) → PlanReport code
 unfolding numberOf firstOf rowsAt layoutRows layoutAt layouts
 plan-report (inl e) =
-    let n = field-numbers .reportPlan in
-    let t = counted-by (omega arith) (omega arith) (λ z. omega arith) (counts-as-said .reportPlan) (λ k. n k .size) in
-    rw e (record { counted = t; rows = λ k. refl; numbers = n; reports = refl })
+    let t = counted-by (omega arith) (omega arith) (λ z. omega arith) (counts-as-said .reportPlan) (λ k. field-numbers .reportPlan k .size) in
+    rw e (record { counted = t; rows = λ k. refl; numbers = field-numbers .reportPlan; reports = refl })
 plan-report (inr e) =
-    let n = field-numbers .reportRunning in
-    let t = counted-by (omega arith) (omega arith) (λ z. omega arith) (counts-as-said .reportRunning) (λ k. n k .size) in
-    rw e (record { counted = t; rows = λ k. refl; numbers = n; reports = refl })
+    let t = counted-by (omega arith) (omega arith) (λ z. omega arith) (counts-as-said .reportRunning) (λ k. field-numbers .reportRunning k .size) in
+    rw e (record { counted = t; rows = λ k. refl; numbers = field-numbers .reportRunning; reports = refl })
 
 -- the octets after the code: as many as the count says, and each field in its range
 abbrev pub InRanges : ℕ → ℕ → ℕ → ℕ → List ℕ → Type 0

@@ -5,29 +5,29 @@ use mathlib.Core.Logic.{_↔_, inl, inr}
 use mathlib.Core.List.{List, _∷_, _++_, append-assoc}
 use native.Mathlib.Decide.{decLt, ℕ-discrete}
 use native.Mathlib.Omega.{arith}
-use borrow.Author.Tests.{eq-eqb, ne-eqb, eqb-true, eqb-false, leb-true, not-true, not-false}
+use borrow.Author.Tests.{eqb-true, eqb-false, leb-true, not-true, not-false}
 use lib.Dec.{eqb}
 use lib.ListN.{length, take, drop, replicate}
+use lib.Seq.{sets}
 use Rattle.octets.specs.First.{First, firstOf}
 use Rattle.octets.specs.Octet.{Octets}
 use Rattle.octets.specs.Refusal as refusal
 use Rattle.octets.proofs.Laws.{clash, octets-part}
 use Rattle.diagram.specs.Table.{phasesOf}
 use Rattle.message.specs.Layouts.{layouts, layoutAt, numberOf, rowsAt, layoutRows, greens, cycleOffset}
-use Rattle.message.specs.Names.{planAt, planCountAt}
+use Rattle.message.specs.Names.{planCountAt}
 use Rattle.message.specs.Reader.{codeIn, bodyIn, readOf}
-use Rattle.plan.specs.declared.setting.NewRecord.{NewRecord}
 use Rattle.record.specs.Record.{recordLen, bookLen, empty, timesSet, ready, octetAt, wordAt, kOf, timesAt, timesEnd, greensAt, readyEnd, minimumOf, maximumOf, directOf, orderOf, greenOf, cycleOf, offsetOf, sumOf, Within, AllTimesFit, Ready}
 use Rattle.checks.specs.Standing.{planFails, planChecks, planDisagree, standingOf, Stands}
 use Rattle.plan.specs.BuiltIn.{padded}
 use Rattle.plan.specs.Reading.{recordStart, recordAt}
-use Rattle.plan.specs.Setting.{planIn, countIn, Setting, readyRecord, planField, readyMade, setPlanCode, setPlanOf}
-use Rattle.plan.specs.Promises.{directIn, orderIn, greenIn, cycleIn, offsetIn, sumIn, Ranges15, HasTimes, CountAgrees, GreenAgrees, Fit15, Disagrees15, count, green, cycle, offset, RecordStored, SameTimes, Holds15, PlanJudged, PlanStoredExactlyWhen}
+use Rattle.plan.specs.Setting.{planIn, countIn, Setting, answered, readyRecord, planField, readyMade, setPlanCode, setPlanOf}
+use Rattle.plan.specs.Promises.{directIn, orderIn, greenIn, cycleIn, offsetIn, sumIn, Ranges15, HasTimes, CountAgrees, GreenAgrees, Fit15, Disagrees15, count, green, cycle, offset, RecordStored, SameTimes, Holds15, PlanStoredExactlyWhen}
 use Rattle.checks.proofs.Fields.{ranged-repeated}
-use Rattle.checks.proofs.Stands.{PlanAgrees, plan-first, plan-agrees, agrees-plan, green-within, within-green, check-green, check-cycle, check-offset, stands-as-it-is}
+use Rattle.checks.proofs.Stands.{PlanAgrees, plan-first, plan-agrees, agrees-plan, agree-greens, green-within, within-green, check-green, check-cycle, check-offset, stands-as-it-is}
 use Rattle.plan.proofs.Ranges.{InRanges, set-plan, read-ranges}
-use Rattle.plan.proofs.Sets.{read-plan, padded-at, padded-long, padded-rest, readyOctets, ready-long, ready-times, ready-two, ready-rest, ready-k}
-use Rattle.plan.proofs.Storing.{stored-here, notSet, nowSet, set-read, set-unread, kept-made, kept-not-made, Way, unread, unset, refused, fits, way-only, way-kept, way-unset, way-named, same-times, same-fit}
+use Rattle.plan.proofs.Sets.{read-plan, padded-at, padded-long, padded-rest, readyOctets, ready-long, ready-times, ready-two, ready-rest, ready-k, ready-unset, ready-count, ready-not, ready-is}
+use Rattle.plan.proofs.Storing.{stored-here, Makes, unset, refused, fits, set-made, judged, same-times, same-fit}
 
 one-run : (x : ℕ) (xs ys zs ws : List ℕ) → (x ∷ (xs ++ (ys ++ zs))) ++ ws ≡ x ∷ (xs ++ (ys ++ (zs ++ ws)))
 one-run x xs ys zs ws = ap (λ (l : List ℕ). x ∷ l) (append-assoc xs (ys ++ zs) ws ∙ ap (λ (l : List ℕ). xs ++ l) (append-assoc ys zs ws))
@@ -63,13 +63,16 @@ module _ (body : List ℕ) where
 -- A plan that has times
 
 module _ (rec : List ℕ) where
-  pub has-long : HasTimes rec → length rec ≡ recordLen
+  has-long : HasTimes rec → length rec ≡ recordLen
   has-long (inl t) = t .long
   has-long (inr r) = r .long
 
-  pub has-fit : HasTimes rec → AllTimesFit rec
+  has-fit : HasTimes rec → AllTimesFit rec
   has-fit (inl t) = t .times
   has-fit (inr r) = r .times
+
+  pub has-ends : HasTimes rec → timesEnd rec ≤ length rec
+  has-ends h = omega (arith, has-long h, has-fit h .count .most)
 
   module _ (o : Octets rec) where
     s : Stands rec
@@ -95,32 +98,29 @@ module _ (old body : List ℕ) (h : HasTimes old) (r : Ranges15 body) (e : count
   abbrev k : ℕ
   k = kOf old
 
-  long-old : timesEnd old ≤ length old
-  long-old = omega (arith, has-long old h, has-fit old h .count .most)
-
   long-body : 4 ≤ length body
   long-body = omega (arith, r .long)
 
   m-k : kOf m ≡ k
-  m-k = ready-k old body long-old long-body
+  m-k = ready-k old body (has-ends old h) long-body
 
   m-octet : (i : ℕ) → i < k → (j : ℕ) → timesAt i ≤ j → j < timesAt i + 7 → octetAt m j ≡ octetAt old j
-  m-octet i l j a b = ready-times old body long-old long-body j (omega arith) (omega arith)
+  m-octet i l j a b = ready-times old body (has-ends old h) long-body j (omega arith) (omega arith)
 
   m-times : (i : ℕ) → i < k → SameTimes m old i
   m-times i l = same-times m old i (m-octet i l)
 
   m-direct : directOf m ≡ directIn body
-  m-direct = let q : timesAt (kOf m) ≡ timesEnd old + 0 = omega (arith, m-k) in ap (octetAt m) q ∙ ready-two old body long-old long-body 0 (omega arith)
+  m-direct = let q : timesAt (kOf m) ≡ timesEnd old + 0 = omega (arith, m-k) in ap (octetAt m) q ∙ ready-two old body (has-ends old h) long-body 0 (omega arith)
 
   m-order : orderOf m ≡ orderIn body
-  m-order = let q : timesAt (kOf m) + 1 ≡ timesEnd old + 1 = omega (arith, m-k) in ap (octetAt m) q ∙ ready-two old body long-old long-body 1 (omega arith)
+  m-order = let q : timesAt (kOf m) + 1 ≡ timesEnd old + 1 = omega (arith, m-k) in ap (octetAt m) q ∙ ready-two old body (has-ends old h) long-body 1 (omega arith)
 
   m-word : (at j : ℕ) → at ≡ timesEnd old + (2 + j) → wordAt m at ≡ wordAt body (4 + j)
   m-word at j q =
       let q′ : at + 1 ≡ timesEnd old + (2 + (j + 1)) = omega arith in
       let b : 4 + (j + 1) ≡ 4 + j + 1 = omega arith in
-      rw (q′, q, ready-rest old body long-old long-body j, ready-rest old body long-old long-body (j + 1), b)
+      rw (q′, q, ready-rest old body (has-ends old h) long-body j, ready-rest old body (has-ends old h) long-body (j + 1), b)
 
   m-green : (i : ℕ) → greenOf m i ≡ greenIn body i
   m-green i = m-word (greensAt m + 2 * i) (2 * i) (omega (arith, m-k))
@@ -137,11 +137,8 @@ module _ (old body : List ℕ) (h : HasTimes old) (r : Ranges15 body) (e : count
   m-sum zero l = refl
   m-sum (suc n) l = rw (m-sum n (omega arith), m-green n, m-times n l .yellow, m-times n l .allRed)
 
-  m-within : (i : ℕ) → i < k → Within (minimumOf m i) (greenOf m i) (maximumOf m i) → GreenAgrees old body i
-  m-within i l w = rw (m-times i l .minimum, m-times i l .maximum, m-green i) at w
-
-  within-m : (i : ℕ) → i < k → GreenAgrees old body i → Within (minimumOf m i) (greenOf m i) (maximumOf m i)
-  within-m i l w = rw (m-times i l .minimum, m-times i l .maximum, m-green i) w
+  m-within : (i : ℕ) → i < k → Within (minimumOf m i) (greenOf m i) (maximumOf m i) ≡ GreenAgrees old body i
+  m-within i l = rw (m-times i l .minimum, m-times i l .maximum, m-green i)
 
   m-total : sumOf m (kOf m) ≡ sumIn old body (countIn body)
   m-total = ap (sumOf m) (m-k ∙ sym e) ∙ m-sum (countIn body) (omega (arith, e))
@@ -152,13 +149,13 @@ module _ (old body : List ℕ) (h : HasTimes old) (r : Ranges15 body) (e : count
     m-agrees =
         record {
           count = m-k ∙ (sym e ∙ (f .count .diagram ∙ ap phasesOf (sym m-order)));
-          green = λ i l. within-m i (omega (arith, m-k)) (f .green i (omega (arith, m-k, e)));
+          green = λ i l. rw (m-within i (omega (arith, m-k))) (f .green i (omega (arith, m-k, e)));
           cycle = m-cycle ∙ (f .cycle ∙ sym m-total);
           offset = rw (m-offset, m-cycle) (f .offset);
         }
 
     m-len : length (readyOctets old body) ≡ timesEnd old + 2 + (length body - 4)
-    m-len = ready-long old body long-old long-body
+    m-len = ready-long old body (has-ends old h) long-body
 
     pub m-long : length m ≡ recordLen
     unfolding readyRecord
@@ -175,17 +172,8 @@ module _ (old body : List ℕ) (h : HasTimes old) (r : Ranges15 body) (e : count
                 count = rw m-k (has-fit old h .count);
                 phases = λ i l. let l′ : i < k = omega (arith, m-k) in same-fit m old i (m-octet i l′) (has-fit old h .phases i l′);
               };
-          greens =
-              record {
-                direct = rw m-direct (r .direct);
-                count = m-agrees .count;
-                green = m-agrees .green;
-                cycle = m-agrees .cycle;
-                most = rw m-cycle (r .cycle .most);
-                offset = m-agrees .offset;
-              };
-          rest =
-              padded-rest (readyOctets old body) (readyEnd m) (omega (arith, m-len, r .long, e, m-k));
+          greens = agree-greens m m-agrees (rw m-direct (r .direct)) (rw m-cycle (r .cycle .most));
+          rest = padded-rest (readyOctets old body) (readyEnd m) (omega (arith, m-len, r .long, e, m-k));
         }
 
     m-octets : m ≡ 0x02 ∷ (take (1 + 7 * k) (drop 1 old) ++ (take 2 (drop 1 body) ++ (drop 4 body ++ replicate (72 - 9 * k) 0)))
@@ -197,27 +185,20 @@ module _ (old body : List ℕ) (h : HasTimes old) (r : Ranges15 body) (e : count
 
     pub m-holds : Holds15 old body m
     m-holds =
-        record {
-          octets = m-octets;
-          stands = m-ready;
-          count = m-k;
-          times = m-times;
-          direct = m-direct;
-          order = m-order;
-          green = λ i l. m-green i;
-          cycle = m-cycle;
-          offset = m-offset;
-        }
+        record { octets = m-octets; stands = m-ready; count = m-k; times = m-times; direct = m-direct; order = m-order; green = λ i l. m-green i; cycle = m-cycle; offset = m-offset }
 
   -- what the checks of the record say of the message
+  m-count : kOf m ≡ phasesOf (orderOf m) → CountAgrees old body
+  m-count c = record { stored = e; diagram = e ∙ (sym m-k ∙ (c ∙ ap phasesOf m-order)) }
+
   m-fit : planDisagree m ≡ 0 → Fit15 old body
   m-fit z =
       let a = plan-agrees m z in
       record {
         ranges = r;
         set = h;
-        count = record { stored = e; diagram = e ∙ (sym m-k ∙ (a .count ∙ ap phasesOf m-order)) };
-        green = λ i l. m-within i (omega (arith, e)) (a .green i (omega (arith, m-k, e)));
+        count = m-count (a .count);
+        green = λ i l. rw (m-within i (omega (arith, e))) at (a .green i (omega (arith, m-k, e)));
         cycle = sym m-cycle ∙ (a .cycle ∙ m-total);
         offset = rw (m-offset, m-cycle) at (a .offset);
       }
@@ -226,12 +207,10 @@ module _ (old body : List ℕ) (h : HasTimes old) (r : Ranges15 body) (e : count
   m-disagrees n = by (planDisagree m) (plan-first m) n
     where
       counted : (n : ℕ) → First (planFails m) (planChecks m) n → 1 < n → CountAgrees old body
-      counted n f l =
-          let c = eqb-true (kOf m) (phasesOf (orderOf m)) (not-false (eqb (kOf m) (phasesOf (orderOf m))) (f .before 0 (omega arith))) in
-          record { stored = e; diagram = e ∙ (sym m-k ∙ (c ∙ ap phasesOf m-order)) }
+      counted n f l = m-count (eqb-true (kOf m) (phasesOf (orderOf m)) (not-false (eqb (kOf m) (phasesOf (orderOf m))) (f .before 0 (omega arith))))
 
       greened : (n : ℕ) → First (planFails m) (planChecks m) n → (j : ℕ) → j + 2 < n → j < k → GreenAgrees old body j
-      greened n f j l lk = m-within j lk (green-within m j (sym (check-green m j (omega (arith, m-k))) ∙ f .before (j + 1) (omega arith)))
+      greened n f j l lk = rw (m-within j lk) at (green-within m j (sym (check-green m j (omega (arith, m-k))) ∙ f .before (j + 1) (omega arith)))
 
       summed : (n : ℕ) → First (planFails m) (planChecks m) n → kOf m + 2 < n → cycleIn body ≡ sumIn old body (countIn body)
       summed n f l =
@@ -252,7 +231,7 @@ module _ (old body : List ℕ) (h : HasTimes old) (r : Ranges15 body) (e : count
               let t = sym (check-green m i (omega arith)) ∙ f .here (i + 1) (omega arith) in
               subst (Disagrees15 old body) q
               (green i (omega (arith, m-k, e)) (counted n f (omega arith)) (λ j l. greened n f j (omega arith) (omega (arith, m-k)))
-              (λ w. clash (within-green m i (within-m i (omega (arith, m-k)) w)) t))
+              (λ w. clash (within-green m i (rw (m-within i (omega (arith, m-k))) w)) t))
           go (no z) (yes d) (yes c) =
               let x = eqb-false (cycleOf m) (sumOf m (kOf m)) (not-true (eqb (cycleOf m) (sumOf m (kOf m))) (sym (check-cycle m) ∙ f .here (kOf m + 1) (omega arith))) in
               let q : 5 + countIn body ≡ planField n = omega (arith, m-k, e) in
@@ -281,79 +260,46 @@ module _ (book info : List ℕ) (hb : length book ≡ bookLen) (ob : Octets book
   old-octets : Octets old
   old-octets = octets-part recordLen (recordStart p) book ob
 
-  abbrev what : NewRecord
-  what = readyMade old os
-
   abbrev m15 : List ℕ
   m15 = readyRecord old os
 
-  module _ (er : readOf info .refusal ≡ refusal.none) where
-    read-unset : standingOf old ≡ empty → setPlanOf book info ≡ notSet book refusal.notReady planAt
-    unfolding readyMade
-    read-unset z = set-read setPlanCode what book info hb hc er ∙ rw (eq-eqb (standingOf old) empty z) (kept-not-made p book refusal.notReady planAt (λ z. absurd (omega arith)))
+  module _ (f : Fit15 old os) where
+    fit-set : setPlanOf book info ≡ record { answer = answered refusal.none 0; book = sets book (recordStart p) m15 }
+    fit-set =
+        set-made setPlanCode (readyMade old os) book info hb hc (read-ranges set-plan info hc .1 (in-ranges os .1 (f .ranges)))
+        (ready-is old os refl (has-stands old old-octets (f .set)) refl refl (f .count .stored) refl (agrees-plan m15 (m-agrees old os (f .set) (f .ranges) (f .count .stored) f)) refl)
 
-    module _ (hs : standingOf old ≡ empty → ⊥) where
-      read-count : (countIn os ≡ kOf old → ⊥) → setPlanOf book info ≡ notSet book refusal.disagree planCountAt
-      unfolding readyMade
-      read-count n =
-          set-read setPlanCode what book info hb hc er
-          ∙ rw (ne-eqb (standingOf old) empty hs, ne-eqb (countIn os) (kOf old) n) (kept-not-made p book refusal.disagree planCountAt (λ z. absurd (omega arith)))
+    pub plan-stored : RecordStored book p m15 (setPlanOf book info .book)
+    plan-stored = rw fit-set (stored-here book p m15 hb (f .ranges .plan .least) (f .ranges .plan .most) (m-long old os (f .set) (f .ranges) (f .count .stored) f))
 
-      module _ (ek : countIn os ≡ kOf old) where
-        read-disagrees : (planDisagree m15 ≡ 0 → ⊥) → setPlanOf book info ≡ notSet book refusal.disagree (planField (planDisagree m15))
-        unfolding readyMade
-        read-disagrees n =
-            set-read setPlanCode what book info hb hc er
-            ∙ rw (ne-eqb (standingOf old) empty hs, eq-eqb (countIn os) (kOf old) ek, ne-eqb (planDisagree m15) 0 n)
-            (kept-not-made p book refusal.disagree (planField (planDisagree m15)) (λ z. absurd (omega arith)))
-
-        read-done : planDisagree m15 ≡ 0 → setPlanOf book info ≡ nowSet book p m15
-        unfolding readyMade
-        read-done z =
-            set-read setPlanCode what book info hb hc er
-            ∙ rw (ne-eqb (standingOf old) empty hs, eq-eqb (countIn os) (kOf old) ek, eq-eqb (planDisagree m15) 0 z) (kept-made p book m15)
-
-  pub fit-done : Fit15 old os → setPlanOf book info ≡ nowSet book p m15
-  fit-done f =
-      read-done (read-ranges set-plan info hc .1 (in-ranges os .1 (f .ranges))) (has-stands old old-octets (f .set)) (f .count .stored)
-      (agrees-plan m15 (m-agrees old os (f .set) (f .ranges) (f .count .stored) f))
-
-  abbrev PlanWay : Setting → Type 0
-  PlanWay = Way book info m15 (Fit15 old os) (HasTimes old) (Disagrees15 old os)
-
-  way : PlanWay (setPlanOf book info)
-  way = by (ℕ-discrete (readOf info .refusal) refusal.none) (ℕ-discrete (standingOf old) empty) (ℕ-discrete (countIn os) (kOf old)) (ℕ-discrete (planDisagree m15) 0)
+  makes : readOf info .refusal ≡ refusal.none → Makes m15 (Fit15 old os) (HasTimes old) (Disagrees15 old os) (readyMade old os)
+  makes e = by (ℕ-discrete (standingOf old) empty) (ℕ-discrete (countIn os) (kOf old)) (ℕ-discrete (planDisagree m15) 0)
     where
-      by : Dec (readOf info .refusal ≡ refusal.none) → Dec (standingOf old ≡ empty) → Dec (countIn os ≡ kOf old) → Dec (planDisagree m15 ≡ 0) → PlanWay (setPlanOf book info)
-      by (no n) d d′ d″ = subst PlanWay (sym (set-unread setPlanCode what book info hb hc n)) (unread n)
-      by (yes e) (yes z) d′ d″ = subst PlanWay (sym (read-unset e z)) (unset (λ h. has-stands old old-octets h z))
-      by (yes e) (no hs) (no n) d″ = subst PlanWay (sym (read-count e hs n)) (refused planCountAt (stands-has old old-octets hs) (count (λ a. n (a .stored))))
-      by (yes e) (no hs) (yes ek) (no n) =
-          let h = stands-has old old-octets hs in
-          subst PlanWay (sym (read-disagrees e hs ek n)) (refused (planField (planDisagree m15)) h (m-disagrees old os h (in-ranges os .0 (read-plan info e hc)) ek n))
-      by (yes e) (no hs) (yes ek) (yes z) =
-          let h = stands-has old old-octets hs in
-          subst PlanWay (sym (read-done e hs ek z)) (fits h (m-fit old os h (in-ranges os .0 (read-plan info e hc)) ek z))
+      r : Ranges15 os
+      r = in-ranges os .0 (read-plan info e hc)
 
-  pub plan-judged : PlanJudged book info old
-  plan-judged =
-      record {
-        rec = m15;
-        stored = λ f.
-            subst (λ (w : Setting). RecordStored book p m15 (w .book)) (sym (fit-done f))
-            (stored-here book p m15 hb (f .ranges .plan .least) (f .ranges .plan .most)
-            (m-long old os (f .set) (f .ranges) (f .count .stored) f));
-        holds = λ f. m-holds old os (f .set) (f .ranges) (f .count .stored) f;
-        accepted = λ f. ap (λ (w : Setting). w .answer .refusal) (fit-done f);
-        noneNamed = λ f. ap (λ (w : Setting). w .answer .field) (fit-done f);
-        only = way-only way;
-        kept = way-kept way;
-        unread = λ n.
-            let e = set-unread setPlanCode what book info hb hc n in
-            (ap (λ (w : Setting). w .answer .refusal) e, ap (λ (w : Setting). w .answer .field) e);
-        unset = λ e. way-unset e way;
-        named = λ e. way-named e way;
-      }
+      by : Dec (standingOf old ≡ empty) → Dec (countIn os ≡ kOf old) → Dec (planDisagree m15 ≡ 0) → Makes m15 (Fit15 old os) (HasTimes old) (Disagrees15 old os) (readyMade old os)
+      by (yes z) d d′ = rw (← ready-unset old os refl z) (unset (λ h. has-stands old old-octets h z))
+      by (no hs) (no n) d = rw (← ready-count old os refl hs refl refl n) (refused planCountAt (stands-has old old-octets hs) (count (λ a. n (a .stored))))
+      by (no hs) (yes ek) (no n) =
+          let h = stands-has old old-octets hs in
+          rw (← ready-not old os refl hs refl refl ek refl n refl) (refused (planField (planDisagree m15)) h (m-disagrees old os h r ek n))
+      by (no hs) (yes ek) (yes z) =
+          let h = stands-has old old-octets hs in
+          rw (← ready-is old os refl hs refl refl ek refl z refl) (fits h (m-fit old os h r ek z))
 
 pub plan-stored-exactly-when : PlanStoredExactlyWhen
-plan-stored-exactly-when book info hb ob hc = plan-judged book info hb ob hc
+plan-stored-exactly-when book info hb ob hc =
+    let j = judged setPlanCode (readyMade (old book info hb ob hc) (bodyIn info)) book info hb hc (makes book info hb ob hc) in
+    record {
+      rec = m15 book info hb ob hc;
+      stored = plan-stored book info hb ob hc;
+      holds = λ f. m-holds (old book info hb ob hc) (bodyIn info) (f .set) (f .ranges) (f .count .stored) f;
+      accepted = λ f. ap (λ (w : Setting). w .answer .refusal) (fit-set book info hb ob hc f);
+      noneNamed = λ f. ap (λ (w : Setting). w .answer .field) (fit-set book info hb ob hc f);
+      only = j .only;
+      kept = j .kept;
+      unread = j .unread;
+      unset = j .unset;
+      named = j .named;
+    }

@@ -21,14 +21,14 @@ use Rattle.message.specs.Writer.{writable}
 use Rattle.message.proofs.Accepted.{accepted-in, is-part, again, readPart}
 use Rattle.message.proofs.WrittenSo.{in-writable}
 use Rattle.message.proofs.Numbers.{stored-parts}
-use Rattle.record.specs.Record.{bookLen, plansMost, empty, ready, octetAt, kOf, timesEnd, greensAt, readyEnd, directOf, orderOf, AllTimesFit}
+use Rattle.record.specs.Record.{bookLen, plansMost, empty, ready, octetAt, kOf, timesEnd, greensAt, readyEnd, directOf, orderOf}
 use Rattle.checks.specs.Standing.{headLen, between, standingOf}
 use Rattle.plan.specs.Reading.{recordStart, recordAt}
 use Rattle.plan.specs.Reporting.{reportPlanCode, reportRunningCode, timesInfo, planInfo, reportTimesOf, reportsPlan, reportPlanOf}
 use Rattle.plan.specs.Promises.{NoReport, ReportsRead}
 use Rattle.checks.proofs.Laws.{stands-long}
 use Rattle.checks.proofs.Fields.{ranged-same}
-use Rattle.checks.proofs.Stands.{part-long, part-at, times-fit, fit-ranged, plan-places, some-long, some-times, ready-plan}
+use Rattle.checks.proofs.Stands.{part-long, part-at, fit-ranged, plan-places, some-long, some-fit, ready-plan}
 use Rattle.plan.proofs.Ranges.{InRanges, PlanReport, report-times, plan-report, ranges-as}
 use Rattle.plan.proofs.Reports.{times-none, times-told, plan-none, plan-other, plan-told}
 
@@ -59,12 +59,8 @@ module _ (rec : List ℕ) (p : ℕ) where
 
 -- They are in their ranges
 
-module _ (rec : List ℕ) (n : standingOf rec ≡ empty → ⊥) where
-  pub some-fit : AllTimesFit rec
-  some-fit = times-fit rec (some-times rec n)
-
-  pub some-ends : readyEnd rec ≤ length rec
-  some-ends = omega (arith, some-long rec n, some-fit .count .most)
+pub some-ends : (rec : List ℕ) → (standingOf rec ≡ empty → ⊥) → readyEnd rec ≤ length rec
+some-ends rec n = omega (arith, some-long rec n, some-fit rec n .count .most)
 
 module _ (rec : List ℕ) (p : ℕ) (hp : p ≤ plansMost) (n : standingOf rec ≡ empty → ⊥) where
   pub times-body : InRanges 0x5FC4 1 2 7 (timesBody rec p)

@@ -17,12 +17,12 @@ use Rattle.message.proofs.Numbers.{field-numbers}
 use Rattle.message.proofs.Places.{values-stand}
 use Rattle.record.specs.Record.{empty, ready, octetAt, wordAt, kOf, timesAt, timesEnd, greensAt, readyEnd}
 use Rattle.checks.specs.Standing.{standingOf}
-use Rattle.checks.proofs.Stands.{part-long, stands-as-it-is}
+use Rattle.checks.proofs.Stands.{part-long, some-fit, stands-as-it-is}
 use Rattle.plan.specs.Reporting.{timesInfo, planInfo}
 use Rattle.plan.specs.Reported.{twoAt, valueAt, PhaseInInfo, PhaseInMessage, TimesInInfo, TimesInMessage, TimesReportedByFields, PlanInInfo, PlanInMessage, PlanReportedByFields}
 use Rattle.plan.proofs.Ranges.{Counted, PlanReport, report-times, plan-report, read-value, read-many}
 use Rattle.plan.proofs.Readying.{has-stands}
-use Rattle.plan.proofs.Reportable.{some-fit, some-ends, times-at, plan-at, times-read, plan-read}
+use Rattle.plan.proofs.Reportable.{some-ends, times-at, plan-at, times-read, plan-read}
 
 -- a field's value is that of its octets
 module _ {c place once each : ℕ} (t : Counted c place once each) (info : List ℕ) (hc : codeIn info ≡ c) (e : readOf info .refusal ≡ refusal.none) where

@@ -15,7 +15,7 @@ use Rattle.message.specs.Reader.{noMessage, readOf}
 use Rattle.record.specs.Record.{recordLen, empty, ready, kOf, timesEnd, greensAt, readyEnd, directOf, orderOf}
 use Rattle.checks.specs.Standing.{between, standingOf}
 use Rattle.plan.specs.Reporting.{reportMost, reportTimesCode, timesInfo, planInfo, reportTimesOf, reportsPlan, reportPlanOf}
-use Rattle.checks.proofs.Stands.{times-fit, some-long, some-times}
+use Rattle.checks.proofs.Stands.{some-long, some-fit}
 
 -- two runs of octets, one after the other, from the front
 module _ (front rest : List ℕ) {p n : ℕ} {l m : List ℕ} (h : length front + length rest ≤ reportMost) (a : Put front 0 (replicate reportMost 0) p l) (b : Put rest p l n m) where
@@ -43,7 +43,7 @@ module _ (rec : List ℕ) (p : ℕ) {s : ℕ} (es : s ≡ standingOf rec) where
   module _ (hs : s ≡ empty → ⊥) where
     -- what is reported lies within the octets
     held : (length rec ≡ recordLen) × (kOf rec ≤ 8)
-    held = let n : standingOf rec ≡ empty → ⊥ = λ z. hs (es ∙ z) in (some-long rec n, times-fit rec (some-times rec n) .count .most)
+    held = let n : standingOf rec ≡ empty → ⊥ = λ z. hs (es ∙ z) in (some-long rec n, some-fit rec n .count .most)
 
     pub times-in : {end : ℕ} → end ≡ timesEnd rec → (end ≤ length rec) × (end ≤ recordLen)
     times-in e = (omega (arith, held), omega (arith, held))

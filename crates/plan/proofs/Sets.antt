@@ -1,7 +1,7 @@
 -- What follows from the definitions of a set: one law for each way, and what a message that is read tells.
 use Prim.Native.Nat.{ℕ, zero, suc, _+_, _*_, _-_, _/_, _%_, _≤_, _<_}
 use mathlib.Core.Path.{_≡_, refl, sym, ap, _∙_}
-use mathlib.Core.Bool.{Bool, true, false}
+use mathlib.Core.Bool.{Bool, true, false, and-false}
 use mathlib.Core.List.{List, _∷_, _++_}
 use native.Mathlib.Decide.{ℕ-discrete}
 use native.Mathlib.Omega.{arith}
@@ -27,7 +27,6 @@ use Rattle.checks.specs.Standing.{between, timesDisagree, planDisagree, standin
 use Rattle.plan.specs.BuiltIn.{padded}
 use Rattle.plan.specs.Reading.{recordStart, recordAt}
 use Rattle.plan.specs.Setting.{planIn, countIn, Times14, Plan15, timesRecord, readyRecord, made, notMade, timesField, planField, timesMade, readyMade, SetLeaves, answered, keptAs, setTimesCode, setPlanCode, otherCode, setFront, setOf}
-use Rattle.checks.proofs.Laws.{both-none}
 use Rattle.checks.proofs.Stands.{part-long, part-at}
 use Rattle.plan.proofs.Ranges.{InRanges, set-times, set-plan, read-ranges}
 
@@ -51,7 +50,7 @@ module _ (n code : ℕ) (info : List ℕ) where
   other-code l h = rw (le-leb codeLen (length info) l, ne-eqb (codeIn info) code h)
 
   pub same-code : codeIn info ≡ code → false ≡ otherCode code info
-  same-code h = rw (eq-eqb (codeIn info) code h) (sym (both-none (leb codeLen (length info))))
+  same-code h = rw (eq-eqb (codeIn info) code h) (sym (and-false (leb codeLen (length info))))
 
   pub no-code : length info < codeLen → false ≡ otherCode code info
   no-code l = rw (lt-leb codeLen (length info) l)
@@ -246,13 +245,16 @@ module _ (p : ℕ) (m : NewRecord) (book : List ℕ) where
   kept-is h e el = rw (eq-eqb (m .refusal) refusal.none h) (record { answer = e; book = el })
 
 module _ (code : ℕ) (m : NewRecord) (book info : List ℕ) {f : Answered} (ef : f ≡ setFront (length book) code info) where
-  pub set-refused : (f .refusal ≡ refusal.none → ⊥) → SetLeaves (setOf code m book info) f book
+  pub set-is : (f .refusal ≡ refusal.none → ⊥) → setOf code m book info ≡ record { answer = f; book = book }
   unfolding setOf
-  set-refused h = rw (← ef, ne-eqb (f .refusal) refusal.none h) (record { answer = refl; book = refl })
+  set-is h = rw (← ef, ne-eqb (f .refusal) refusal.none h)
 
-  pub set-kept : f .refusal ≡ refusal.none → {r : Answered} {l : List ℕ} → SetLeaves (keptAs (planIn (bodyIn info)) m book) r l → SetLeaves (setOf code m book info) r l
+  pub set-goes : f .refusal ≡ refusal.none → setOf code m book info ≡ keptAs (planIn (bodyIn info)) m book
   unfolding setOf
-  set-kept h d = rw (← ef, eq-eqb (f .refusal) refusal.none h) d
+  set-goes h = rw (← ef, eq-eqb (f .refusal) refusal.none h)
+
+  pub set-refused : (f .refusal ≡ refusal.none → ⊥) → SetLeaves (setOf code m book info) f book
+  set-refused h = rw (set-is h) (record { answer = refl; book = refl })
 
 -- What a set that is not refused at the front is of
 
@@ -265,7 +267,7 @@ module _ (book info : List ℕ) {f : Answered} {os : List ℕ} (eo : os ≡ body
 
     pub set-times-kept : {p : ℕ} {m : NewRecord} {r : Answered} {l : List ℕ} → p ≡ octetAt os 0 → m ≡ timesMade os → SetLeaves (keptAs p m book) r l
         → SetLeaves (setOf setTimesCode (timesMade (bodyIn info)) book info) r l
-    set-times-kept ep em d = set-kept setTimesCode (timesMade (bodyIn info)) book info ef h (rw (ep, em, eo) at d)
+    set-times-kept ep em d = rw (set-goes setTimesCode (timesMade (bodyIn info)) book info ef h) (rw (ep, em, eo) at d)
 
   module _ (ef : f ≡ setFront (length book) setPlanCode info) where
     pub plan-sound : (length book ≡ bookLen) × Plan15 os
@@ -276,4 +278,4 @@ module _ (book info : List ℕ) {f : Answered} {os : List ℕ} (eo : os ≡ body
     pub set-plan-kept : {p : ℕ} {m : NewRecord} {old : List ℕ} {r : Answered} {l : List ℕ} → p ≡ octetAt os 0 → old ≡ recordAt book p → m ≡ readyMade old os
         → SetLeaves (keptAs p m book) r l → SetLeaves (setOf setPlanCode (readyMade (recordAt book (planIn (bodyIn info))) (bodyIn info)) book info) r l
     set-plan-kept ep eq em d =
-        set-kept setPlanCode (readyMade (recordAt book (planIn (bodyIn info))) (bodyIn info)) book info ef h (rw (em, eq, ep, eo) at d)
+        rw (set-goes setPlanCode (readyMade (recordAt book (planIn (bodyIn info))) (bodyIn info)) book info ef h) (rw (em, eq, ep, eo) at d)

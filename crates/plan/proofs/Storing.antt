@@ -4,7 +4,7 @@ use mathlib.Core.Path.{_≡_, refl, sym, ap, subst, _∙_}
 use mathlib.Core.List.{List, [], _∷_, _++_, append-assoc}
 use native.Mathlib.Decide.{decLt, ℕ-discrete}
 use native.Mathlib.Omega.{arith}
-use borrow.Author.Tests.{eq-eqb, ne-eqb, ltb-true, ltb-false, leb-true, leb-false}
+use borrow.Author.Tests.{ltb-true, leb-true}
 use lib.ListN.{length, take, drop, replicate, length-drop, length-append, take-append-drop}
 use lib.Seq.{sets, sets-eq, length-sets, drop-drop, drop-at, take-at, drop-append-le, take-append-le, drop-append-add, length-take-le}
 use Rattle.octets.specs.First.{First, firstOf}
@@ -14,15 +14,15 @@ use Rattle.message.specs.Names.{planAt}
 use Rattle.message.specs.Reader.{codeIn, bodyIn, readOf}
 use Rattle.plan.specs.declared.setting.NewRecord.{NewRecord}
 use Rattle.record.specs.Record.{recordLen, bookLen, plansMost, timesSet, octetAt, kOf, timesAt, timesEnd, minimumOf, maximumOf, walkFlashOf, redManOf, TimesFit}
-use Rattle.checks.specs.Standing.{headLen, timesFail, timesChecks, timesDisagree}
+use Rattle.checks.specs.Standing.{timesFail, timesChecks, timesDisagree}
 use Rattle.plan.specs.BuiltIn.{padded}
 use Rattle.plan.specs.Reading.{recordStart, recordAt}
-use Rattle.plan.specs.Setting.{planIn, Setting, answered, made, notMade, timesRecord, timesField, timesMade, keptAs, setOf, setTimesCode, setTimesOf}
-use Rattle.plan.specs.Promises.{Fit14, PhaseAgrees, Disagrees14, maximum, redMan, RecordStored, SameTimes, Holds14, TimesJudged, TimesStoredExactlyWhen}
-use Rattle.checks.proofs.Fields.{ranged-same, ranged-repeated, phase-in, phase-out}
-use Rattle.checks.proofs.Stands.{times-first, check-maximum, check-redman, times-ordered, times-walk, agree-times, fit-ranged}
+use Rattle.plan.specs.Setting.{planIn, Setting, answered, made, notMade, timesRecord, timesField, timesMade, keptAs, setFront, setOf, setTimesCode, setTimesOf}
+use Rattle.plan.specs.Promises.{Fit14, PhaseAgrees, Disagrees14, maximum, redMan, RecordStored, SameTimes, Holds14, TimesStoredExactlyWhen}
+use Rattle.checks.proofs.Fields.{ranged-same, phase-in, phase-out}
+use Rattle.checks.proofs.Stands.{times-first, check-maximum, check-redman, ordered-by, walk-by, agree-times, ranged-fit, fit-ranged}
 use Rattle.plan.proofs.Ranges.{InRanges, set-times, read-ranges}
-use Rattle.plan.proofs.Sets.{front-read, same-code, read-times, padded-at, padded-long, padded-rest, times-at, field-maximum, field-redman}
+use Rattle.plan.proofs.Sets.{front-read, same-code, read-times, padded-at, padded-long, padded-rest, times-at, field-maximum, field-redman, times-not, times-is, set-is, set-goes}
 
 -- A record in the book
 
@@ -61,91 +61,63 @@ module _ (book : List ℕ) (p : ℕ) (rec : List ℕ) (hb : length book ≡ book
 
   pub stored-here : RecordStored book p rec (sets book (recordStart p) rec)
   stored-here =
-      record {
-        long = length-sets book (recordStart p) rec ∙ hb;
-        here = here;
-        others = λ q hq l n. by q hq n (decLt q p);
-      }
+      record { long = length-sets book (recordStart p) rec ∙ hb; here = here; others = λ q hq l n. by q hq n (decLt q p) }
     where
       by : (q : ℕ) → 1 ≤ q → (q ≡ p → ⊥) → Dec (q < p) → recordAt (sets book (recordStart p) rec) q ≡ recordAt book q
       by q hq n (yes l) = lower q hq l
       by q hq n (no g) = higher q hq (omega arith)
 
--- What a set comes to, where the book and the code are right
+-- What comes of a set
 
-abbrev pub notSet : List ℕ → ℕ → ℕ → Setting
-notSet book n field = record { answer = answered n field; book = book }
+-- what its message makes, way by way: its plan has not what it needs, a check fails and is named, or all pass
+pub data Makes (rec : List ℕ) (Fit Has : Type 0) (Fails : ℕ → Type 0) : NewRecord → Type 0 where
+  unset : (Has → ⊥) → Makes rec Fit Has Fails (notMade refusal.notReady planAt)
+  refused : (f : ℕ) → Has → Fails f → Makes rec Fit Has Fails (notMade refusal.disagree f)
+  fits : Has → Fit → Makes rec Fit Has Fails (made rec)
 
-abbrev pub nowSet : List ℕ → ℕ → List ℕ → Setting
-nowSet book p rec = record { answer = answered refusal.none 0; book = sets book (recordStart p) rec }
+-- what the set says then, where the book and the code are right
+pub record Judged (book info : List ℕ) (Fit Has : Type 0) (Fails : ℕ → Type 0) (w : Setting) : Type 0 where
+  pub only : w .answer .refusal ≡ refusal.none → Fit
+  pub kept : (w .answer .refusal ≡ refusal.none → ⊥) → w .book ≡ book
+  pub unread : (readOf info .refusal ≡ refusal.none → ⊥) → (w .answer .refusal ≡ readOf info .refusal) × (w .answer .field ≡ readOf info .field)
+  pub unset : readOf info .refusal ≡ refusal.none → (Has → ⊥) → (w .answer .refusal ≡ refusal.notReady) × (w .answer .field ≡ planAt)
+  pub named : readOf info .refusal ≡ refusal.none → Has → (w .answer .refusal ≡ refusal.none → ⊥)
+      → (w .answer .refusal ≡ refusal.disagree) × Fails (w .answer .field)
 
 module _ (code : ℕ) (m : NewRecord) (book info : List ℕ) (hb : length book ≡ bookLen) (hc : codeIn info ≡ code) where
-  pub set-read : readOf info .refusal ≡ refusal.none → setOf code m book info ≡ keptAs (planIn (bodyIn info)) m book
-  unfolding setOf
-  set-read e = rw (← front-read (length book) code info hb (same-code (length book) code info hc) refl refl, eq-eqb (readOf info .refusal) refusal.none e)
+  abbrev p : ℕ
+  p = planIn (bodyIn info)
 
-  pub set-unread : (readOf info .refusal ≡ refusal.none → ⊥) → setOf code m book info ≡ notSet book (readOf info .refusal) (readOf info .field)
-  unfolding setOf
-  set-unread n = rw (← front-read (length book) code info hb (same-code (length book) code info hc) refl refl, ne-eqb (readOf info .refusal) refusal.none n)
+  front : answered (readOf info .refusal) (readOf info .field) ≡ setFront (length book) code info
+  front = front-read (length book) code info hb (same-code (length book) code info hc) refl refl
 
-module _ (p : ℕ) (book : List ℕ) where
-  pub kept-made : (rec : List ℕ) → keptAs p (made rec) book ≡ nowSet book p rec
+  pub set-made : readOf info .refusal ≡ refusal.none → {rec : List ℕ} → made rec ≡ m
+      → setOf code m book info ≡ record { answer = answered refusal.none 0; book = sets book (recordStart p) rec }
   unfolding keptAs
-  kept-made rec = refl
+  set-made e q = set-goes code m book info front e ∙ rw (← q)
 
-  pub kept-not-made : (n field : ℕ) → (n ≡ refusal.none → ⊥) → keptAs p (notMade n field) book ≡ notSet book n field
-  unfolding keptAs notMade
-  kept-not-made n field h = rw (ne-eqb n refusal.none h)
+  module _ {rec : List ℕ} {Fit Has : Type 0} {Fails : ℕ → Type 0} where
+    made-judged : readOf info .refusal ≡ refusal.none → {m : NewRecord} → Makes rec Fit Has Fails m → Judged book info Fit Has Fails (keptAs p m book)
+    unfolding keptAs notMade
+    made-judged e (unset n) = record { only = λ z. absurd (omega arith); kept = λ z. refl; unread = λ r. absurd (r e); unset = λ _ _. (refl, refl); named = λ _ h. absurd (n h) }
+    made-judged e (refused f h d) = record { only = λ z. absurd (omega arith); kept = λ z. refl; unread = λ r. absurd (r e); unset = λ _ n. absurd (n h); named = λ _ _ _. (refl, d) }
+    made-judged e (fits h f) = record { only = λ z. f; kept = λ z. absurd (z refl); unread = λ r. absurd (r e); unset = λ _ n. absurd (n h); named = λ _ _ z. absurd (z refl) }
 
--- what comes of it, way by way: it is not read, its plan has not what it needs, a check fails and is named, or all pass
-pub data Way (book info rec : List ℕ) (Fit Has : Type 0) (Fails : ℕ → Type 0) : Setting → Type 0 where
-  unread : (readOf info .refusal ≡ refusal.none → ⊥) → Way book info rec Fit Has Fails (notSet book (readOf info .refusal) (readOf info .field))
-  unset : (Has → ⊥) → Way book info rec Fit Has Fails (notSet book refusal.notReady planAt)
-  refused : (f : ℕ) → Has → Fails f → Way book info rec Fit Has Fails (notSet book refusal.disagree f)
-  fits : Has → Fit → Way book info rec Fit Has Fails (nowSet book (planIn (bodyIn info)) rec)
-
-module _ {book info rec : List ℕ} {Fit Has : Type 0} {Fails : ℕ → Type 0} where
-  pub way-only : {w : Setting} → Way book info rec Fit Has Fails w → w .answer .refusal ≡ refusal.none → Fit
-  way-only (unread n) e = absurd (n e)
-  way-only (unset n) e = absurd (omega arith)
-  way-only (refused f h d) e = absurd (omega arith)
-  way-only (fits h f) e = f
-
-  pub way-kept : {w : Setting} → Way book info rec Fit Has Fails w → (w .answer .refusal ≡ refusal.none → ⊥) → w .book ≡ book
-  way-kept (unread n) z = refl
-  way-kept (unset n) z = refl
-  way-kept (refused f h d) z = refl
-  way-kept (fits h f) z = absurd (z refl)
-
-  module _ (e : readOf info .refusal ≡ refusal.none) where
-    pub way-unset : {w : Setting} → Way book info rec Fit Has Fails w → (Has → ⊥) → (w .answer .refusal ≡ refusal.notReady) × (w .answer .field ≡ planAt)
-    way-unset (unread n) m = absurd (n e)
-    way-unset (unset n) m = (refl, refl)
-    way-unset (refused f h d) m = absurd (m h)
-    way-unset (fits h f) m = absurd (m h)
-
-    pub way-named : {w : Setting} → Way book info rec Fit Has Fails w → Has → (w .answer .refusal ≡ refusal.none → ⊥)
-        → (w .answer .refusal ≡ refusal.disagree) × Fails (w .answer .field)
-    way-named (unread n) h z = absurd (n e)
-    way-named (unset n) h z = absurd (n h)
-    way-named (refused f h′ d) h z = (refl, d)
-    way-named (fits h′ f) h z = absurd (z refl)
+    pub judged : (readOf info .refusal ≡ refusal.none → Makes rec Fit Has Fails m) → Judged book info Fit Has Fails (setOf code m book info)
+    judged makes = by (ℕ-discrete (readOf info .refusal) refusal.none)
+      where
+        by : Dec (readOf info .refusal ≡ refusal.none) → Judged book info Fit Has Fails (setOf code m book info)
+        by (yes e) = rw (set-goes code m book info front e) (made-judged e (makes e))
+        by (no n) =
+            rw (set-is code m book info front n)
+            (record { only = λ e. absurd (n e); kept = λ z. refl; unread = λ _. (refl, refl); unset = λ e. absurd (n e); named = λ e. absurd (n e) })
 
 -- The checks of a 5F 14
 
 module _ (body : List ℕ) where
   fit-from : InRanges 0x5F14 1 2 7 body → timesDisagree body ≡ 0 → Fit14 body
   unfolding numberOf firstOf rowsAt layoutRows layoutAt layouts
-  fit-from r e =
-      let p = ranged-repeated body times [] (kOf body) headLen .0 (r .ranges .1 .1) in
-      record {
-        long = r .long;
-        plan = r .ranges .0;
-        times = record { count = r .count; phases = λ i l. phase-in body i (p .0 i l) (times-ordered body e i l) (times-walk body e i l) };
-      }
-
-  fit-agrees : Fit14 body → timesDisagree body ≡ 0
-  fit-agrees f = agree-times body (λ i l. f .times .phases i l .ordered) (λ i l. f .times .phases i l .walk)
+  fit-from r e = record { long = r .long; plan = r .ranges .0; times = ranged-fit body (r .count) (r .ranges .1 .1) e }
 
   pub fit-read : Fit14 body → InRanges 0x5F14 1 2 7 body
   unfolding numberOf firstOf rowsAt layoutRows layoutAt layouts
@@ -154,10 +126,7 @@ module _ (body : List ℕ) where
   -- of the first check that fails
   agrees-before : (n : ℕ) → First (timesFail body) (timesChecks body) n → (i : ℕ) → 2 * i < n → (j : ℕ) → j < i → PhaseAgrees body j
   agrees-before n f i h j l =
-      record {
-        ordered = ltb-false (maximumOf body j) (minimumOf body j) (sym (check-maximum body j) ∙ f .before (2 * j) (omega arith));
-        walk = leb-false (minimumOf body j) (walkFlashOf body j + redManOf body j) (sym (check-redman body j) ∙ f .before (2 * j + 1) (omega arith));
-      }
+      record { ordered = ordered-by body j (f .before (2 * j) (omega arith)); walk = walk-by body j (f .before (2 * j + 1) (omega arith)) }
 
   disagrees : (timesDisagree body ≡ 0 → ⊥) → Disagrees14 body (timesField (timesDisagree body))
   disagrees h = by (timesDisagree body) (times-first body) h (ℕ-discrete ((timesDisagree body - 1) % 2) 0)
@@ -175,7 +144,7 @@ module _ (body : List ℕ) where
           let number : 8 + 6 * i ≡ timesField n = omega (arith, field-redman n i refl ne) in
           subst (Disagrees14 body) number
           (redMan i (omega (arith, f .within)) (agrees-before n f i (omega arith))
-          (ltb-false (maximumOf body i) (minimumOf body i) (sym (check-maximum body i) ∙ f .before (2 * i) (omega arith)))
+          (ordered-by body i (f .before (2 * i) (omega arith)))
           (leb-true (minimumOf body i) (walkFlashOf body i + redManOf body i) (sym (check-redman body i) ∙ f .here (2 * i + 1) q)))
 
 -- The record of a 5F 14
@@ -228,11 +197,7 @@ module _ (body : List ℕ) (f : Fit14 body) where
             record {
               long = record-long;
               state = padded-at (timesSet ∷ drop 1 body) 0;
-              times =
-                  record {
-                    count = rw same-k (f .times .count);
-                    phases = λ i l. same-fit rec body i (same-octets i) (f .times .phases i (omega (arith, same-k)));
-                  };
+              times = record { count = rw same-k (f .times .count); phases = λ i l. same-fit rec body i (same-octets i) (f .times .phases i (omega (arith, same-k))) };
               rest = padded-rest (timesSet ∷ drop 1 body) (timesEnd rec) (omega (arith, length-drop 1 body, f .long, same-k));
             };
         count = same-k;
@@ -245,50 +210,31 @@ module _ (book info : List ℕ) (hb : length book ≡ bookLen) (hc : codeIn info
   abbrev os : List ℕ
   os = bodyIn info
 
-  -- read, it is stored or not by its agreement
-  read-stored : readOf info .refusal ≡ refusal.none → timesDisagree os ≡ 0
-      → setTimesOf book info ≡ nowSet book (planIn os) (timesRecord os)
-  unfolding timesMade
-  read-stored e z = set-read setTimesCode (timesMade os) book info hb hc e ∙ rw (eq-eqb (timesDisagree os) 0 z) (kept-made (planIn os) book (timesRecord os))
+  module _ (f : Fit14 os) where
+    fit-set : setTimesOf book info ≡ record { answer = answered refusal.none 0; book = sets book (recordStart (planIn os)) (timesRecord os) }
+    fit-set = set-made setTimesCode (timesMade os) book info hb hc (read-ranges set-times info hc .1 (fit-read os f)) (times-is os refl (agree-times os (f .times)) refl)
 
-  read-refused : readOf info .refusal ≡ refusal.none → (timesDisagree os ≡ 0 → ⊥)
-      → setTimesOf book info ≡ notSet book refusal.disagree (timesField (timesDisagree os))
-  unfolding timesMade
-  read-refused e n =
-      set-read setTimesCode (timesMade os) book info hb hc e
-      ∙ rw (ne-eqb (timesDisagree os) 0 n) (kept-not-made (planIn os) book refusal.disagree (timesField (timesDisagree os)) (λ z. absurd (omega arith)))
+    pub times-stored : RecordStored book (planIn os) (timesRecord os) (setTimesOf book info .book)
+    times-stored = rw fit-set (stored-here book (planIn os) (timesRecord os) hb (f .plan .least) (f .plan .most) (record-long os f))
 
-  pub fit-stored : Fit14 os → setTimesOf book info ≡ nowSet book (planIn os) (timesRecord os)
-  fit-stored f = read-stored (read-ranges set-times info hc .1 (fit-read os f)) (fit-agrees os f)
-
-  abbrev TimesWay : Setting → Type 0
-  TimesWay = Way book info (timesRecord os) (Fit14 os) Unit (Disagrees14 os)
-
-  way : TimesWay (setTimesOf book info)
-  way = by (ℕ-discrete (readOf info .refusal) refusal.none) (ℕ-discrete (timesDisagree os) 0)
+  makes : readOf info .refusal ≡ refusal.none → Makes (timesRecord os) (Fit14 os) Unit (Disagrees14 os) (timesMade os)
+  makes e = by (ℕ-discrete (timesDisagree os) 0)
     where
-      by : Dec (readOf info .refusal ≡ refusal.none) → Dec (timesDisagree os ≡ 0) → TimesWay (setTimesOf book info)
-      by (no n) d = subst TimesWay (sym (set-unread setTimesCode (timesMade os) book info hb hc n)) (unread n)
-      by (yes e) (no n) = subst TimesWay (sym (read-refused e n)) (refused (timesField (timesDisagree os)) tt (disagrees os n))
-      by (yes e) (yes z) = subst TimesWay (sym (read-stored e z)) (fits tt (fit-from os (read-times info e hc) z))
-
-  pub times-judged : TimesJudged book info
-  times-judged =
-      record {
-        rec = timesRecord os;
-        stored = λ f.
-            subst (λ (w : Setting). RecordStored book (planIn os) (timesRecord os) (w .book)) (sym (fit-stored f))
-            (stored-here book (planIn os) (timesRecord os) hb (f .plan .least) (f .plan .most) (record-long os f));
-        holds = λ f. times-holds os f;
-        accepted = λ f. ap (λ (w : Setting). w .answer .refusal) (fit-stored f);
-        noneNamed = λ f. ap (λ (w : Setting). w .answer .field) (fit-stored f);
-        only = way-only way;
-        kept = way-kept way;
-        unread = λ n.
-            let e = set-unread setTimesCode (timesMade os) book info hb hc n in
-            (ap (λ (w : Setting). w .answer .refusal) e, ap (λ (w : Setting). w .answer .field) e);
-        named = λ e. way-named e way tt;
-      }
+      by : Dec (timesDisagree os ≡ 0) → Makes (timesRecord os) (Fit14 os) Unit (Disagrees14 os) (timesMade os)
+      by (no n) = rw (← times-not os refl n refl) (refused (timesField (timesDisagree os)) tt (disagrees os n))
+      by (yes z) = rw (← times-is os refl z refl) (fits tt (fit-from os (read-times info e hc) z))
 
 pub times-stored-exactly-when : TimesStoredExactlyWhen
-times-stored-exactly-when book info hb hc = times-judged book info hb hc
+times-stored-exactly-when book info hb hc =
+    let j = judged setTimesCode (timesMade (bodyIn info)) book info hb hc (makes book info hb hc) in
+    record {
+      rec = timesRecord (bodyIn info);
+      stored = times-stored book info hb hc;
+      holds = times-holds (bodyIn info);
+      accepted = λ f. ap (λ (w : Setting). w .answer .refusal) (fit-set book info hb hc f);
+      noneNamed = λ f. ap (λ (w : Setting). w .answer .field) (fit-set book info hb hc f);
+      only = j .only;
+      kept = j .kept;
+      unread = j .unread;
+      named = λ e. j .named e tt;
+    }

@@ -14,15 +14,15 @@ use Rattle.record.specs.Record.{recordLen, empty, timesSet, ready, octetAt, kOf
 use Rattle.checks.specs.Standing.{between, standingOf}
 use Rattle.plan.specs.BuiltIn.{padded}
 use Rattle.plan.specs.Reading.{recordAt}
-use Rattle.plan.specs.Setting.{planIn, countIn, Setting, timesRecord, readyRecord, setTimesOf, setPlanOf}
+use Rattle.plan.specs.Setting.{planIn, countIn, timesRecord, readyRecord}
 use Rattle.plan.specs.Reporting.{reportTimesCode, reportPlanCode, reportRunningCode, reportTimesOf, reportPlanOf}
-use Rattle.plan.specs.Promises.{Fit14, directIn, orderIn, Fit15, Holds15, Reports, TimesReported, PlanReported}
+use Rattle.plan.specs.Promises.{Fit14, Fit15, Holds15, Reports, TimesReported, PlanReported}
 use Rattle.checks.proofs.Stands.{part-long, part-at, ready-to, times-to}
 use Rattle.plan.proofs.Ranges.{PlanReport, set-times, set-plan, plan-report, ranges-as}
 use Rattle.plan.proofs.Reportable.{times-part, plan-part}
 use Rattle.plan.proofs.Sets.{times-at, ready-rest}
-use Rattle.plan.proofs.Storing.{times-holds, stored-here, fit-read, fit-stored, record-long}
-use Rattle.plan.proofs.Readying.{in-ranges, has-long, has-fit, m-holds, m-long, fit-done}
+use Rattle.plan.proofs.Storing.{times-holds, fit-read, times-stored}
+use Rattle.plan.proofs.Readying.{in-ranges, has-ends, m-holds, plan-stored}
 
 module _ (body : List ℕ) (f : Fit14 body) where
   same-end : timesEnd (timesRecord body) ≡ timesEnd body
@@ -52,10 +52,7 @@ same-values k body = record { code = refl; fields = refl; values = refl }
 pub times-reported : TimesReported
 times-reported book info hb hc f =
     let os = bodyIn info in
-    let e : recordAt (setTimesOf book info .book) (planIn os) ≡ timesRecord os =
-    ap (λ (w : Setting). recordAt (w .book) (planIn os)) (fit-stored book info hb hc f)
-    ∙ stored-here book (planIn os) (timesRecord os) hb (f .plan .least) (f .plan .most) (record-long os f) .here in
-    rw (e, reported os f, ranges-as set-times info hc (fit-read os f)) (same-values (kOf os) os)
+    rw (times-stored book info hb hc f .here, reported os f, ranges-as set-times info hc (fit-read os f)) (same-values (kOf os) os)
 
 -- 5F C5 and 5F C8
 
@@ -68,9 +65,6 @@ module _ (old body : List ℕ) (f : Fit15 old body) where
 
   same-k : kOf m ≡ countIn body
   same-k = holds .count ∙ sym (f .count .stored)
-
-  long-old : timesEnd old ≤ length old
-  long-old = omega (arith, has-long old (f .set), has-fit old (f .set) .count .most)
 
   rest-again : between (greensAt m) (readyEnd m) m ≡ drop 4 body
   rest-again = ext-getD 0 (between (greensAt m) (readyEnd m) m) (drop 4 body) (long ∙ sym rest-long) (λ j l. at j (omega (arith, long)))
@@ -85,17 +79,13 @@ module _ (old body : List ℕ) (f : Fit15 old body) where
       at j l =
           let e : greensAt m + j ≡ timesEnd old + (2 + j) = omega (arith, holds .count) in
           part-at (greensAt m) (readyEnd m) m j l
-          ∙ (ap (octetAt m) e ∙ (ready-rest old body long-old (omega (arith, f .ranges .long)) j ∙ sym (getD-drop 4 body j 0)))
+          ∙ (ap (octetAt m) e ∙ (ready-rest old body (has-ends old (f .set)) (omega (arith, f .ranges .long)) j ∙ sym (getD-drop 4 body j 0)))
 
   whole-again : planIn body ∷ directOf m ∷ orderOf m ∷ kOf m ∷ between (greensAt m) (readyEnd m) m ≡ body
   whole-again =
+      let l : 4 ≤ length body = omega (arith, f .ranges .long) in
       rw (rest-again, holds .direct, holds .order, same-k)
-      (sym
-      (drop-next body 0 (omega (arith, f .ranges .long))
-      ∙ ap (λ (l : List ℕ). planIn body ∷ l)
-      (drop-next body 1 (omega (arith, f .ranges .long))
-      ∙ ap (λ (l : List ℕ). directIn body ∷ l)
-      (drop-next body 2 (omega (arith, f .ranges .long)) ∙ ap (λ (l : List ℕ). orderIn body ∷ l) (drop-next body 3 (omega (arith, f .ranges .long)))))))
+      (sym (drop-next body 0 (omega arith) ∙ rw (drop-next body 1 (omega arith), drop-next body 2 (omega arith), drop-next body 3 (omega arith))))
 
   is-ready : standingOf m ≡ ready
   is-ready = ready-to m (omega (arith, holds .order, f .ranges .order .0)) (holds .stands)
@@ -114,9 +104,4 @@ module _ (old body : List ℕ) (f : Fit15 old body) where
 pub plan-reported : PlanReported
 plan-reported book info code hb ob hc f w =
     let os = bodyIn info in
-    let old = recordAt book (planIn os) in
-    let e : recordAt (setPlanOf book info .book) (planIn os) ≡ readyRecord old os =
-    ap (λ (w : Setting). recordAt (w .book) (planIn os)) (fit-done book info hb ob hc f)
-    ∙ stored-here book (planIn os) (readyRecord old os) hb (f .ranges .plan .least) (f .ranges .plan .most)
-    (m-long old os (f .set) (f .ranges) (f .count .stored) f) .here in
-    rw (e, ranges-as set-plan info hc (in-ranges os .1 (f .ranges))) (same-as-sent old os f code w)
+    rw (plan-stored book info hb ob hc f .here, ranges-as set-plan info hc (in-ranges os .1 (f .ranges))) (same-as-sent (recordAt book (planIn os)) os f code w)

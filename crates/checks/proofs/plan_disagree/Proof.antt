@@ -5,19 +5,7 @@ use Rattle.checks.proofs.Walk.{padded-plan}
 use Rattle.checks.proofs.plan_disagree.Statement.{statement}
 use Rattle.checks.proofs.plan_disagree.Tie as tie
 
-returns-2 : tie.Need-returns-2
-returns-2 c =
-    let d = c .before .before .before .before .before in
-    c .first-disagreement2 .ensures ∙ padded-plan (d .before .before .args .rec .now) (d .if1 .left) (c .before .before .before .put .ensures)
-
 pub plan-disagree-spec : {M : Type 1} → statement M
 plan-disagree-spec =
-    tie.close
-    (tie.spec
-    (λ c κs. search needs)
-    (λ c. search needs)
-    (λ c. search needs)
-    (λ c κs. search needs)
-    (λ c. search needs)
-    (λ c κs. search needs)
-    returns-2)
+    tie.close (tie.spec (λ c κs. search needs) (λ c. search needs) (λ c. search needs) (λ c κs. search needs) (λ c. search needs)
+    (λ c κs. search needs) (λ c. c .first-disagreement2 .ensures ∙ search padded-plan))

@@ -23,30 +23,16 @@ loop-holds c = (search needs, ap (firstOf _ 0) (omega (arith, c .count .ensures)
 
 returns : tie.Need-returns Inv-loop μ-loop
 returns c =
-    let n = c .before in
-    let man = n .before in
-    let flash = man .before in
-    let most = flash .before in
-    let least = most .before in
-    let v = least .before .before in
-    phase-stops (v .before .before .before .args .rec .now) (v .before .count .result) (v .loop .i) (search needs) (least .minimum .ensures) (most .maximum .ensures) (flash .walk-flash .ensures) (man .red-man .ensures)
-    (n .phase-disagrees .ensures .0)
-    (c .if1 .taken)
-    ∙ v .loop .inv .1
+    let man = c .before .before in let flash = man .before in let most = flash .before in let least = most .before in
+    phase-stops _ (search needs) (least .minimum .ensures) (most .maximum .ensures) (flash .walk-flash .ensures) (man .red-man .ensures)
+    (c .before .phase-disagrees .ensures .0) (least .before .before .loop .inv .1) (c .if1 .taken)
 
 loop-again : tie.Need-loop-again Inv-loop μ-loop
 loop-again c =
-    let n = c .before in
-    let man = n .before in
-    let flash = man .before in
-    let most = flash .before in
-    let least = most .before in
-    let v = least .before .before in (
+    let man = c .before .before in let flash = man .before in let most = flash .before in let least = most .before in (
       search needs,
-      phase-goes (v .before .before .before .args .rec .now) (v .before .count .result) (v .loop .i) (search needs) (least .minimum .ensures) (most .maximum .ensures) (flash .walk-flash .ensures) (man .red-man .ensures)
-          (n .phase-disagrees .ensures .0)
-          (c .if1 .left)
-          ∙ v .loop .inv .1,
+      phase-goes _ (search needs) (least .minimum .ensures) (most .maximum .ensures) (flash .walk-flash .ensures) (man .red-man .ensures)
+          (c .before .phase-disagrees .ensures .0) (least .before .before .loop .inv .1) (c .if1 .left),
     )
 
 returns-2 : tie.Need-returns-2 Inv-loop μ-loop
@@ -54,22 +40,6 @@ returns-2 c = let v = c .before .loop in sym (search-ends _ _ (2 * v .i) (omega 
 
 pub times-disagree-spec : {M : Type 1} → statement M
 times-disagree-spec =
-    tie.close
-    (tie.spec
-    Inv-loop
-    μ-loop
-    (λ c κs. search needs)
-    loop-holds
-    (λ c κs. search needs)
-    (λ c κs. search needs)
-    (λ c κs. search needs)
-    (λ c κs. search needs)
-    (λ c κs. search needs)
-    (λ c. search needs)
-    (λ c. search needs)
-    (λ c. search needs)
-    returns
-    (λ c. search needs)
-    (λ c. search needs)
-    loop-again
-    returns-2)
+    tie.close (tie.spec Inv-loop μ-loop (λ c κs. search needs) loop-holds (λ c κs. search needs) (λ c κs. search needs) (λ c κs. search needs)
+    (λ c κs. search needs) (λ c κs. search needs) (λ c. search needs) (λ c. search needs) (λ c. search needs) returns (λ c. search needs)
+    (λ c. search needs) loop-again returns-2)

@@ -57,14 +57,4 @@ returns-7 c =
 
 pub read-refusal-spec : {M : Type 1} → statement M
 read-refusal-spec =
-    tie.close
-    (tie.spec
-    returns
-    returns-2
-    returns-3
-    (λ c κs. search needs)
-    returns-4
-    returns-5
-    (λ c κs. search needs)
-    returns-6
-    returns-7)
+    tie.close (tie.spec returns returns-2 returns-3 (λ c κs. search needs) returns-4 returns-5 (λ c κs. search needs) returns-6 returns-7)

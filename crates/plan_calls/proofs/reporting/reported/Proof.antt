@@ -26,13 +26,5 @@ returns c =
 
 pub reported-spec : {M : Type 1} → statement M
 reported-spec =
-    tie.close
-    (tie.spec
-    (λ c. search needs)
-    (λ c κs. search needs)
-    (λ c. search needs)
-    (λ c κs. search needs)
-    share
-    (λ c. sym (length-take-le _ _ (share (c .before))))
-    (λ c κs. search needs)
-    returns)
+    tie.close (tie.spec (λ c. search needs) (λ c κs. search needs) (λ c. search needs) (λ c κs. search needs) share
+    (λ c. sym (length-take-le _ _ (share (c .before)))) (λ c κs. search needs) returns)

@@ -15,12 +15,4 @@ returns-2 c =
     kept-is (a .plan) (a .m) (a .book .now) (d .before .if1 .left) (c .answer2 .ensures) (s .store .ensures)
 
 pub keep-spec : {M : Type 1} → statement M
-keep-spec =
-    tie.close
-    (tie.spec
-    (λ c κs. search needs)
-    returns
-    (λ c κs. search needs)
-    (λ c κs. search needs)
-    (λ c. search needs)
-    returns-2)
+keep-spec = tie.close (tie.spec (λ c κs. search needs) returns (λ c κs. search needs) (λ c κs. search needs) (λ c. search needs) returns-2)

@@ -67,20 +67,6 @@ returns-4 c =
 
 pub made-ready-spec : {M : Type 1} → statement M
 made-ready-spec =
-    tie.close
-    (tie.spec
-    (λ c κs. search needs)
-    (λ c κs. search needs)
-    returns
-    (λ c κs. search needs)
-    (λ c κs. search needs)
-    returns-2
-    ready-record-requires
-    (λ c. search needs)
-    (λ c κs. search needs)
-    (λ c. record { fits = omega (arith, few (c .before)) })
-    (λ c. record { fits = omega (arith, few (c .before)) })
-    (λ c. search needs)
-    (λ c κs. search needs)
-    returns-3
-    returns-4)
+    tie.close (tie.spec (λ c κs. search needs) (λ c κs. search needs) returns (λ c κs. search needs) (λ c κs. search needs) returns-2
+    ready-record-requires (λ c. search needs) (λ c κs. search needs) (λ c. record { fits = omega (arith, few (c .before)) })
+    (λ c. record { fits = omega (arith, few (c .before)) }) (λ c. search needs) (λ c κs. search needs) returns-3 returns-4)

@@ -24,12 +24,4 @@ returns-2 c =
     times-is (n .before .before .args .body .now) (n .times-disagree .ensures) (c .before .if1 .left) (c .times-record .ensures)
 
 pub made-times-spec : {M : Type 1} → statement M
-made-times-spec =
-    tie.close
-    (tie.spec
-    (λ c κs. search needs)
-    times-field-requires
-    (λ c κs. search needs)
-    returns
-    (λ c κs. search needs)
-    returns-2)
+made-times-spec = tie.close (tie.spec (λ c κs. search needs) times-field-requires (λ c κs. search needs) returns (λ c κs. search needs) returns-2)

@@ -17,11 +17,4 @@ returns c =
     put-stored (p .put .ensures) h .holds ∙ ap (λ (n : ℕ). sets (a .book .now) n (a .t3)) (s .start .ensures .0)
 
 pub store-spec : {M : Type 1} → statement M
-store-spec =
-    tie.close
-    (tie.spec
-    (λ c. search needs)
-    (λ c κs. search needs)
-    (λ c κs. search needs)
-    (λ c. search needs)
-    returns)
+store-spec = tie.close (tie.spec (λ c. search needs) (λ c κs. search needs) (λ c κs. search needs) (λ c. search needs) returns)
