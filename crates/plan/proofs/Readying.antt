@@ -267,7 +267,7 @@ module _ (book info : List ℕ) (hb : length book ≡ bookLen) (ob : Octets book
     fit-set : setPlanOf book info ≡ record { answer = answered refusal.none 0; book = sets book (recordStart p) m15 }
     fit-set =
         set-made setPlanCode (readyMade old os) book info hb hc (read-ranges set-plan info hc .1 (in-ranges os .1 (f .ranges)))
-        (ready-is old os refl (has-stands old old-octets (f .set)) refl refl (f .count .stored) refl (agrees-plan m15 (m-agrees old os (f .set) (f .ranges) (f .count .stored) f)) refl)
+        (ready-is old os refl (has-stands old old-octets (f .set)) refl refl (f .count .stored) refl refl (agrees-plan m15 (m-agrees old os (f .set) (f .ranges) (f .count .stored) f)))
 
     pub plan-stored : RecordStored book p m15 (setPlanOf book info .book)
     plan-stored = rw fit-set (stored-here book p m15 hb (f .ranges .plan .least) (f .ranges .plan .most) (m-long old os (f .set) (f .ranges) (f .count .stored) f))
@@ -283,10 +283,10 @@ module _ (book info : List ℕ) (hb : length book ≡ bookLen) (ob : Octets book
       by (no hs) (no n) d = rw (← ready-count old os refl hs refl refl n) (refused planCountAt (stands-has old old-octets hs) (count (λ a. n (a .stored))))
       by (no hs) (yes ek) (no n) =
           let h = stands-has old old-octets hs in
-          rw (← ready-not old os refl hs refl refl ek refl n refl) (refused (planField (planDisagree m15)) h (m-disagrees old os h r ek n))
+          rw (← ready-not old os refl hs refl refl ek refl refl n refl) (refused (planField (planDisagree m15)) h (m-disagrees old os h r ek n))
       by (no hs) (yes ek) (yes z) =
           let h = stands-has old old-octets hs in
-          rw (← ready-is old os refl hs refl refl ek refl z refl) (fits h (m-fit old os h r ek z))
+          rw (← ready-is old os refl hs refl refl ek refl refl z) (fits h (m-fit old os h r ek z))
 
 pub plan-stored-exactly-when : PlanStoredExactlyWhen
 plan-stored-exactly-when book info hb ob hc =

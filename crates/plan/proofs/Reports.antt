@@ -1,11 +1,11 @@
 -- What follows from the definitions of a report: one law for each way.
-use Prim.Native.Nat.{ℕ, _+_, _≤_}
+use Prim.Native.Nat.{ℕ, _+_, _-_, _≤_}
 use mathlib.Core.Path.{_≡_, sym, _∙_}
 use mathlib.Core.Bool.{Bool, true, false}
 use mathlib.Core.List.{List, _∷_, _++_}
 use native.Mathlib.Omega.{arith}
 use borrow.Author.Tests.{eq-eqb, ne-eqb}
-use lib.ListN.{length, take, drop, replicate, length-append}
+use lib.ListN.{length, take, drop, replicate, length-append, length-take}
 use lib.Seq.{sets-eq, take-at}
 use Rattle.octets.specs.Put.{Put, Stored}
 use Rattle.octets.specs.Word.{highOf, lowOf}
@@ -45,16 +45,23 @@ module _ (rec : List ℕ) (p : ℕ) {s : ℕ} (es : s ≡ standingOf rec) where
     held : (length rec ≡ recordLen) × (kOf rec ≤ 8)
     held = let n : standingOf rec ≡ empty → ⊥ = λ z. hs (es ∙ z) in (some-long rec n, some-fit rec n .count .most)
 
-    pub times-in : {end : ℕ} → end ≡ timesEnd rec → (end ≤ length rec) × (end ≤ recordLen)
-    times-in e = (omega (arith, held), omega (arith, held))
+    pub times-in : {end : ℕ} → end ≡ timesEnd rec → end ≤ length rec
+    times-in e = omega (arith, held)
+
+    pub times-room : {end : ℕ} → end ≡ timesEnd rec → 3 + length (between 1 end rec) ≤ reportMost
+    times-room {end} e = omega (arith, held, length-take (end - 1) (drop 1 rec))
 
     pub times-told : {end : ℕ} → end ≡ timesEnd rec → {h l : ℕ} → h ≡ highOf reportTimesCode → l ≡ lowOf reportTimesCode
         → {m : Message} → m ≡ readOf (h ∷ l ∷ p ∷ between 1 end rec) .message → m ≡ reportTimesOf rec p
     unfolding reportTimesOf timesInfo
     times-told ee eh el e = rw (← es, ne-eqb s empty hs) (e ∙ rw (eh, el, ee))
 
-  pub plan-in : s ≡ ready → {end : ℕ} → end ≡ readyEnd rec → (end ≤ length rec) × (end ≤ recordLen)
-  plan-in hs e = let h = held (λ z. absurd (omega arith)) in (omega (arith, h), omega (arith, h))
+  module _ (hs : s ≡ ready) where
+    pub plan-in : {end : ℕ} → end ≡ readyEnd rec → end ≤ length rec
+    plan-in e = omega (arith, held (λ z. absurd (omega arith)))
+
+    pub plan-room : (g : ℕ) {end : ℕ} → end ≡ readyEnd rec → 6 + length (between g end rec) ≤ reportMost
+    plan-room g {end} e = omega (arith, held (λ z. absurd (omega arith)), length-take (end - g) (drop g rec))
 
   module _ (code : ℕ) where
     pub plan-none : (s ≡ ready → ⊥) → {m : Message} → m ≡ noMessage → m ≡ reportPlanOf rec p code

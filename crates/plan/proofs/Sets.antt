@@ -25,7 +25,7 @@ use Rattle.plan.specs.declared.setting.NewRecord.{NewRecord}
 use Rattle.record.specs.Record.{recordLen, bookLen, empty, timesSet, ready, octetAt, kOf, timesEnd, ZeroFrom}
 use Rattle.checks.specs.Standing.{between, timesDisagree, planDisagree, standingOf}
 use Rattle.plan.specs.BuiltIn.{padded}
-use Rattle.plan.specs.Reading.{recordStart, recordAt}
+use Rattle.plan.specs.Reading.{recordStart}
 use Rattle.plan.specs.Setting.{planIn, countIn, Times14, Plan15, timesRecord, readyRecord, made, notMade, timesField, planField, timesMade, readyMade, SetLeaves, answered, keptAs, setTimesCode, setPlanCode, otherCode, setFront, setOf}
 use Rattle.checks.proofs.Stands.{part-long, part-at}
 use Rattle.plan.proofs.Ranges.{InRanges, set-times, set-plan, read-ranges}
@@ -221,17 +221,17 @@ module _ (old body : List ℕ) {s : ℕ} (es : s ≡ standingOf old) where
         let n : countIn body ≡ kOf old → ⊥ = λ z. h (ej ∙ (z ∙ sym ek)) in
         rw (← es, ne-eqb s empty hs, ne-eqb (countIn body) (kOf old) n)
 
-    module _ (hk : j ≡ k) {n : ℕ} (en : n ≡ planDisagree (readyRecord old body)) where
+    module _ (hk : j ≡ k) {rec : List ℕ} (er : rec ≡ readyRecord old body) {n : ℕ} (en : n ≡ planDisagree rec) where
       same-count : countIn body ≡ kOf old
       same-count = sym ej ∙ (hk ∙ ek)
 
       pub ready-not : (n ≡ 0 → ⊥) → {f : ℕ} → f ≡ planField n → notMade refusal.disagree f ≡ readyMade old body
       unfolding readyMade
-      ready-not h e = rw (← es, ne-eqb s empty hs, eq-eqb (countIn body) (kOf old) same-count, ← en, ne-eqb n 0 h, e)
+      ready-not h e = rw (← es, ne-eqb s empty hs, eq-eqb (countIn body) (kOf old) same-count, ← er, ← en, ne-eqb n 0 h, e)
 
-      pub ready-is : n ≡ 0 → {rec : List ℕ} → rec ≡ readyRecord old body → made rec ≡ readyMade old body
+      pub ready-is : n ≡ 0 → made rec ≡ readyMade old body
       unfolding readyMade
-      ready-is h e = rw (← es, ne-eqb s empty hs, eq-eqb (countIn body) (kOf old) same-count, ← en, eq-eqb n 0 h, e)
+      ready-is h = rw (← es, ne-eqb s empty hs, eq-eqb (countIn body) (kOf old) same-count, ← er, ← en, eq-eqb n 0 h)
 
 -- What is kept
 
@@ -252,30 +252,3 @@ module _ (code : ℕ) (m : NewRecord) (book info : List ℕ) {f : Answered} (ef 
   pub set-goes : f .refusal ≡ refusal.none → setOf code m book info ≡ keptAs (planIn (bodyIn info)) m book
   unfolding setOf
   set-goes h = rw (← ef, eq-eqb (f .refusal) refusal.none h)
-
-  pub set-refused : (f .refusal ≡ refusal.none → ⊥) → SetLeaves (setOf code m book info) f book
-  set-refused h = rw (set-is h) (record { answer = refl; book = refl })
-
--- What a set that is not refused at the front is of
-
-module _ (book info : List ℕ) {f : Answered} {os : List ℕ} (eo : os ≡ bodyIn info) (h : f .refusal ≡ refusal.none) where
-  module _ (ef : f ≡ setFront (length book) setTimesCode info) where
-    pub times-sound : (length book ≡ bookLen) × Times14 os
-    times-sound =
-        let s = front-sound (length book) setTimesCode info (ap (λ (a : Answered). a .refusal) (sym ef) ∙ h) in
-        (s .0, rw eo (times-body (bodyIn info) (read-times info (s .1) (s .2))))
-
-    pub set-times-kept : {p : ℕ} {m : NewRecord} {r : Answered} {l : List ℕ} → p ≡ octetAt os 0 → m ≡ timesMade os → SetLeaves (keptAs p m book) r l
-        → SetLeaves (setOf setTimesCode (timesMade (bodyIn info)) book info) r l
-    set-times-kept ep em d = rw (set-goes setTimesCode (timesMade (bodyIn info)) book info ef h) (rw (ep, em, eo) at d)
-
-  module _ (ef : f ≡ setFront (length book) setPlanCode info) where
-    pub plan-sound : (length book ≡ bookLen) × Plan15 os
-    plan-sound =
-        let s = front-sound (length book) setPlanCode info (ap (λ (a : Answered). a .refusal) (sym ef) ∙ h) in
-        (s .0, rw eo (plan-body (bodyIn info) (read-plan info (s .1) (s .2))))
-
-    pub set-plan-kept : {p : ℕ} {m : NewRecord} {old : List ℕ} {r : Answered} {l : List ℕ} → p ≡ octetAt os 0 → old ≡ recordAt book p → m ≡ readyMade old os
-        → SetLeaves (keptAs p m book) r l → SetLeaves (setOf setPlanCode (readyMade (recordAt book (planIn (bodyIn info))) (bodyIn info)) book info) r l
-    set-plan-kept ep eq em d =
-        rw (set-goes setPlanCode (readyMade (recordAt book (planIn (bodyIn info))) (bodyIn info)) book info ef h) (rw (em, eq, ep, eo) at d)

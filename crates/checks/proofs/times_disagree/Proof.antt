@@ -35,11 +35,8 @@ loop-again c =
           (c .before .phase-disagrees .ensures .0) (least .before .before .loop .inv .1) (c .if1 .left),
     )
 
-returns-2 : tie.Need-returns-2 Inv-loop μ-loop
-returns-2 c = let v = c .before .loop in sym (search-ends _ _ (2 * v .i) (omega arith)) ∙ v .inv .1
-
 pub times-disagree-spec : {M : Type 1} → statement M
 times-disagree-spec =
     tie.close (tie.spec Inv-loop μ-loop (λ c κs. search needs) loop-holds (λ c κs. search needs) (λ c κs. search needs) (λ c κs. search needs)
     (λ c κs. search needs) (λ c κs. search needs) (λ c. search needs) (λ c. search needs) (λ c. search needs) returns (λ c. search needs)
-    (λ c. search needs) loop-again returns-2)
+    (λ c. search needs) loop-again (λ c. let v = c .before .loop in sym (search-ends _ _ (2 * v .i) (omega arith)) ∙ v .inv .1))

@@ -18,9 +18,6 @@ Inv-loop rec at n end₀ i₀ end i = (i ≤ length rec) × (end ≤ i) × (both
 abbrev μ-loop : tie.MeasureT-loop
 μ-loop rec at n end₀ i₀ end i = length rec - i
 
-loop-holds : tie.Need-loop-holds Inv-loop μ-loop
-loop-holds c = (search needs, search needs, last-none (c .args .rec .now) (c .args .at))
-
 loop-again : tie.Need-loop-again Inv-loop μ-loop
 loop-again c =
     let d = c .before .before .before .before in
@@ -45,5 +42,5 @@ returns c =
 
 pub zero-from-spec : {M : Type 1} → statement M
 zero-from-spec =
-    tie.close (tie.spec Inv-loop μ-loop (λ c. search needs) loop-holds (λ c. search needs) (λ c. search needs) (λ c. search needs) (λ c. search needs)
-    (λ c. search needs) loop-again (λ c. search needs) returns)
+    tie.close (tie.spec Inv-loop μ-loop (λ c. search needs) (λ c. (search needs, search needs, last-none (c .args .rec .now) (c .args .at)))
+    (λ c. search needs) (λ c. search needs) (λ c. search needs) (λ c. search needs) (λ c. search needs) loop-again (λ c. search needs) returns)

@@ -6,9 +6,6 @@ use Rattle.plan.proofs.Laws.{read-sound}
 use Rattle.plan_calls.proofs.book.part_read.Statement.{statement}
 use Rattle.plan_calls.proofs.book.part_read.Tie as tie
 
-returns : tie.Need-returns
-returns c = rw (ne-eqb _ _ (λ e. c .before .if1 .taken (c .before .before .before .before .pre ∙ e))) (record { place = refl; octets = refl })
-
 returns-2 : tie.Need-returns-2
 returns-2 c =
     let d = c .before .before .before .before in
@@ -18,4 +15,7 @@ returns-2 c =
     rw (eq-eqb _ _ e) (rw (eq-eqb _ _ (s .0), le-leb _ _ (s .2), s .1) at (c .plan-part .ensures))
 
 pub part-read-spec : {M : Type 1} → statement M
-part-read-spec = tie.close (tie.spec (λ c. search needs) (λ c. search needs) (λ c. search needs) returns (λ c κs. search needs) returns-2)
+part-read-spec =
+    tie.close (tie.spec (λ c. search needs) (λ c. search needs) (λ c. search needs)
+    (λ c. rw (ne-eqb _ _ (λ e. c .before .if1 .taken (c .before .before .before .before .pre ∙ e))) (record { place = refl; octets = refl }))
+    (λ c κs. search needs) returns-2)

@@ -4,57 +4,7 @@ use Rattle.plan.proofs.Laws.{refused-book, refused-copy, refused-range, read-ze
 use Rattle.plan_calls.proofs.book.read_refusal.Statement.{statement}
 use Rattle.plan_calls.proofs.book.read_refusal.Tie as tie
 
-returns : tie.Need-returns
-returns c = let a = c .before .before .before .args in refused-book (a .book .now) (a .copy .now) (a .plan) (c .if1 .taken)
-
-returns-2 : tie.Need-returns-2
-returns-2 c =
-    let d = c .before in
-    let a = d .before .before .before .args in
-    refused-copy (a .book .now) (a .copy .now) (a .plan) (d .if1 .left) (c .if2 .taken)
-
-returns-3 : tie.Need-returns-3
-returns-3 c =
-    let d = c .before .before in
-    let a = d .before .before .before .args in
-    refused-range (a .book .now) (a .copy .now) (a .plan) (d .if1 .left) (c .before .if2 .left) (c .if3 .taken)
-
-returns-4 : tie.Need-returns-4
-returns-4 c =
-    let e = c .before .before .before in
-    let d = e .before .before in
-    let a = d .before .before .before .args in
-    read-zero (a .book .now) (a .copy .now) (a .plan) (d .if1 .left) (e .before .if2 .left) (e .if3 .left) (c .before .before .if4 .taken)
-    (c .before .either-built-in .ensures)
-    (c .if5 .taken)
-
-returns-5 : tie.Need-returns-5
-returns-5 c =
-    let e = c .before .before .before in
-    let d = e .before .before in
-    let a = d .before .before .before .args in
-    refused-zero (a .book .now) (a .copy .now) (a .plan) (d .if1 .left) (e .before .if2 .left) (e .if3 .left) (c .before .before .if4 .taken)
-    (c .before .either-built-in .ensures)
-    (c .if5 .left)
-
-returns-6 : tie.Need-returns-6
-returns-6 c =
-    let e = c .before .before .before in
-    let d = e .before .before in
-    let a = d .before .before .before .args in
-    refused-empty (a .book .now) (a .copy .now) (a .plan) (d .if1 .left) (e .before .if2 .left) (e .if3 .left) (c .before .before .if4 .left)
-    (c .before .standing-of .ensures)
-    (c .if6 .taken)
-
-returns-7 : tie.Need-returns-7
-returns-7 c =
-    let e = c .before .before .before in
-    let d = e .before .before in
-    let a = d .before .before .before .args in
-    read-set (a .book .now) (a .copy .now) (a .plan) (d .if1 .left) (e .before .if2 .left) (e .if3 .left) (c .before .before .if4 .left)
-    (c .before .standing-of .ensures)
-    (c .if6 .left)
-
 pub read-refusal-spec : {M : Type 1} → statement M
 read-refusal-spec =
-    tie.close (tie.spec returns returns-2 returns-3 (λ c κs. search needs) returns-4 returns-5 (λ c κs. search needs) returns-6 returns-7)
+    tie.close (tie.spec (λ c. search refused-book) (λ c. search refused-copy) (λ c. search refused-range) (λ c κs. search needs)
+    (λ c. search read-zero) (λ c. search refused-zero) (λ c κs. search needs) (λ c. search refused-empty) (λ c. search read-set))

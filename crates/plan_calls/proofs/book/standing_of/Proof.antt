@@ -6,13 +6,7 @@ use Rattle.plan.proofs.Laws.{record-from}
 use Rattle.plan_calls.proofs.book.standing_of.Statement.{statement}
 use Rattle.plan_calls.proofs.book.standing_of.Tie as tie
 
-returns : tie.Need-returns
-returns c =
-    let d = c .before .before in
-    let a = d .before .before .args in
-    c .standing .ensures ∙ ap standingOf (record-from (a .book .now) (d .start .result) (a .plan) (d .start .ensures .0))
-
 pub standing-of-spec : {M : Type 1} → statement M
 standing-of-spec =
     tie.close (tie.spec (λ c κs. search needs) (λ c. search needs) (λ c. search needs) (λ c. search needs) (λ c. search needs) (λ c κs. search needs)
-    returns)
+    (λ c. c .standing .ensures ∙ ap standingOf (search record-from)))

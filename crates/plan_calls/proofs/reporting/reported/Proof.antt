@@ -9,20 +9,10 @@ use Rattle.plan_calls.proofs.reporting.reported.Statement.{statement}
 use Rattle.plan_calls.proofs.reporting.reported.Tie as tie
 
 share : tie.Need-array-share-prefix-info
-share c =
-    let b = c .before in
-    let a = b .before .before .before in
-    let d = a .before .before .before .before in
-    run-fits (d .args .front .now) (d .args .rest .now) (d .pre) (a .put .ensures) (b .put2 .ensures)
+share c = search run-fits
 
 returns : tie.Need-returns
-returns c =
-    let r = c .before in
-    let b = r .before .before .before in
-    let a = b .before .before .before in
-    let d = a .before .before .before .before in
-    ap (λ (r : Read). r .message)
-    (r .read .ensures ∙ ap readOf (run-is (d .args .front .now) (d .args .rest .now) (d .pre) (a .put .ensures) (b .put2 .ensures)))
+returns c = ap (λ (r : Read). r .message) (c .before .read .ensures ∙ ap readOf (search run-is))
 
 pub reported-spec : {M : Type 1} → statement M
 reported-spec =

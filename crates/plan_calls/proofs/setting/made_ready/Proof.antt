@@ -1,28 +1,15 @@
 -- `plan_calls::setting::made_ready` meets its contract: there are at most eleven checks, and one law for each way.
-use mathlib.Core.Path.{ap, _∙_}
-use Prim.Native.Nat.{_≤_}
+use mathlib.Core.Path.{_≡_, ap, _∙_}
+use Prim.Native.Nat.{_+_, _-_, _≤_}
 use native.Mathlib.Omega.{arith}
 use borrow.Author.Needs.{needs}
 use Rattle.checks.specs.Standing.{planDisagree}
-use Rattle.plan.specs.Setting.{readyRecord}
+use Rattle.message.specs.Names.{planCountAt}
+use Rattle.plan.specs.Setting.{readyRecord, planField}
 use Rattle.checks.proofs.Stands.{plan-first}
 use Rattle.plan.proofs.Sets.{ready-k, ready-unset, ready-count, ready-not, ready-is}
 use Rattle.plan_calls.proofs.setting.made_ready.Statement.{statement}
 use Rattle.plan_calls.proofs.setting.made_ready.Tie as tie
-
-returns : tie.Need-returns
-returns c =
-    let d = c .before .before in
-    let a = d .before .before .before .args in
-    c .not-made .ensures ∙ ready-unset (a .old .now) (a .body .now) (d .standing .ensures) (c .before .if1 .taken)
-
-returns-2 : tie.Need-returns-2
-returns-2 c =
-    let k = c .before .before in
-    let d = k .before .before in
-    let a = d .before .before .before .args in
-    c .not-made2 .ensures
-    ∙ ready-count (a .old .now) (a .body .now) (d .standing .ensures) (k .before .if1 .left) (d .before .before .before .pre .2) (k .count .ensures) (c .before .if2 .taken)
 
 ready-record-requires : tie.Need-ready-record-requires
 ready-record-requires c κs =
@@ -41,32 +28,11 @@ few c =
     omega (arith, e, plan-first (readyRecord (d .args .old .now) (d .args .body .now)) .within, n, k .count .ensures, d .pre .2, r .before .if2 .left, d .pre .1 .count .most)
 
 returns-3 : tie.Need-returns-3
-returns-3 c =
-    let n = c .before .before in
-    let r = n .before .before in
-    let k = r .before .before in
-    let d = k .before .before in
-    let a = d .before .before .before .args in
-    c .not-made3 .ensures
-    ∙ ready-not (a .old .now) (a .body .now) (d .standing .ensures) (k .before .if1 .left) (d .before .before .before .pre .2) (k .count .ensures) (r .before .if2 .left)
-    (n .plan-disagree .ensures ∙ ap planDisagree (r .ready-record .ensures))
-    (c .before .if3 .taken)
-    (omega arith)
-
-returns-4 : tie.Need-returns-4
-returns-4 c =
-    let n = c .before in
-    let r = n .before .before in
-    let k = r .before .before in
-    let d = k .before .before in
-    let a = d .before .before .before .args in
-    ready-is (a .old .now) (a .body .now) (d .standing .ensures) (k .before .if1 .left) (d .before .before .before .pre .2) (k .count .ensures) (r .before .if2 .left)
-    (n .plan-disagree .ensures ∙ ap planDisagree (r .ready-record .ensures))
-    (c .if3 .left)
-    (r .ready-record .ensures)
+returns-3 c = let n = c .before .before .plan-disagree .result in let f : n + planCountAt - 1 ≡ planField n = omega arith in c .not-made3 .ensures ∙ search ready-not
 
 pub made-ready-spec : {M : Type 1} → statement M
 made-ready-spec =
-    tie.close (tie.spec (λ c κs. search needs) (λ c κs. search needs) returns (λ c κs. search needs) (λ c κs. search needs) returns-2
-    ready-record-requires (λ c. search needs) (λ c κs. search needs) (λ c. record { fits = omega (arith, few (c .before)) })
-    (λ c. record { fits = omega (arith, few (c .before)) }) (λ c. search needs) (λ c κs. search needs) returns-3 returns-4)
+    tie.close (tie.spec (λ c κs. search needs) (λ c κs. search needs) (λ c. c .not-made .ensures ∙ search ready-unset) (λ c κs. search needs)
+    (λ c κs. search needs) (λ c. c .not-made2 .ensures ∙ search ready-count) ready-record-requires (λ c. search needs) (λ c κs. search needs)
+    (λ c. record { fits = omega (arith, few (c .before)) }) (λ c. record { fits = omega (arith, few (c .before)) }) (λ c. search needs)
+    (λ c κs. search needs) returns-3 (λ c. search ready-is))

@@ -13,15 +13,7 @@ times-field-requires c κs =
     let f = times-first (d .args .body .now) .within in
     (omega arith, omega (arith, c .before .times-disagree .ensures, d .pre .count .most))
 
-returns : tie.Need-returns
-returns c =
-    let n = c .before .before .before in
-    c .not-made .ensures ∙ times-not (n .before .before .args .body .now) (n .times-disagree .ensures) (c .before .before .if1 .taken) (c .before .times-field .ensures)
-
-returns-2 : tie.Need-returns-2
-returns-2 c =
-    let n = c .before .before in
-    times-is (n .before .before .args .body .now) (n .times-disagree .ensures) (c .before .if1 .left) (c .times-record .ensures)
-
 pub made-times-spec : {M : Type 1} → statement M
-made-times-spec = tie.close (tie.spec (λ c κs. search needs) times-field-requires (λ c κs. search needs) returns (λ c κs. search needs) returns-2)
+made-times-spec =
+    tie.close (tie.spec (λ c κs. search needs) times-field-requires (λ c κs. search needs) (λ c. c .not-made .ensures ∙ search times-not)
+    (λ c κs. search needs) (λ c. search times-is))

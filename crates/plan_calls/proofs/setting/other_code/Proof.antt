@@ -4,11 +4,7 @@ use borrow.Author.Tests.{le-leb, lt-leb}
 use Rattle.plan_calls.proofs.setting.other_code.Statement.{statement}
 use Rattle.plan_calls.proofs.setting.other_code.Tie as tie
 
-returns : tie.Need-returns
-returns c = rw (le-leb _ _ (c .before .if1 .taken), c .word-at .ensures)
-
-returns-2 : tie.Need-returns-2
-returns-2 c = rw (lt-leb _ _ (c .if1 .left))
-
 pub other-code-spec : {M : Type 1} → statement M
-other-code-spec = tie.close (tie.spec (λ c κs. search needs) returns returns-2)
+other-code-spec =
+    tie.close (tie.spec (λ c κs. search needs) (λ c. rw (le-leb _ _ (c .before .if1 .taken), c .word-at .ensures))
+    (λ c. rw (lt-leb _ _ (c .if1 .left))))

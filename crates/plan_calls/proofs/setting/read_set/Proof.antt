@@ -23,4 +23,5 @@ returns-3 c =
     rw (eq-eqb _ _ (o .before .if1 .left), sym (o .other-code .ensures) ∙ c .before .if2 .left) (c .read .ensures)
 
 pub read-set-spec : {M : Type 1} → statement M
-read-set-spec = tie.close (tie.spec (λ c κs. search needs) returns (λ c κs. search needs) (λ c κs. search needs) returns-2 (λ c κs. search needs) returns-3)
+read-set-spec =
+    tie.close (tie.spec (λ c κs. search needs) returns (λ c κs. search needs) (λ c κs. search needs) returns-2 (λ c κs. search needs) returns-3)

@@ -4,12 +4,7 @@ use Rattle.plan.proofs.Sets.{times-built}
 use Rattle.plan_calls.proofs.setting.times_record.Statement.{statement}
 use Rattle.plan_calls.proofs.setting.times_record.Tie as tie
 
-returns : tie.Need-returns
-returns c =
-    let d = c .before .before .before .before .before in
-    times-built (d .args .body .now) (d .pre .0) (d .pre .1) (c .before .put .ensures)
-
 pub times-record-spec : {M : Type 1} → statement M
 times-record-spec =
     tie.close (tie.spec (λ c. search needs) (λ c. search needs) (λ c. search needs) (λ c. search needs) (λ c. search needs) (λ c κs. search needs)
-    returns)
+    (λ c. search times-built))
