@@ -4,4 +4,4 @@ use Rattle.checks.proofs.green_fails.Statement.{statement}
 use Rattle.checks.proofs.green_fails.Tie as tie
 
 pub green-fails-spec : {M : Type 1} → statement M
-green-fails-spec = tie.close (tie.spec (λ c. rw (lt-ltb _ _ (c .if1 .taken))) (λ c. rw (le-ltb _ _ (c .if1 .left))))
+green-fails-spec = let met = tie.spec (λ c. rw (lt-ltb _ _ (c .if1 .taken))) (λ c. rw (le-ltb _ _ (c .if1 .left))) in tie.close met

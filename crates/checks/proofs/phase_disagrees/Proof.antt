@@ -6,6 +6,6 @@ use Rattle.checks.proofs.phase_disagrees.Tie as tie
 
 pub phase-disagrees-spec : {M : Type 1} → statement M
 phase-disagrees-spec =
-    tie.close (tie.spec (λ c. (rw (lt-ltb _ _ (c .if1 .taken)), search needs)) (λ c. search needs)
+    let met = tie.spec (λ c. (rw (lt-ltb _ _ (c .if1 .taken)), search needs)) (λ c. search needs)
     (λ c. (rw (le-ltb _ _ (c .before .if1 .left), le-leb _ _ (c .if2 .taken)), search needs))
-    (λ c. (rw (le-ltb _ _ (c .before .if1 .left), lt-leb _ _ (c .if2 .left)), search needs)))
+    (λ c. (rw (le-ltb _ _ (c .before .if1 .left), lt-leb _ _ (c .if2 .left)), search needs)) in tie.close met

@@ -7,5 +7,5 @@ use Rattle.checks.proofs.plan_disagree.Tie as tie
 
 pub plan-disagree-spec : {M : Type 1} → statement M
 plan-disagree-spec =
-    tie.close (tie.spec (λ c κs. search needs) (λ c. search needs) (λ c. search needs) (λ c κs. search needs) (λ c. search needs)
-    (λ c κs. search needs) (λ c. c .first-disagreement2 .ensures ∙ search padded-plan))
+    let met = tie.spec (λ c κs. search needs) (λ c. search needs) (λ c. search needs) (λ c κs. search needs) (λ c. search needs)
+    (λ c κs. search needs) (λ c. c .first-disagreement2 .ensures ∙ search padded-plan) in tie.close met

@@ -7,5 +7,5 @@ use Rattle.checks.proofs.ready_stands.Tie as tie
 
 pub ready-stands-spec : {M : Type 1} → statement M
 ready-stands-spec =
-    tie.close (tie.spec (λ c κs. search needs) (λ c. search (ready-out, not-true)) (λ c κs. search needs) (λ c κs. search needs)
-    (λ c. search (ready-zero, not-false)))
+    let met = tie.spec (λ c κs. search needs) (λ c. search (ready-out, not-true)) (λ c κs. search needs) (λ c κs. search needs)
+    (λ c. search (ready-zero, not-false)) in tie.close met

@@ -15,7 +15,7 @@ ready-stands-requires c κs =
 
 pub standing-spec : {M : Type 1} → statement M
 standing-spec =
-    tie.close (tie.spec (λ c. search stands-long) (λ c κs. search needs) (λ c. search (stands-not, not-true)) (λ c. search needs)
+    let met = tie.spec (λ c. search stands-long) (λ c κs. search needs) (λ c. search (stands-not, not-true)) (λ c. search needs)
     (λ c κs. search needs) (λ c κs. search needs) (λ c κs. search needs) (λ c. c .stands-if .ensures ∙ search (stands-times, not-false))
     ready-stands-requires (λ c κs. search needs) (λ c. c .stands-if2 .ensures ∙ search (stands-ready, not-false))
-    (λ c. search (stands-else, not-false)))
+    (λ c. search (stands-else, not-false)) in tie.close met

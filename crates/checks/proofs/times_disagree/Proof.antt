@@ -37,6 +37,6 @@ loop-again c =
 
 pub times-disagree-spec : {M : Type 1} → statement M
 times-disagree-spec =
-    tie.close (tie.spec Inv-loop μ-loop (λ c κs. search needs) loop-holds (λ c κs. search needs) (λ c κs. search needs) (λ c κs. search needs)
+    let met = tie.spec Inv-loop μ-loop (λ c κs. search needs) loop-holds (λ c κs. search needs) (λ c κs. search needs) (λ c κs. search needs)
     (λ c κs. search needs) (λ c κs. search needs) (λ c. search needs) (λ c. search needs) (λ c. search needs) returns (λ c. search needs)
-    (λ c. search needs) loop-again (λ c. let v = c .before .loop in sym (search-ends _ _ (2 * v .i) (omega arith)) ∙ v .inv .1))
+    (λ c. search needs) loop-again (λ c. let v = c .before .loop in sym (search-ends _ _ (2 * v .i) (omega arith)) ∙ v .inv .1) in tie.close met

@@ -61,5 +61,5 @@ returns-3 c =
 
 pub times-stand-spec : {M : Type 1} → statement M
 times-stand-spec =
-    tie.close (tie.spec Inv-loop μ-loop (λ c κs. search needs) (λ c κs. search needs) returns (λ c. (search needs, λ j l. absurd (omega arith)))
-    phase-stands-requires returns-2 (λ c. search needs) (λ c. search needs) loop-again returns-3)
+    let met = tie.spec Inv-loop μ-loop (λ c κs. search needs) (λ c κs. search needs) returns (λ c. (search needs, λ j l. absurd (omega arith)))
+    phase-stands-requires returns-2 (λ c. search needs) (λ c. search needs) loop-again returns-3 in tie.close met

@@ -42,5 +42,6 @@ returns c =
 
 pub zero-from-spec : {M : Type 1} → statement M
 zero-from-spec =
-    tie.close (tie.spec Inv-loop μ-loop (λ c. search needs) (λ c. (search needs, search needs, last-none (c .args .rec .now) (c .args .at)))
-    (λ c. search needs) (λ c. search needs) (λ c. search needs) (λ c. search needs) (λ c. search needs) loop-again (λ c. search needs) returns)
+    let met = tie.spec Inv-loop μ-loop (λ c. search needs) (λ c. (search needs, search needs, last-none (c .args .rec .now) (c .args .at)))
+    (λ c. search needs) (λ c. search needs) (λ c. search needs) (λ c. search needs) (λ c. search needs) loop-again (λ c. search needs)
+    returns in tie.close met

@@ -42,6 +42,6 @@ returns c =
 
 pub matches-spec : {M : Type 1} → statement M
 matches-spec =
-    tie.close (tie.spec Inv-loop μ-loop (λ c κs. search needs)
+    let met = tie.spec Inv-loop μ-loop (λ c κs. search needs)
     (λ c. (search needs, ap length (c .built-in .ensures) ∙ length-built-in (c .before .before .args .which), refl)) (λ c. search needs)
-    (λ c. search needs) (λ c. search needs) (λ c. search needs) loop-again returns)
+    (λ c. search needs) (λ c. search needs) (λ c. search needs) loop-again returns in tie.close met

@@ -16,6 +16,6 @@ returns-2 c =
 
 pub part-read-spec : {M : Type 1} → statement M
 part-read-spec =
-    tie.close (tie.spec (λ c. search needs) (λ c. search needs) (λ c. search needs)
+    let met = tie.spec (λ c. search needs) (λ c. search needs) (λ c. search needs)
     (λ c. rw (ne-eqb _ _ (λ e. c .before .if1 .taken (c .before .before .before .before .pre ∙ e))) (record { place = refl; octets = refl }))
-    (λ c κs. search needs) returns-2)
+    (λ c κs. search needs) returns-2 in tie.close met

@@ -30,8 +30,8 @@ returns-4 c =
 
 pub plan-part-spec : {M : Type 1} → statement M
 plan-part-spec =
-    tie.close (tie.spec (λ c. search needs) (λ c. search needs) (λ c. search needs)
+    let met = tie.spec (λ c. search needs) (λ c. search needs) (λ c. search needs)
     (λ c. rw (ne-eqb _ _ (c .before .if1 .taken)) (record { place = refl; octets = refl })) (λ c. search needs) (λ c. search needs)
     (λ c. search needs)
     (λ c. rw (eq-eqb _ _ (c .before .before .if1 .left), lt-leb _ _ (c .before .if2 .taken)) (record { place = refl; octets = refl })) returns-3
-    (λ c κs. search needs) (λ c. search needs) (λ c. search needs) (λ c. search needs) (λ c. search needs) returns-4)
+    (λ c κs. search needs) (λ c. search needs) (λ c. search needs) (λ c. search needs) (λ c. search needs) returns-4 in tie.close met

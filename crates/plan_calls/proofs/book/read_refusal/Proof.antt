@@ -6,5 +6,5 @@ use Rattle.plan_calls.proofs.book.read_refusal.Tie as tie
 
 pub read-refusal-spec : {M : Type 1} → statement M
 read-refusal-spec =
-    tie.close (tie.spec (λ c. search refused-book) (λ c. search refused-copy) (λ c. search refused-range) (λ c κs. search needs)
-    (λ c. search read-zero) (λ c. search refused-zero) (λ c κs. search needs) (λ c. search refused-empty) (λ c. search read-set))
+    let met = tie.spec (λ c. search refused-book) (λ c. search refused-copy) (λ c. search refused-range) (λ c κs. search needs)
+    (λ c. search read-zero) (λ c. search refused-zero) (λ c κs. search needs) (λ c. search refused-empty) (λ c. search read-set) in tie.close met

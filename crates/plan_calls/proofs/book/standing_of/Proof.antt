@@ -8,5 +8,5 @@ use Rattle.plan_calls.proofs.book.standing_of.Tie as tie
 
 pub standing-of-spec : {M : Type 1} → statement M
 standing-of-spec =
-    tie.close (tie.spec (λ c κs. search needs) (λ c. search needs) (λ c. search needs) (λ c. search needs) (λ c. search needs) (λ c κs. search needs)
-    (λ c. c .standing .ensures ∙ ap standingOf (search record-from)))
+    let met = tie.spec (λ c κs. search needs) (λ c. search needs) (λ c. search needs) (λ c. search needs) (λ c. search needs) (λ c κs. search needs)
+    (λ c. c .standing .ensures ∙ ap standingOf (search record-from)) in tie.close met

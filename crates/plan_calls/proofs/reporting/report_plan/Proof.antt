@@ -7,7 +7,7 @@ use Rattle.plan_calls.proofs.reporting.report_plan.Tie as tie
 
 pub report-plan-spec : {M : Type 1} → statement M
 report-plan-spec =
-    tie.close (tie.spec (λ c κs. search needs) (λ c κs. search needs) (λ c. search plan-none) (λ c κs. search needs) (λ c κs. search needs)
+    let met = tie.spec (λ c κs. search needs) (λ c κs. search needs) (λ c. search plan-none) (λ c κs. search needs) (λ c κs. search needs)
     (λ c. search (plan-other, not-true)) (λ c κs. search needs) (λ c κs. search needs) (λ c κs. search needs) (λ c κs. search needs)
     (λ c κs. search needs) (λ c κs. search needs) (λ c κs. search needs) (λ c. search needs) (λ c. search needs) (λ c. search needs)
-    (λ c. search plan-in) (λ c κs. search plan-room) (λ c. search (plan-told, not-false)))
+    (λ c. search plan-in) (λ c κs. search plan-room) (λ c. search (plan-told, not-false)) in tie.close met

@@ -6,6 +6,6 @@ use Rattle.plan_calls.proofs.reporting.report_times.Tie as tie
 
 pub report-times-spec : {M : Type 1} → statement M
 report-times-spec =
-    tie.close (tie.spec (λ c κs. search needs) (λ c κs. search needs) (λ c. search times-none) (λ c κs. search needs) (λ c κs. search needs)
+    let met = tie.spec (λ c κs. search needs) (λ c κs. search needs) (λ c. search times-none) (λ c κs. search needs) (λ c κs. search needs)
     (λ c κs. search needs) (λ c. search needs) (λ c. search needs) (λ c. search needs) (λ c. search times-in) (λ c κs. search times-room)
-    (λ c. search times-told))
+    (λ c. search times-told) in tie.close met

@@ -16,5 +16,5 @@ returns c = ap (λ (r : Read). r .message) (c .before .read .ensures ∙ ap read
 
 pub reported-spec : {M : Type 1} → statement M
 reported-spec =
-    tie.close (tie.spec (λ c. search needs) (λ c κs. search needs) (λ c. search needs) (λ c κs. search needs) share
-    (λ c. sym (length-take-le _ _ (share (c .before)))) (λ c κs. search needs) returns)
+    let met = tie.spec (λ c. search needs) (λ c κs. search needs) (λ c. search needs) (λ c κs. search needs) share
+    (λ c. sym (length-take-le _ _ (share (c .before)))) (λ c κs. search needs) returns in tie.close met

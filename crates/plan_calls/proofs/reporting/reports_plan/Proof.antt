@@ -4,4 +4,4 @@ use Rattle.plan_calls.proofs.reporting.reports_plan.Statement.{statemen
 use Rattle.plan_calls.proofs.reporting.reports_plan.Tie as tie
 
 pub reports-plan-spec : {M : Type 1} → statement M
-reports-plan-spec = tie.close (tie.spec (λ c. rw (eq-eqb _ _ (c .if1 .taken))) (λ c. rw (ne-eqb _ _ (c .if1 .left))))
+reports-plan-spec = let met = tie.spec (λ c. rw (eq-eqb _ _ (c .if1 .taken))) (λ c. rw (ne-eqb _ _ (c .if1 .left))) in tie.close met

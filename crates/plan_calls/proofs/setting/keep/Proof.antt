@@ -6,5 +6,5 @@ use Rattle.plan_calls.proofs.setting.keep.Tie as tie
 
 pub keep-spec : {M : Type 1} → statement M
 keep-spec =
-    tie.close (tie.spec (λ c κs. search needs) (λ c. search kept-not) (λ c κs. search needs) (λ c κs. search needs) (λ c. search needs)
-    (λ c. search kept-is))
+    let met = tie.spec (λ c κs. search needs) (λ c. search kept-not) (λ c κs. search needs) (λ c κs. search needs) (λ c. search needs)
+    (λ c. search kept-is) in tie.close met

@@ -32,7 +32,7 @@ returns-3 c = let n = c .before .before .plan-disagree .result in let f : n + pl
 
 pub made-ready-spec : {M : Type 1} → statement M
 made-ready-spec =
-    tie.close (tie.spec (λ c κs. search needs) (λ c κs. search needs) (λ c. c .not-made .ensures ∙ search ready-unset) (λ c κs. search needs)
+    let met = tie.spec (λ c κs. search needs) (λ c κs. search needs) (λ c. c .not-made .ensures ∙ search ready-unset) (λ c κs. search needs)
     (λ c κs. search needs) (λ c. c .not-made2 .ensures ∙ search ready-count) ready-record-requires (λ c. search needs) (λ c κs. search needs)
     (λ c. record { fits = omega (arith, few (c .before)) }) (λ c. record { fits = omega (arith, few (c .before)) }) (λ c. search needs)
-    (λ c κs. search needs) returns-3 (λ c. search ready-is))
+    (λ c κs. search needs) returns-3 (λ c. search ready-is) in tie.close met

@@ -15,5 +15,5 @@ times-field-requires c κs =
 
 pub made-times-spec : {M : Type 1} → statement M
 made-times-spec =
-    tie.close (tie.spec (λ c κs. search needs) times-field-requires (λ c κs. search needs) (λ c. c .not-made .ensures ∙ search times-not)
-    (λ c κs. search needs) (λ c. search times-is))
+    let met = tie.spec (λ c κs. search needs) times-field-requires (λ c κs. search needs) (λ c. c .not-made .ensures ∙ search times-not)
+    (λ c κs. search needs) (λ c. search times-is) in tie.close met

@@ -7,7 +7,7 @@ use Rattle.plan_calls.proofs.setting.set_plan.Tie as tie
 
 pub set-plan-spec : {M : Type 1} → statement M
 set-plan-spec =
-    tie.close (tie.spec (λ c κs. search needs) (λ c κs. search needs) (λ c. search set-refused) (λ c. search needs) (λ c κs. search needs)
+    let met = tie.spec (λ c κs. search needs) (λ c κs. search needs) (λ c. search set-refused) (λ c. search needs) (λ c κs. search needs)
     (λ c. search needs) (λ c κs. search needs) (λ c κs. search (plan-least, plan-most)) (λ c. search needs) (λ c. search needs) (λ c. search needs)
     (λ c. search book-holds) (λ c κs. search needs) (λ c κs. search (record-long, book-holds, plan-read, plan-count))
-    (λ c κs. search (book-long, plan-least, plan-most)) (λ c. search needs) (λ c. search (plan-kept, record-from)))
+    (λ c κs. search (book-long, plan-least, plan-most)) (λ c. search needs) (λ c. search (plan-kept, record-from)) in tie.close met

@@ -6,6 +6,6 @@ use Rattle.plan_calls.proofs.setting.set_times.Tie as tie
 
 pub set-times-spec : {M : Type 1} → statement M
 set-times-spec =
-    tie.close (tie.spec (λ c κs. search needs) (λ c κs. search needs) (λ c. search set-refused) (λ c. search needs) (λ c κs. search needs)
+    let met = tie.spec (λ c κs. search needs) (λ c κs. search needs) (λ c. search set-refused) (λ c. search needs) (λ c κs. search needs)
     (λ c κs. search needs) (λ c κs. search times-read) (λ c κs. search (book-long, times-least, times-most)) (λ c. search needs)
-    (λ c. search times-kept))
+    (λ c. search times-kept) in tie.close met

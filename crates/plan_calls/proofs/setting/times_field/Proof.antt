@@ -10,7 +10,7 @@ use Rattle.plan_calls.proofs.setting.times_field.Tie as tie
 
 pub times-field-spec : {M : Type 1} → statement M
 times-field-spec =
-    tie.close (tie.spec (λ c. search needs) (λ c. search needs) (λ c. search needs) (λ c. search needs) (λ c. search needs)
+    let met = tie.spec (λ c. search needs) (λ c. search needs) (λ c. search needs) (λ c. search needs) (λ c. search needs)
     (λ c. let i : ℕ = (c .before .args .n - 1) / 2 in let e : 4 + 6 * i ≡ maximumAt i = omega arith in e ∙ field-maximum (c .before .args .n) i refl (c .if1 .taken))
     (λ c. search needs) (λ c. search needs) (λ c. search needs)
-    (λ c. let i : ℕ = (c .before .args .n - 1) / 2 in let e : 8 + 6 * i ≡ redManAt i = omega arith in e ∙ field-redman (c .before .args .n) i refl (c .if1 .left)))
+    (λ c. let i : ℕ = (c .before .args .n - 1) / 2 in let e : 8 + 6 * i ≡ redManAt i = omega arith in e ∙ field-redman (c .before .args .n) i refl (c .if1 .left)) in tie.close met

@@ -6,5 +6,5 @@ use Rattle.plan_calls.proofs.setting.times_record.Tie as tie
 
 pub times-record-spec : {M : Type 1} → statement M
 times-record-spec =
-    tie.close (tie.spec (λ c. search needs) (λ c. search needs) (λ c. search needs) (λ c. search needs) (λ c. search needs) (λ c κs. search needs)
-    (λ c. search times-built))
+    let met = tie.spec (λ c. search needs) (λ c. search needs) (λ c. search needs) (λ c. search needs) (λ c. search needs) (λ c κs. search needs)
+    (λ c. search times-built) in tie.close met
