@@ -183,7 +183,8 @@ module _ (rec : List ℕ) where
       ↔ (readyEnd rec ≤ length rec) × (Within 1 k 8) × Ranged (field.direct ∷ field.order ∷ (repeated k greens ++ cycleOffset)) rec (timesEnd rec)
   unfolding rowsAt layoutRows layoutAt layouts
   plan-ranged =
-      part-ranged storedPlan (timesEnd rec) (readyEnd rec) rec (omega arith) (record { first = omega arith; last = omega arith }) refl refl (omega (arith, stored-parts k .planSize))
+      part-ranged storedPlan (timesEnd rec) (readyEnd rec) rec (omega arith) (record { first = omega arith; last = omega arith }) refl refl
+      (omega (arith, stored-parts k .planSize))
 
   -- each field of a plan that stands is in its range at its place
   pub plan-places : planStands rec ≡ true

@@ -14,8 +14,8 @@ use Rattle.octets.proofs.Laws.{put-stored}
 use Rattle.octets.proofs.Search.{search-ends, search-stops, search-goes}
 use Rattle.diagram.specs.Table.{phasesOf}
 use Rattle.message.proofs.Values.{filled-at, filled-is}
-use Rattle.record.specs.Record.{recordLen, octetAt, wordAt, kOf, greensAt, minimumOf, maximumOf, walkFlashOf, redManOf, orderOf, cycleOf, sumOf}
-use Rattle.checks.specs.Standing.{timesFail, timesDisagree, greenFails, planFails, planChecks, planDisagree}
+use Rattle.record.specs.Record.{recordLen, octetAt, wordAt, kOf, greensAt, minimumOf, maximumOf, walkFlashOf, redManOf, orderOf, greenOf, cycleOf, sumOf}
+use Rattle.checks.specs.Standing.{timesFail, timesDisagree, planFails, planChecks, planDisagree}
 use Rattle.checks.proofs.Stands.{check-maximum, check-redman, check-green, check-cycle, check-offset}
 
 -- The checks of the times, two of each phase
@@ -51,27 +51,31 @@ module _ (rec : List ℕ) where
   unfolding planDisagree
   from-0 = ap (firstOf (planFails rec) 0) (omega arith)
 
-  pub count-fails : (kOf rec ≡ phasesOf (orderOf rec) → ⊥) → 1 ≡ planDisagree rec
-  count-fails n = sym (search-stops (planFails rec) (planChecks rec) 0 (omega arith) (ap not (ne-eqb (kOf rec) (phasesOf (orderOf rec)) n))) ∙ from-0
+  pub count-fails : {n : ℕ} → n ≡ phasesOf (orderOf rec) → (kOf rec ≡ n → ⊥) → 1 ≡ planDisagree rec
+  count-fails e n = sym (search-stops (planFails rec) (planChecks rec) 0 (omega arith) (ap not (ne-eqb (kOf rec) (phasesOf (orderOf rec)) (λ z. n (z ∙ sym e))))) ∙ from-0
 
-  pub count-holds : kOf rec ≡ phasesOf (orderOf rec) → leftFrom 1 ≡ planDisagree rec
-  count-holds e = sym (search-goes (planFails rec) (planChecks rec) 0 (omega arith) (ap not (eq-eqb (kOf rec) (phasesOf (orderOf rec)) e))) ∙ from-0
+  pub count-holds : {n : ℕ} → n ≡ phasesOf (orderOf rec) → kOf rec ≡ n → leftFrom 1 ≡ planDisagree rec
+  count-holds e k = sym (search-goes (planFails rec) (planChecks rec) 0 (omega arith) (ap not (eq-eqb (kOf rec) (phasesOf (orderOf rec)) (k ∙ e)))) ∙ from-0
 
-  module _ (i : ℕ) (l : i < kOf rec) where
-    pub green-stops : greenFails rec i ≡ true → i + 2 ≡ leftFrom (i + 1)
-    green-stops e = omega (arith, search-stops (planFails rec) (planChecks rec) (i + 1) (omega arith) (check-green rec i l ∙ e))
+  module _ {i n g m : ℕ} {t : Bool} (en : kOf rec ≡ n) (l : i < n) (eg : g ≡ greenOf rec i) (em : m ≡ maximumOf rec i)
+      (et : t ≡ pick (ltb g (minimumOf rec i)) true (ltb m g)) (left : leftFrom (i + 1) ≡ planDisagree rec) where
+    green-at : planFails rec (i + 1) ≡ t
+    green-at = check-green rec i (omega arith) ∙ sym (rw (eg, em) at et)
 
-    pub green-goes : greenFails rec i ≡ false → leftFrom (i + 1 + 1) ≡ leftFrom (i + 1)
-    green-goes e = sym (search-goes (planFails rec) (planChecks rec) (i + 1) (omega arith) (check-green rec i l ∙ e))
+    pub green-stops : t ≡ true → i + 2 ≡ planDisagree rec
+    green-stops e = omega (arith, search-stops (planFails rec) (planChecks rec) (i + 1) (omega arith) (green-at ∙ e), left)
+
+    pub green-goes : t ≡ false → leftFrom (i + 1 + 1) ≡ planDisagree rec
+    green-goes e = sym (search-goes (planFails rec) (planChecks rec) (i + 1) (omega arith) (green-at ∙ e)) ∙ left
 
   -- when all greens of the n phases are within their bounds
-  module _ {i n s c : ℕ} (en : kOf rec ≡ n) (ei : i ≡ n) (es : s ≡ sumOf rec i) (ec : c ≡ wordAt rec (greensAt rec + 2 * n))
+  module _ {i n s c : ℕ} (en : kOf rec ≡ n) (li : i ≤ kOf rec) (gi : n ≤ i) (es : s ≡ sumOf rec i) (ec : c ≡ wordAt rec (greensAt rec + 2 * n))
       (left : leftFrom (i + 1) ≡ planDisagree rec) where
     cycle-is : c ≡ cycleOf rec
     cycle-is = ec ∙ ap (λ (m : ℕ). wordAt rec (greensAt rec + 2 * m)) (sym en)
 
     cycle-at : {t : Bool} → eqb c s ≡ t → planFails rec (i + 1) ≡ not t
-    cycle-at f = let e = ei ∙ sym en in rw e (check-cycle rec ∙ rw (← cycle-is, ← e, ← es, f))
+    cycle-at f = let e : i ≡ kOf rec = omega arith in rw e (check-cycle rec ∙ rw (← cycle-is, ← e, ← es, f))
 
     pub cycle-stops : (c ≡ s → ⊥) → n + 2 ≡ planDisagree rec
     cycle-stops d = omega (arith, search-stops (planFails rec) (planChecks rec) (i + 1) (omega arith) (cycle-at (ne-eqb c s d)), left)

@@ -125,7 +125,8 @@ module _ (book copy : List ℕ) (p : ℕ) where
   read-sound e = by (eqb (length book) bookLen) refl (eqb (length copy) recordLen) refl (leb p plansMost) refl _ e
     where
       by : (a : Bool) → eqb (length book) bookLen ≡ a → (b : Bool) → eqb (length copy) recordLen ≡ b → (c : Bool) → leb p plansMost ≡ c
-          → (n : ℕ) → pick (not (both a b)) refusal.bookWrong (pick (not c) refusal.outOfRange n) ≡ refusal.none → (length book ≡ bookLen) × (length copy ≡ recordLen) × (p ≤ plansMost)
+          → (n : ℕ) → pick (not (both a b)) refusal.bookWrong (pick (not c) refusal.outOfRange n) ≡ refusal.none
+          → (length book ≡ bookLen) × (length copy ≡ recordLen) × (p ≤ plansMost)
       by true ea true eb true ec n h = (eqb-true (length book) bookLen ea, eqb-true (length copy) recordLen eb, leb-true p plansMost ec)
       by true ea true eb false ec n h = absurd (omega arith)
       by true ea false eb c ec n h = absurd (omega arith)

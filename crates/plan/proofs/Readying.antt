@@ -185,7 +185,8 @@ module _ (old body : List ℕ) (h : HasTimes old) (r : Ranges15 body) (e : count
 
     pub m-holds : Holds15 old body m
     m-holds =
-        record { octets = m-octets; stands = m-ready; count = m-k; times = m-times; direct = m-direct; order = m-order; green = λ i l. m-green i; cycle = m-cycle; offset = m-offset }
+        let green : (i : ℕ) → i < countIn body → greenOf m i ≡ greenIn body i = λ i l. m-green i in
+        record { octets = m-octets; stands = m-ready; count = m-k; times = m-times; direct = m-direct; order = m-order; green = green; cycle = m-cycle; offset = m-offset }
 
   -- what the checks of the record say of the message
   m-count : kOf m ≡ phasesOf (orderOf m) → CountAgrees old body
@@ -267,7 +268,8 @@ module _ (book info : List ℕ) (hb : length book ≡ bookLen) (ob : Octets book
     fit-set : setPlanOf book info ≡ record { answer = answered refusal.none 0; book = sets book (recordStart p) m15 }
     fit-set =
         set-made setPlanCode (readyMade old os) book info hb hc (read-ranges set-plan info hc .1 (in-ranges os .1 (f .ranges)))
-        (ready-is old os refl (has-stands old old-octets (f .set)) refl refl (f .count .stored) refl refl (agrees-plan m15 (m-agrees old os (f .set) (f .ranges) (f .count .stored) f)))
+        (ready-is old os refl (has-stands old old-octets (f .set)) refl refl (f .count .stored) refl refl
+        (agrees-plan m15 (m-agrees old os (f .set) (f .ranges) (f .count .stored) f)))
 
     pub plan-stored : RecordStored book p m15 (setPlanOf book info .book)
     plan-stored = rw fit-set (stored-here book p m15 hb (f .ranges .plan .least) (f .ranges .plan .most) (m-long old os (f .set) (f .ranges) (f .count .stored) f))

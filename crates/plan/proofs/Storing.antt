@@ -97,17 +97,17 @@ module _ (code : ℕ) (m : NewRecord) (book info : List ℕ) (hb : length book �
   set-made e q = set-goes code m book info front e ∙ rw (← q)
 
   module _ {rec : List ℕ} {Fit Has : Type 0} {Fails : ℕ → Type 0} where
-    made-judged : readOf info .refusal ≡ refusal.none → {m : NewRecord} → Makes rec Fit Has Fails m → Judged book info Fit Has Fails (keptAs p m book)
+    by-way : readOf info .refusal ≡ refusal.none → {m : NewRecord} → Makes rec Fit Has Fails m → Judged book info Fit Has Fails (keptAs p m book)
     unfolding keptAs notMade
-    made-judged e (unset n) = record { only = λ z. absurd (omega arith); kept = λ z. refl; unread = λ r. absurd (r e); unset = λ _ _. (refl, refl); named = λ _ h. absurd (n h) }
-    made-judged e (refused f h d) = record { only = λ z. absurd (omega arith); kept = λ z. refl; unread = λ r. absurd (r e); unset = λ _ n. absurd (n h); named = λ _ _ _. (refl, d) }
-    made-judged e (fits h f) = record { only = λ z. f; kept = λ z. absurd (z refl); unread = λ r. absurd (r e); unset = λ _ n. absurd (n h); named = λ _ _ z. absurd (z refl) }
+    by-way e (unset n) = record { only = λ z. absurd (omega arith); kept = λ z. refl; unread = λ r. absurd (r e); unset = λ _ _. (refl, refl); named = λ _ h. absurd (n h) }
+    by-way e (refused f h d) = record { only = λ z. absurd (omega arith); kept = λ z. refl; unread = λ r. absurd (r e); unset = λ _ n. absurd (n h); named = λ _ _ _. (refl, d) }
+    by-way e (fits h f) = record { only = λ z. f; kept = λ z. absurd (z refl); unread = λ r. absurd (r e); unset = λ _ n. absurd (n h); named = λ _ _ z. absurd (z refl) }
 
     pub judged : (readOf info .refusal ≡ refusal.none → Makes rec Fit Has Fails m) → Judged book info Fit Has Fails (setOf code m book info)
     judged makes = by (ℕ-discrete (readOf info .refusal) refusal.none)
       where
         by : Dec (readOf info .refusal ≡ refusal.none) → Judged book info Fit Has Fails (setOf code m book info)
-        by (yes e) = rw (set-goes code m book info front e) (made-judged e (makes e))
+        by (yes e) = rw (set-goes code m book info front e) (by-way e (makes e))
         by (no n) =
             rw (set-is code m book info front n)
             (record { only = λ e. absurd (n e); kept = λ z. refl; unread = λ _. (refl, refl); unset = λ e. absurd (n e); named = λ e. absurd (n e) })
@@ -137,7 +137,8 @@ module _ (body : List ℕ) where
           let q : 2 * i + 1 ≡ n = omega arith in
           let number : 4 + 6 * i ≡ timesField n = omega (arith, field-maximum n i refl e) in
           subst (Disagrees14 body) number
-          (maximum i (omega (arith, f .within)) (agrees-before n f i (omega arith)) (ltb-true (maximumOf body i) (minimumOf body i) (sym (check-maximum body i) ∙ f .here (2 * i) q)))
+          (maximum i (omega (arith, f .within)) (agrees-before n f i (omega arith))
+          (ltb-true (maximumOf body i) (minimumOf body i) (sym (check-maximum body i) ∙ f .here (2 * i) q)))
       by n f h (no ne) =
           let i : ℕ = (n - 1) / 2 in
           let q : 2 * i + 1 + 1 ≡ n = omega arith in

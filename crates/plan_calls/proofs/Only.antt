@@ -57,4 +57,5 @@ only-read-plan κs a r s x y p q =
 
 only-plan-part : (κs : _) (a : _) (r s : _) (x y : _) → plan-part.Post κs a r x → plan-part.Post κs a s y → (r .ptr ≡ s .ptr) × (now r ≡ now s)
 only-plan-part κs a r s x y p q =
-    one-part (both (eqb (length (now (a .0))) bookLen) (leb (a .1 .1 .0) plansMost)) (eqb (a .1 .1 .0) 0) (a .1 .0) (a .0) (a .1 .0) 0 (length (now (a .1 .0))) (recordStart (a .1 .1 .0)) recordLen 0 0 r s p q
+    one-part (both (eqb (length (now (a .0))) bookLen) (leb (a .1 .1 .0) plansMost)) (eqb (a .1 .1 .0) 0) (a .1 .0) (a .0) (a .1 .0) 0
+    (length (now (a .1 .0))) (recordStart (a .1 .1 .0)) recordLen 0 0 r s p q

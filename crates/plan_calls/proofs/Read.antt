@@ -66,7 +66,8 @@ plan-asked info em z ec one ep =
     (r .0, r .2)
 
 module _ (n code : ℕ) (info : List ℕ) where
-  by-setting : (P : Read → Answered → Type 0) → P (notRead refusal.bookWrong 0) (answered refusal.bookWrong 0) → P (notRead refusal.codeNotHandled 0) (answered refusal.codeNotHandled 0)
+  by-setting : (P : Read → Answered → Type 0) → P (notRead refusal.bookWrong 0) (answered refusal.bookWrong 0)
+      → P (notRead refusal.codeNotHandled 0) (answered refusal.codeNotHandled 0)
       → P (readOf info) (answered (readOf info .refusal) (readOf info .field)) → P (setRead n code info) (setFront n code info)
   unfolding setRead setFront
   by-setting P a b c = by (eqb n bookLen) (otherCode code info)

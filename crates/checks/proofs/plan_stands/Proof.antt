@@ -12,23 +12,18 @@ use Rattle.checks.proofs.plan_stands.Tie as tie
 
 returns : tie.Need-returns
 returns c =
-    let d = c .before in
-    let s = d .before .before .before .before in
+    let d = c .before in let s = d .before .before .before .before in
     told-not (told-within refl (d .fits2 .ensures)) (not-true (d .fits2 .result) (c .if1 .taken)) (λ t. plan-fits (s .args .rec .now) t .direct)
 
 returns-2 : tie.Need-returns-2
 returns-2 c =
-    let p = c .before in
-    let s = p .before .before .before .before .before .before .before in
+    let p = c .before in let s = p .before .before .before .before .before .before .before in
     told-not (told-within (p .before .word .ensures) (p .passes .ensures)) (not-true (p .passes .result) (c .if2 .taken))
     (λ t. let f = plan-fits (s .args .rec .now) t in record { least = omega (arith, f .offset); most = f .most })
 
 returns-3 : tie.Need-returns-3
 returns-3 c =
-    let p = c .before .before in
-    let d = p .before .before .before in
-    let known = d .before .before in
-    let s = known .before .before in
+    let p = c .before .before in let d = p .before .before .before in let known = d .before .before in let s = known .before .before in
     let rec = s .args .rec .now in
     plan-told rec (s .pre .0) (omega (arith, known .shared-slice-known2 .given (timesEnd rec + 1))) (s .pre .1)
     (told-within refl (d .fits2 .ensures) .holds (not-false (d .fits2 .result) (p .before .before .if1 .left)))

@@ -9,8 +9,7 @@ use Rattle.checks.proofs.standing.Tie as tie
 
 ready-stands-requires : tie.Need-ready-stands-requires
 ready-stands-requires c κs =
-    let o = c .before .before in
-    let d = o .before .before in
+    let o = c .before .before in let d = o .before .before in
     (search needs, times-fit _ (sym (d .times-stand .ensures) ∙ not-false (d .times-stand .result) (o .before .if2 .left)))
 
 pub standing-spec : {M : Type 1} → statement M

@@ -19,25 +19,19 @@ abbrev μ-loop : tie.MeasureT-loop
 
 returns : tie.Need-returns Inv-loop μ-loop
 returns c =
-    let p = c .before in
-    let k = p .before in
+    let p = c .before in let k = p .before in
     told-not (told-within (k .count .ensures) (p .fits2 .ensures)) (not-true (p .fits2 .result) (c .if1 .taken))
     (λ t. times-fit (k .before .before .args .rec .now) t .count)
 
 phase-stands-requires : tie.Need-phase-stands-requires Inv-loop μ-loop
 phase-stands-requires c κs =
-    let v = c .before in
-    let p = v .before .before in
-    let k = p .before in
+    let v = c .before in let p = v .before .before in let k = p .before in
     let m = told-within (k .count .ensures) (p .fits2 .ensures) .holds (not-false (p .fits2 .result) (v .before .if1 .left)) .most in
     (k .before .before .pre, omega (arith, k .count .ensures))
 
 returns-2 : tie.Need-returns-2 Inv-loop μ-loop
 returns-2 c =
-    let p = c .before in
-    let v = p .before .before in
-    let k = v .before .before .before in
-    let rec = k .before .before .args .rec .now in
+    let p = c .before in let v = p .before .before in let k = v .before .before .before in let rec = k .before .before .args .rec .now in
     let l : v .loop .i < kOf rec = omega (arith, k .count .ensures) in
     told-not (p .phase-stands .ensures) (not-true (p .phase-stands .result) (c .if2 .taken)) (λ t. times-fit rec t .phases (v .loop .i) l)
 
@@ -48,10 +42,7 @@ loop-again c =
 
 returns-3 : tie.Need-returns-3 Inv-loop μ-loop
 returns-3 c =
-    let v = c .before in
-    let p = v .before .before in
-    let k = p .before in
-    let s = k .before .before in
+    let v = c .before in let p = v .before .before in let k = p .before in let s = k .before .before in
     sym
     (fit-times (s .args .rec .now) (s .pre)
     (record {

@@ -20,9 +20,7 @@ abbrev μ-loop : tie.MeasureT-loop
 
 loop-again : tie.Need-loop-again Inv-loop μ-loop
 loop-again c =
-    let d = c .before .before .before .before in
-    let v = d .loop in
-    let a = d .before .args in
+    let d = c .before .before .before .before in let v = d .loop in let a = d .before .args in
     ⊎-elim
     (λ w.
     ⊎-elim (λ x. rw (x .1 ∙ w .1) (search needs, search needs, last-is (a .rec .now) (a .at) (v .end) (v .i) (search needs) (v .inv .2) (w .0 .taken)))
@@ -36,8 +34,7 @@ loop-again c =
 
 returns : tie.Need-returns Inv-loop μ-loop
 returns c =
-    let v = c .before .loop in
-    let a = c .before .before .args in
+    let v = c .before .loop in let a = c .before .before .args in
     last-of-all (a .rec .now) (a .at) (v .end) (v .i) (v .inv .1) (search needs) (v .inv .2)
 
 pub zero-from-spec : {M : Type 1} → statement M

@@ -10,9 +10,7 @@ use Rattle.plan_calls.proofs.book.built_in.Tie as tie
 returns : tie.Need-returns
 unfolding padded builtIn
 returns c =
-    let p3 = c .before in
-    let p2 = p3 .before .before .before .before in
-    let p1 = p2 .before .before .before .before in
+    let p3 = c .before in let p2 = p3 .before .before .before .before in let p1 = p2 .before .before .before .before in
     let s1 = put-stored (p1 .put .ensures) (omega arith) in
     let s2 = put-stored (p2 .put2 .ensures) (omega (arith, s1 .place, s1 .long)) in
     let s3 = put-stored (p3 .put3 .ensures) (omega (arith, s2 .place, s2 .long, s1 .place, s1 .long)) in

@@ -20,9 +20,7 @@ abbrev μ-loop : tie.MeasureT-loop
 
 loop-again : tie.Need-loop-again Inv-loop μ-loop
 loop-again c =
-    let d = c .before .before .before in
-    let v = d .loop in
-    let copy = d .before .before .before .args .copy .now in
+    let d = c .before .before .before in let v = d .loop in let copy = d .before .before .before .args .copy .now in
     let rec = d .before .built-in .result in
     ⊎-elim
     (λ w. (
@@ -35,9 +33,7 @@ loop-again c =
 
 returns : tie.Need-returns Inv-loop μ-loop
 returns c =
-    let d = c .before in
-    let v = d .loop in
-    let copy = d .before .before .before .args .copy .now in
+    let d = c .before in let v = d .loop in let copy = d .before .before .before .args .copy .now in
     sym (and-true (v .alike)) ∙ rw (← same-ends copy (d .before .built-in .result) (v .i) (search needs) (search needs), d .before .built-in .ensures) at (v .inv .2)
 
 pub matches-spec : {M : Type 1} → statement M

@@ -8,8 +8,7 @@ use Rattle.plan_calls.proofs.book.part_read.Tie as tie
 
 returns-2 : tie.Need-returns-2
 returns-2 c =
-    let d = c .before .before .before .before in
-    let a = d .args in
+    let d = c .before .before .before .before in let a = d .args in
     let e = sym (d .pre) ∙ c .before .if1 .left in
     let s = read-sound (a .book .now) (a .copy .now) (a .plan) e in
     rw (eq-eqb _ _ e) (rw (eq-eqb _ _ (s .0), le-leb _ _ (s .2), s .1) at (c .plan-part .ensures))

@@ -19,9 +19,7 @@ returns-3 c =
 
 returns-4 : tie.Need-returns-4
 returns-4 c =
-    let s = c .before in
-    let i = s .before in
-    let a = i .before .before .before .before .before .args in
+    let s = c .before in let i = s .before in let a = i .before .before .before .before .before .args in
     rw (eq-eqb _ _ (i .before .before .if1 .left), le-leb _ _ (i .before .if2 .left), ne-eqb _ _ (i .if3 .left))
     (record {
       place = ap (λ (n : ℕ). (a .book .ptr .0, n + a .book .ptr .1)) (s .start .ensures .0);

@@ -13,18 +13,16 @@ use Rattle.plan_calls.proofs.setting.made_ready.Tie as tie
 
 ready-record-requires : tie.Need-ready-record-requires
 ready-record-requires c κs =
-    let k = c .before in
-    let d = k .before .before .before .before .before in
+    let k = c .before in let d = k .before .before .before .before .before in
     (search needs, omega (arith, k .count .ensures, d .pre .2, d .pre .1 .count .most), omega (arith, k .count .ensures, d .pre .2, d .pre .1 .long))
 
 -- the record has the stored count, so it has at most eleven checks
 few : (c : tie.After-plan-disagree) → c .plan-disagree .result ≤ 11
 few c =
-    let r = c .before .before in
-    let k = r .before .before in
-    let d = k .before .before .before .before .before in
+    let r = c .before .before in let k = r .before .before in let d = k .before .before .before .before .before in
     let e = c .plan-disagree .ensures ∙ ap planDisagree (r .ready-record .ensures) in
-    let n = ready-k (d .args .old .now) (d .args .body .now) (omega (arith, k .count .ensures, d .pre .2, r .before .if2 .left, d .pre .1 .count .most, d .pre .0)) (omega (arith, d .pre .1 .long)) in
+    let n = ready-k (d .args .old .now) (d .args .body .now) (omega (arith, k .count .ensures, d .pre .2, r .before .if2 .left, d .pre .1 .count .most, d .pre .0))
+    (omega (arith, d .pre .1 .long)) in
     omega (arith, e, plan-first (readyRecord (d .args .old .now) (d .args .body .now)) .within, n, k .count .ensures, d .pre .2, r .before .if2 .left, d .pre .1 .count .most)
 
 returns-3 : tie.Need-returns-3

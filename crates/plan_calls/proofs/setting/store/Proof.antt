@@ -10,9 +10,7 @@ use Rattle.plan_calls.proofs.setting.store.Tie as tie
 
 returns : tie.Need-returns
 returns c =
-    let p = c .before .before in
-    let s = p .before in
-    let a = s .before .before .before .before .args in
+    let p = c .before .before in let s = p .before in let a = s .before .before .before .before .args in
     let h : s .start .result + length (a .t3) ≤ length (a .book .now) = search needs in
     put-stored (p .put .ensures) h .holds ∙ ap (λ (n : ℕ). sets (a .book .now) n (a .t3)) (s .start .ensures .0)
 
