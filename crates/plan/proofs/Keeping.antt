@@ -95,10 +95,7 @@ reads-same book book′ copy q e h = by (ℕ-discrete q 0) (decLt plansMost q)
 others-read : (book : List ℕ) (p : ℕ) → length book ≡ bookLen → {book′ : List ℕ} → Left book p book′ → OthersRead book book′ p
 others-read book p hb same = record { refusal = λ copy q n. refl; octets = λ q a b n. refl }
 others-read book p hb (put rec book′ s w) =
-    record {
-      refusal = λ copy q n. reads-same book book′ copy q (s .long ∙ sym hb) (λ a b. s .others q a b n);
-      octets = s .others;
-    }
+    record { refusal = λ copy q n. reads-same book book′ copy q (s .long ∙ sym hb) (λ a b. s .others q a b n); octets = s .others }
 
 well-formed : (book : List ℕ) (p : ℕ) → BookWellFormed book → {book′ : List ℕ} → Left book p book′ → BookWellFormed book′
 well-formed book p f same = f

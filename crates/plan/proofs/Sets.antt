@@ -164,8 +164,7 @@ module _ (old body : List ℕ) (ho : timesEnd old ≤ length old) (hb : 4 ≤ le
       ∙ (ap (octetAt (readyOctets old body)) e ∙ getD-append-add (front-part old) (rest-part body) j 0)
 
   pub ready-two : (j : ℕ) → j < 2 → octetAt (readyRecord old body) (timesEnd old + j) ≡ octetAt body (1 + j)
-  ready-two j l =
-      after j ∙ (List·getD-append (between 1 3 body) (drop 4 body) 0 j (omega (arith, two-long)) ∙ part-at 1 3 body j l)
+  ready-two j l = after j ∙ (List·getD-append (between 1 3 body) (drop 4 body) 0 j (omega (arith, two-long)) ∙ part-at 1 3 body j l)
 
   pub ready-rest : (j : ℕ) → octetAt (readyRecord old body) (timesEnd old + (2 + j)) ≡ octetAt body (4 + j)
   ready-rest j =
