@@ -230,12 +230,12 @@ zeros zero = refl
 zeros (suc n) = zeros n
 
 module _ (rec : List ℕ) (at : ℕ) where
-  pub rest-zero : length rec ≡ recordLen → allZero (drop at rec) ≡ true → ZeroFrom rec at
+  rest-zero : length rec ≡ recordLen → allZero (drop at rec) ≡ true → ZeroFrom rec at
   rest-zero e h =
       let n : length (drop at rec) ≡ recordLen - at = omega (arith, length-drop at rec) in
       zero-list (drop at rec) h ∙ ap (λ (n : ℕ). replicate n 0) n
 
-  pub zero-rest : ZeroFrom rec at → allZero (drop at rec) ≡ true
+  zero-rest : ZeroFrom rec at → allZero (drop at rec) ≡ true
   zero-rest z = rw z (zeros (recordLen - at))
 
 -- How a record stands: what each standing tells of the tests that give it

@@ -157,7 +157,7 @@ module _ (old body : List ℕ) (h : HasTimes old) (r : Ranges15 body) (e : count
     m-len : length (readyOctets old body) ≡ timesEnd old + 2 + (length body - 4)
     m-len = ready-long old body (has-ends old h) long-body
 
-    pub m-long : length m ≡ recordLen
+    m-long : length m ≡ recordLen
     unfolding readyRecord
     m-long = padded-long (readyOctets old body) (omega (arith, m-len, r .long, e, has-fit old h .count .most))
 

@@ -91,14 +91,10 @@ module _ (body : List ℕ) where
 
 -- The records
 
-pub padded-is : (vs : List ℕ) → length vs ≤ recordLen → sets (replicate recordLen 0) 0 vs ≡ padded vs
-unfolding padded
-padded-is vs h = filled-is recordLen vs h
-
 -- a state in front of the octets
-module _ (state : ℕ) (vs : List ℕ) {r : ℕ} {l : List ℕ} where
-  pub built : Stored vs 1 (set (replicate recordLen 0) 0 state) r l → length vs < recordLen → l ≡ padded (state ∷ vs)
-  built s h = s .holds ∙ padded-is (state ∷ vs) h
+built : (state : ℕ) (vs : List ℕ) {r : ℕ} {l : List ℕ} → Stored vs 1 (set (replicate recordLen 0) 0 state) r l → length vs < recordLen → l ≡ padded (state ∷ vs)
+unfolding padded
+built state vs s h = s .holds ∙ filled-is recordLen (state ∷ vs) h
 
 pub times-built : (body : List ℕ) {r : ℕ} {l : List ℕ} → 1 ≤ length body → length body ≤ recordLen
     → Put (between 1 (length body) body) 1 (set (replicate recordLen 0) 0 timesSet) r l → l ≡ timesRecord body
