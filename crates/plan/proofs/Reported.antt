@@ -62,7 +62,8 @@ module _ (rec : List ℕ) (p : ℕ) where
       record {
         minimum = info-at (4 + 7 * i) (timesAt i) (omega arith) (omega arith) (omega arith);
         maximum =
-            rw (info-at (5 + 7 * i) (timesAt i + 1) (omega arith) (omega arith) (omega arith), info-at (5 + 7 * i + 1) (timesAt i + 1 + 1) (omega arith) (omega arith) (omega arith));
+            let low = info-at (5 + 7 * i + 1) (timesAt i + 1 + 1) (omega arith) (omega arith) (omega arith) in
+            rw (info-at (5 + 7 * i) (timesAt i + 1) (omega arith) (omega arith) (omega arith), low);
         yellow = info-at (7 + 7 * i) (timesAt i + 3) (omega arith) (omega arith) (omega arith);
         allRed = info-at (8 + 7 * i) (timesAt i + 4) (omega arith) (omega arith) (omega arith);
         walkFlash = info-at (9 + 7 * i) (timesAt i + 5) (omega arith) (omega arith) (omega arith);
