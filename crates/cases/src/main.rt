@@ -36,13 +36,13 @@ mod writing;
 
 use bench::Bench;
 use control::Post;
+use controller::KEPT_LEN;
+use controller::OUTPUT_LEN;
 use frame::INFO_MOST;
 use input::Ended;
 use libc::STDERR_FILENO;
 use record::BOOK_LEN;
 use words::Word;
-
-const OUTPUT: usize = 544;
 
 // The book has an octet to spare, so that one too long can be lent.
 const BOOK_MOST: usize = BOOK_LEN + 1;
@@ -108,8 +108,8 @@ fn cases(s: &[u8], whole: bool) -> bool {
 fn case(s: &[u8]) -> bool {
     // the octets of INFO that are lent to the decoder, and those that are lent to the controller
     let mut info = [0u8; INFO_MOST];
-    let mut kept = [0u8; INFO_MOST];
-    let mut out = [BEFORE; OUTPUT];
+    let mut kept = [0u8; KEPT_LEN];
+    let mut out = [BEFORE; OUTPUT_LEN];
     let mut book = [0u8; BOOK_MOST];
     let mut d = Desk {
         bench: bench::start(),
@@ -133,7 +133,7 @@ fn action(
     book: &mut [u8],
     out: &mut [u8],
 ) -> Desk {
-    let mut o = [0u8; OUTPUT];
+    let mut o = [0u8; OUTPUT_LEN];
     let end = script::end_of(s, 0, b' ');
     let n = script::octets(script::rest(s, end), &mut o);
     done(

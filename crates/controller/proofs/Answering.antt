@@ -184,45 +184,45 @@ ready-in-done old os = by (eqb (standingOf old) empty) refl (eqb (countIn os) (k
     by false e true f false g = rw (e, f, g) (inr (omega arith, omega arith))
     by false e true f true g = rw (e, f, g) (inl (omega arith))
 
-module _ (u : Running) (requested : ℕ) (book info : List ℕ) where
+module _ (s : State) (book info : List ℕ) where
   abbrev code : ℕ
   code = codeIn info
 
   abbrev p : ℕ
   p = planIn (bodyIn info)
 
-  as-in-done : (a : Answered) → InDone (a .refusal) → InDone (setAs code requested a .refusal)
+  as-in-done : (a : Answered) → InDone (a .refusal) → InDone (setAs code (s .requested) a .refusal)
   unfolding setAs
   as-in-done a h = pick-by (λ (h : Handled). InDone (h .refusal)) (eqb (a .refusal) refusal.none) (λ _. inl (omega arith)) (λ _. h)
 
-  as-leaves : (a : Answered) → (setAs code requested a .refusal ≡ refusal.none → ⊥) → a .refusal ≡ refusal.none → ⊥
+  as-leaves : (a : Answered) → (setAs code (s .requested) a .refusal ≡ refusal.none → ⊥) → a .refusal ≡ refusal.none → ⊥
   unfolding setAs
   as-leaves a n e = n (rw (eq-eqb (a .refusal) refusal.none e))
 
-  read-or-done : (h : Handled) → InDone (h .refusal) → InDone (unlessUnread code requested info h .refusal)
+  read-or-done : (h : Handled) → InDone (h .refusal) → InDone (unlessUnread code (s .requested) info h .refusal)
   read-or-done h d = pick-by (λ (h : Handled). InDone (h .refusal)) (eqb (readOf info .refusal) refusal.none) (λ _. d) (λ _. read-in-done info)
 
   -- of what holds or is refused 13
-  or-not-ready : (t : Bool) (h : Handled) → InDone (h .refusal) → InDone (pick t h (handling.refusedWith code requested refusal.notReady planAt) .refusal)
+  or-not-ready : (t : Bool) (h : Handled) → InDone (h .refusal) → InDone (pick t h (handling.refusedWith code (s .requested) refusal.notReady planAt) .refusal)
   or-not-ready true h d = d
   or-not-ready false h d = inr (omega arith, omega arith)
 
-  pub handled-in-done : length book ≡ bookLen → InDone (handlingOf u requested book info .handled .refusal)
+  pub handled-in-done : length book ≡ bookLen → InDone (handlingOf s book info .handled .refusal)
   unfolding runAs queryTimesAs queryPlanAs queryRunningAs
   handled-in-done hb =
-      handling-by (λ h. InDone (h .handled .refusal)) u requested book info
+      handling-by (λ h. InDone (h .handled .refusal)) s book info
       (as-in-done (setTimesOf book info .answer) (set-in-done setTimesCode (timesMade (bodyIn info)) book info refl hb (times-in-done (bodyIn info))))
       (as-in-done (setPlanOf book info .answer) (set-in-done setPlanCode (readyMade (recordAt book p) (bodyIn info)) book info refl hb (ready-in-done (recordAt book p) (bodyIn info))))
-      (read-or-done _ (or-not-ready (readyIn (u .which) book p) _ (inl (omega arith))))
+      (read-or-done _ (or-not-ready (readyIn (s .running .which) book p) _ (inl (omega arith))))
       (read-or-done _
-      (pick-by (λ (h : Handled). InDone (h .refusal)) (eqb (standingOf (planRecord (u .which) book p)) empty) (λ _. inr (omega arith, omega arith)) (λ _. inl (omega arith))))
-      (read-or-done _ (or-not-ready (readyIn (u .which) book p) _ (inl (omega arith))))
+      (pick-by (λ (h : Handled). InDone (h .refusal)) (eqb (standingOf (planRecord (s .running .which) book p)) empty) (λ _. inr (omega arith, omega arith)) (λ _. inl (omega arith))))
+      (read-or-done _ (or-not-ready (readyIn (s .running .which) book p) _ (inl (omega arith))))
       (read-or-done _ (inl (omega arith)))
       (inr (omega arith, omega arith))
 
-  pub handled-leaves : (handlingOf u requested book info .handled .refusal ≡ refusal.none → ⊥) → handlingOf u requested book info .book ≡ book
+  pub handled-leaves : (handlingOf s book info .handled .refusal ≡ refusal.none → ⊥) → handlingOf s book info .book ≡ book
   handled-leaves =
-      handling-by (λ h. (h .handled .refusal ≡ refusal.none → ⊥) → h .book ≡ book) u requested book info
+      handling-by (λ h. (h .handled .refusal ≡ refusal.none → ⊥) → h .book ≡ book) s book info
       (λ n. set-refused-leaves setTimesCode (timesMade (bodyIn info)) book info refl (as-leaves (setTimesOf book info .answer) n))
       (λ n. set-refused-leaves setPlanCode (readyMade (recordAt book p) (bodyIn info)) book info refl (as-leaves (setPlanOf book info .answer) n))
       (λ _. refl) (λ _. refl) (λ _. refl) (λ _. refl) (λ _. refl)
@@ -260,14 +260,14 @@ module _ (s : State) (book : List ℕ) where
     message-right seq addr info =
         pick-by (Right book) (forUs (s .own) addr)
         (λ _. pick-by (Right book) (isAnswer (codeIn info)) (λ _. unchanged-right refusal.none event.Nothing (acks (s .own) seq addr) (omega arith) (acks-fit (s .own) seq addr))
-        (λ _. record { names = handled-in-done (s .running) (s .requested) book info hb; leaves = handled-leaves (s .running) (s .requested) book info; fits = frames }))
+        (λ _. record { names = handled-in-done s book info hb; leaves = handled-leaves s book info; fits = frames }))
         (λ _. unchanged-right refusal.none event.Nothing [] (omega arith) none-fit)
       where
         reply : List ℕ
-        reply = infoOf (handlingOf (s .running) (s .requested) book info .handled .reply)
+        reply = infoOf (handlingOf s book info .handled .reply)
 
         frames : FramesFit (pick (eqb addr (s .own)) (repliesOf seq (s .seq) (s .own) reply) [])
-        frames = pick-by FramesFit (eqb addr (s .own)) (λ _. sent-most seq (s .seq) (s .own) reply (reply-fits (s .running) (s .requested) book info (p .checks) (p .plan) hb)) (λ _. none-fit)
+        frames = pick-by FramesFit (eqb addr (s .own)) (λ _. sent-most seq (s .seq) (s .own) reply (reply-fits s book info (p .checks) (p .plan) hb)) (λ _. none-fit)
 
     brought-right : (f : Found) (kept : List ℕ) → CanFind f → Right book (broughtOf (foundMeans f kept) s book)
     brought-right found.Nothing kept c = unchanged-right refusal.none event.Nothing [] (omega arith) none-fit
@@ -355,7 +355,7 @@ outputs-left s book out b =
         record { beyond = written-drop vs out h; long = length-sets out 0 vs; within = h; most = f }
 
 pub numbers-as-said : NumbersAsSaid
-numbers-as-said = (refl, refl, refl, refl, refl)
+numbers-as-said = (refl, refl, refl, refl, refl, refl)
 
 -- The state by parts
 

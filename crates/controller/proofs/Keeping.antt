@@ -48,7 +48,7 @@ pub record Left (address : ℕ) (u : Running) (d : Decoder) (p : ℕ) (t : State
   pub requested : t .requested ≡ p
 
 -- what a message leaves requested: the plan of a 5F 18 that is not refused, else what was
-module _ (u : Running) (requested : ℕ) (book info : List ℕ) where
+module _ (s : State) (book info : List ℕ) where
   abbrev code : ℕ
   code = codeIn info
 
@@ -56,44 +56,44 @@ module _ (u : Running) (requested : ℕ) (book info : List ℕ) where
   asked = planIn (bodyIn info)
 
   abbrev runs : Bool
-  runs = both (eqb code runCode) (both (eqb (readOf info .refusal) refusal.none) (readyIn (u .which) book asked))
+  runs = both (eqb code runCode) (both (eqb (readOf info .refusal) refusal.none) (readyIn (s .running .which) book asked))
 
   abbrev Leaves : Handled → Type 0
-  Leaves h = h .requested ≡ pick runs asked requested
+  Leaves h = h .requested ≡ pick runs asked (s .requested)
 
-  other-leaves : {p : ℕ} → p ≡ requested → (code ≡ runCode → ⊥) → p ≡ pick runs asked requested
+  other-leaves : {p : ℕ} → p ≡ s .requested → (code ≡ runCode → ⊥) → p ≡ pick runs asked (s .requested)
   other-leaves e n = rw (ne-eqb code runCode n) e
 
   is-other : (n : ℕ) → eqb code n ≡ true → (n ≡ runCode → ⊥) → code ≡ runCode → ⊥
   is-other n t d e = d (sym (eqb-true code n t) ∙ e)
 
-  set-leaves : (a : Answered) → setAs code requested a .requested ≡ requested
+  set-leaves : (a : Answered) → setAs code (s .requested) a .requested ≡ s .requested
   unfolding setAs
-  set-leaves a = pick-by (λ (h : Handled). h .requested ≡ requested) (eqb (a .refusal) refusal.none) (λ _. refl) (λ _. refl)
+  set-leaves a = pick-by (λ (h : Handled). h .requested ≡ s .requested) (eqb (a .refusal) refusal.none) (λ _. refl) (λ _. refl)
 
-  run-leaves : eqb code runCode ≡ true → Leaves (unlessUnread code requested info (runAs (u .which) code requested book asked))
+  run-leaves : eqb code runCode ≡ true → Leaves (unlessUnread code (s .requested) info (runAs (s .running .which) code (s .requested) book asked))
   unfolding runAs
   run-leaves t =
       pick-by Leaves (eqb (readOf info .refusal) refusal.none)
-      (λ r. pick-by Leaves (readyIn (u .which) book asked) (λ q. rw (t, r, q)) (λ q. rw (t, r, q)))
+      (λ r. pick-by Leaves (readyIn (s .running .which) book asked) (λ q. rw (t, r, q)) (λ q. rw (t, r, q)))
       (λ r. rw (t, r))
 
-  read-leaves : (h : Handled) → h .requested ≡ requested → unlessUnread code requested info h .requested ≡ requested
-  read-leaves h e = pick-by (λ (h : Handled). h .requested ≡ requested) (eqb (readOf info .refusal) refusal.none) (λ _. e) (λ _. refl)
+  read-leaves : (h : Handled) → h .requested ≡ s .requested → unlessUnread code (s .requested) info h .requested ≡ s .requested
+  read-leaves h e = pick-by (λ (h : Handled). h .requested ≡ s .requested) (eqb (readOf info .refusal) refusal.none) (λ _. e) (λ _. refl)
 
-  times-leaves : unlessUnread code requested info (queryTimesAs (u .which) code requested book asked) .requested ≡ requested
+  times-leaves : unlessUnread code (s .requested) info (queryTimesAs (s .running .which) code (s .requested) book asked) .requested ≡ s .requested
   unfolding queryTimesAs
-  times-leaves = read-leaves _ (pick-by (λ (h : Handled). h .requested ≡ requested) (eqb (standingOf (planRecord (u .which) book asked)) empty) (λ _. refl) (λ _. refl))
+  times-leaves = read-leaves _ (pick-by (λ (h : Handled). h .requested ≡ s .requested) (eqb (standingOf (planRecord (s .running .which) book asked)) empty) (λ _. refl) (λ _. refl))
 
-  plan-leaves : unlessUnread code requested info (queryPlanAs (u .which) code requested book asked) .requested ≡ requested
+  plan-leaves : unlessUnread code (s .requested) info (queryPlanAs (s .running .which) code (s .requested) book asked) .requested ≡ s .requested
   unfolding queryPlanAs
-  plan-leaves = read-leaves _ (pick-by (λ (h : Handled). h .requested ≡ requested) (readyIn (u .which) book asked) (λ _. refl) (λ _. refl))
+  plan-leaves = read-leaves _ (pick-by (λ (h : Handled). h .requested ≡ s .requested) (readyIn (s .running .which) book asked) (λ _. refl) (λ _. refl))
 
-  running-leaves : unlessUnread code requested info (queryRunningAs requested u) .requested ≡ requested
+  running-leaves : unlessUnread code (s .requested) info (queryRunningAs (s .requested) (s .running)) .requested ≡ s .requested
   unfolding queryRunningAs
   running-leaves = read-leaves _ refl
 
-  pub handled-leaves : Leaves (handlingOf u requested book info .handled)
+  pub handled-leaves : Leaves (handlingOf s book info .handled)
   unfolding handlingOf
   handled-leaves =
       let P : Handling → Type 0 = λ w. Leaves (w .handled) in
@@ -120,7 +120,7 @@ module _ (s : State) (book : List ℕ) where
   message-asks seq addr info =
       let P : ResultAndBook → Type 0 = λ w. w .result .requested ≡ latestAfter (s .own) book (s .requested) (sound (message seq addr info)) in
       pick-by P (forUs (s .own) addr)
-      (λ f. pick-by P (isAnswer (codeIn info)) (λ a. rw (f, ne-eqb (codeIn info) runCode (answers a))) (λ _. rw (f, may-run (s .running .which) book (planIn (bodyIn info))) (handled-leaves (s .running) (s .requested) book info)))
+      (λ f. pick-by P (isAnswer (codeIn info)) (λ a. rw (f, ne-eqb (codeIn info) runCode (answers a))) (λ _. rw (f, may-run (s .running .which) book (planIn (bodyIn info))) (handled-leaves s book info)))
       (λ f. rw f)
     where
       answers : isAnswer (codeIn info) ≡ true → codeIn info ≡ runCode → ⊥

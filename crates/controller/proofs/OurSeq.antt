@@ -125,13 +125,13 @@ info-octets m w =
 abbrev GoodInfo : List ℕ → Type 0
 GoodInfo i = Octets i × (2 ≤ length i) × (length i ≤ 256)
 
-module _ (u : Running) (requested : ℕ) (book info : List ℕ) (r : standingOf (u .copy) ≡ ready) (hp : u .plan ≤ plansMost) (hb : length book ≡ bookLen) (o : Octets info) where
-  reply-good : GoodInfo (infoOf (handlingOf u requested book info .handled .reply))
+module _ (s : State) (book info : List ℕ) (r : standingOf (s .running .copy) ≡ ready) (hp : s .running .plan ≤ plansMost) (hb : length book ≡ bookLen) (o : Octets info) where
+  reply-good : GoodInfo (infoOf (handlingOf s book info .handled .reply))
   unfolding carriedOutReply refusedReply numberOf firstOf layouts layoutAt rowsAt layoutRows placed infoAs
   reply-good =
       let a = octet-below info 0 o in
       let b = octet-below info 1 o in
-      by-reply u requested book info r hp hb (λ h. GoodInfo (infoOf (h .reply)))
+      by-reply s book info r hp hb (λ h. GoodInfo (infoOf (h .reply)))
       (λ q. ((omega arith, (omega arith, (omega arith, (omega arith, tt)))), omega arith, omega arith))
       (λ n m. ((omega arith, (omega arith, (omega arith, (omega arith, (omega arith, (omega arith, tt)))))), omega arith, omega arith))
       (λ m w. (info-octets m w, info-fits m w .0, info-fits m w .1))
@@ -183,7 +183,7 @@ module _ (n : ℕ) (s : State) (hw : s .own < 65535) (e : s .seq ≡ n % 256) wh
     message-sent seq addr info h o =
         pick-by Sent (forUs (s .own) addr)
         (λ _. pick-by Sent (isAnswer (codeIn info)) (λ _. ack-sent seq addr h)
-        (λ _. reply-sent (eqb addr (s .own)) seq _ h (reply-good (s .running) (s .requested) book info (p .checks) (p .plan) hb o)))
+        (λ _. reply-sent (eqb addr (s .own)) seq _ h (reply-good s book info (p .checks) (p .plan) hb o)))
         (λ _. none-sent)
 
     brought-sent : (f : Found) (kept : List ℕ) → CanFind f → OutcomeOctets (foundMeans f kept) → Sent (broughtOf (foundMeans f kept) s book)

@@ -34,9 +34,8 @@ use Rattle.checks.specs.Standing.{standingOf}
 use Rattle.plan.specs.Setting.{setTimesCode, setPlanCode, setTimesOf, setPlanOf, planIn}
 use Rattle.plan.specs.Reporting.{reportPlanCode, reportRunningCode}
 use Rattle.plan.proofs.Reportable.{report-times-writable, report-plan-writable, standing-past}
-use Rattle.controller.specs.declared.Running.{Running}
 use Rattle.controller.specs.declared.Handled.{Handled}
-use Rattle.controller.specs.State.{outputLen, planRecord, readyIn}
+use Rattle.controller.specs.State.{State, outputLen, planRecord, readyIn}
 use Rattle.controller.specs.Handling.{Handling, accepted, reads, asks, setHandled, runCode, queryTimesCode, queryPlanCode, queryRunningCode, carriedOutReply, refusedReply, refusedWith, setAs, unlessUnread, runAs, queryTimesAs, queryPlanAs, queryRunningAs, handlingOf}
 use Rattle.controller.specs.Replies.{sent, repliesOf, CanFind}
 
@@ -96,75 +95,70 @@ by-seven P false false false false true f m n o p q r s = q
 by-seven P false false false false false true m n o p q r s = r
 by-seven P false false false false false false m n o p q r s = s
 
-pub handling-by : (P : Handling → Type 0) (u : Running) (requested : ℕ) (book info : List ℕ)
-    → P (setHandled (codeIn info) requested (setTimesOf book info)) → P (setHandled (codeIn info) requested (setPlanOf book info))
-    → P (asks (codeIn info) requested book info (runAs (u .which) (codeIn info) requested book (planIn (bodyIn info))))
-    → P (asks (codeIn info) requested book info (queryTimesAs (u .which) (codeIn info) requested book (planIn (bodyIn info))))
-    → P (asks (codeIn info) requested book info (queryPlanAs (u .which) (codeIn info) requested book (planIn (bodyIn info))))
-    → P (asks (codeIn info) requested book info (queryRunningAs requested u))
-    → P (reads (refusedWith (codeIn info) requested refusal.codeNotHandled 0) book) → P (handlingOf u requested book info)
+pub handling-by : (P : Handling → Type 0) (s : State) (book info : List ℕ)
+    → P (setHandled (codeIn info) (s .requested) (setTimesOf book info)) → P (setHandled (codeIn info) (s .requested) (setPlanOf book info))
+    → P (asks (codeIn info) (s .requested) book info (runAs (s .running .which) (codeIn info) (s .requested) book (planIn (bodyIn info))))
+    → P (asks (codeIn info) (s .requested) book info (queryTimesAs (s .running .which) (codeIn info) (s .requested) book (planIn (bodyIn info))))
+    → P (asks (codeIn info) (s .requested) book info (queryPlanAs (s .running .which) (codeIn info) (s .requested) book (planIn (bodyIn info))))
+    → P (asks (codeIn info) (s .requested) book info (queryRunningAs (s .requested) (s .running)))
+    → P (reads (refusedWith (codeIn info) (s .requested) refusal.codeNotHandled 0) book) → P (handlingOf s book info)
 unfolding handlingOf
-handling-by P u requested book info =
+handling-by P s book info =
     let code = codeIn info in
     by-seven P (eqb code setTimesCode) (eqb code setPlanCode) (eqb code runCode) (eqb code queryTimesCode) (eqb code queryPlanCode) (eqb code queryRunningCode)
 
 -- what holds of every 0F 80, of every 0F 81 and of every report that is writable holds of what is handled
-module _ (P : Handled → Type 0) (which : Which) (code requested : ℕ) (book info : List ℕ) (hb : length book ≡ bookLen)
-    (carried : (q : ℕ) → P (accepted q (carriedOutReply code))) (refused : (n m : ℕ) → P (refusedWith code requested n m))
-    (report : (m : message.Message) → writable m ≡ true → P (accepted requested m)) where
-  abbrev p : ℕ
-  p = planIn (bodyIn info)
-
-  by-read : (h : Handled) → P h → P (unlessUnread code requested info h)
-  by-read h w = pick-by P (eqb (readOf info .refusal) refusal.none) (λ _. w) (λ _. refused (readOf info .refusal) (readOf info .field))
-
-  by-set : (a : Answered) → P (setAs code requested a)
-  unfolding setAs
-  by-set a = pick-by P (eqb (a .refusal) refusal.none) (λ _. carried requested) (λ _. refused (a .refusal) (a .field))
-
-  by-run : P (unlessUnread code requested info (runAs which code requested book p))
-  unfolding runAs
-  by-run = by-read _ (pick-by P (readyIn which book p) (λ _. carried p) (λ _. refused refusal.notReady planAt))
-
-  by-query-times : P (unlessUnread code requested info (queryTimesAs which code requested book p))
-  unfolding queryTimesAs
-  by-query-times =
-      by-read _
-      (pick-by P (eqb (standingOf (planRecord which book p)) empty) (λ _. refused refusal.notReady planAt)
-      (λ e. let n = eqb-false (standingOf (planRecord which book p)) empty e in report _ (report-times-writable (planRecord which book p) p (plan-most which book p hb n) n)))
-
-  by-query-plan : P (unlessUnread code requested info (queryPlanAs which code requested book p))
-  unfolding queryPlanAs
-  by-query-plan =
-      by-read _
-      (pick-by P (readyIn which book p)
-      (λ e.
-      let r = eqb-true (standingOf (planRecord which book p)) ready e in
-      report _ (report-plan-writable (planRecord which book p) p reportPlanCode (plan-most which book p hb (λ z. absurd (omega arith))) r (inl refl)))
-      (λ _. refused refusal.notReady planAt))
-
-  by-query-running : (u : Running) → standingOf (u .copy) ≡ ready → u .plan ≤ plansMost → P (unlessUnread code requested info (queryRunningAs requested u))
-  unfolding queryRunningAs
-  by-query-running u r hp = by-read _ (report _ (report-plan-writable (u .copy) (u .plan) reportRunningCode hp r (inr refl)))
-
-module _ (u : Running) (requested : ℕ) (book info : List ℕ) (r : standingOf (u .copy) ≡ ready) (hp : u .plan ≤ plansMost) (hb : length book ≡ bookLen) where
+module _ (s : State) (book info : List ℕ) (r : standingOf (s .running .copy) ≡ ready) (hp : s .running .plan ≤ plansMost) (hb : length book ≡ bookLen) where
   abbrev code : ℕ
   code = codeIn info
 
-  pub by-reply : (P : Handled → Type 0) → ((q : ℕ) → P (accepted q (carriedOutReply code))) → ((n m : ℕ) → P (refusedWith code requested n m))
-      → ((m : message.Message) → writable m ≡ true → P (accepted requested m)) → P (handlingOf u requested book info .handled)
-  by-reply P c f w =
-      handling-by (λ h. P (h .handled)) u requested book info
-      (by-set P (u .which) code requested book info hb c f w (setTimesOf book info .answer))
-      (by-set P (u .which) code requested book info hb c f w (setPlanOf book info .answer))
-      (by-run P (u .which) code requested book info hb c f w)
-      (by-query-times P (u .which) code requested book info hb c f w)
-      (by-query-plan P (u .which) code requested book info hb c f w)
-      (by-query-running P (u .which) code requested book info hb c f w u r hp)
-      (f refusal.codeNotHandled 0)
+  abbrev p : ℕ
+  p = planIn (bodyIn info)
+
+  -- the record of the plan that the message names
+  abbrev named : List ℕ
+  named = planRecord (s .running .which) book p
+
+  module _ (P : Handled → Type 0) (carried : (q : ℕ) → P (accepted q (carriedOutReply code))) (refused : (n m : ℕ) → P (refusedWith code (s .requested) n m))
+      (report : (m : message.Message) → writable m ≡ true → P (accepted (s .requested) m)) where
+    by-read : (h : Handled) → P h → P (unlessUnread code (s .requested) info h)
+    by-read h w = pick-by P (eqb (readOf info .refusal) refusal.none) (λ _. w) (λ _. refused (readOf info .refusal) (readOf info .field))
+
+    by-set : (a : Answered) → P (setAs code (s .requested) a)
+    unfolding setAs
+    by-set a = pick-by P (eqb (a .refusal) refusal.none) (λ _. carried (s .requested)) (λ _. refused (a .refusal) (a .field))
+
+    by-run : P (runAs (s .running .which) code (s .requested) book p)
+    unfolding runAs
+    by-run = pick-by P (readyIn (s .running .which) book p) (λ _. carried p) (λ _. refused refusal.notReady planAt)
+
+    by-query-times : P (queryTimesAs (s .running .which) code (s .requested) book p)
+    unfolding queryTimesAs
+    by-query-times =
+        pick-by P (eqb (standingOf named) empty) (λ _. refused refusal.notReady planAt)
+        (λ e. let n = eqb-false (standingOf named) empty e in report _ (report-times-writable named p (plan-most (s .running .which) book p hb n) n))
+
+    by-query-plan : P (queryPlanAs (s .running .which) code (s .requested) book p)
+    unfolding queryPlanAs
+    by-query-plan =
+        pick-by P (readyIn (s .running .which) book p)
+        (λ e.
+        let d = eqb-true (standingOf named) ready e in
+        report _ (report-plan-writable named p reportPlanCode (plan-most (s .running .which) book p hb (λ z. absurd (omega arith))) d (inl refl)))
+        (λ _. refused refusal.notReady planAt)
+
+    by-query-running : P (queryRunningAs (s .requested) (s .running))
+    unfolding queryRunningAs
+    by-query-running = report _ (report-plan-writable (s .running .copy) (s .running .plan) reportRunningCode hp r (inr refl))
+
+    pub by-reply : P (handlingOf s book info .handled)
+    by-reply =
+        handling-by (λ h. P (h .handled)) s book info (by-set (setTimesOf book info .answer)) (by-set (setPlanOf book info .answer))
+        (by-read _ by-run) (by-read _ by-query-times) (by-read _ by-query-plan) (by-read _ by-query-running)
+        (refused refusal.codeNotHandled 0)
 
   -- its INFO fits a frame, whatever it names
-  pub reply-fits : length (infoOf (handlingOf u requested book info .handled .reply)) ≤ infoMost
+  pub reply-fits : length (infoOf (handlingOf s book info .handled .reply)) ≤ infoMost
   unfolding carriedOutReply refusedReply numberOf firstOf layouts layoutAt rowsAt layoutRows infoAs
   reply-fits = by-reply (λ h. length (infoOf (h .reply)) ≤ infoMost) (λ q. omega arith) (λ n m. omega arith) (λ m w. info-fits m w .1)
 

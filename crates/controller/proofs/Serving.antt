@@ -145,11 +145,11 @@ module _ (s : State) (book out : List ℕ) (b : ℕ) (h : soundOf s ≡ true) (h
   other e = sound-parts s h .own (sym e)
 
   pub message-served : (seq addr : ℕ) (info : List ℕ) → Ends (sound (message seq addr info)) → (addr ≡ s .own) ⊎ (addr ≡ all)
-      → isAnswer (codeIn info) ≡ false → Served (s .own) (s .seq) seq addr (handlingOf (s .running) (s .requested) book info) w
+      → isAnswer (codeIn info) ≡ false → Served (s .own) (s .seq) seq addr (handlingOf s book info) w
   message-served seq addr info e a n =
       let u = sound-parts s h .running in
       rw (brings e, message-handled s seq addr info book (for-us (s .own) addr a) n)
-      (served s d seq addr (handlingOf (s .running) (s .requested) book info) out ho (reply-fits (s .running) (s .requested) book info (u .checks) (u .plan) hb))
+      (served s d seq addr (handlingOf s book info) out ho (reply-fits s book info (u .checks) (u .plan) hb))
 
   no-naks : (n : ℕ) (k : Kind) (seq addr : ℕ) → (k ≡ Message → ⊥) ⊎ (addr ≡ s .own → ⊥) → naks k (s .own) n seq addr ≡ []
   no-naks n Message seq addr (inl g) = absurd (g refl)
@@ -173,7 +173,7 @@ module _ (s : State) (book out : List ℕ) (b : ℕ) (h : soundOf s ≡ true) (h
             (wrote out (ack seq (s .own) ∷ []) ho (ack-fits seq (s .own)) refl refl, refl, record { state = refl; book = refl; parameter = refl });
         replied = λ seq info e a.
             let v = message-served seq (s .own) info e (inl refl) (no-answer info a) .reply refl in
-            (infoOf (handlingOf (s .running) (s .requested) book info .handled .reply), v .0, v .1);
+            (infoOf (handlingOf s book info .handled .reply), v .0, v .1);
         forAll = λ seq info e. for-all seq info e (isAnswer (codeIn info)) refl;
         answerForAll = λ seq info e a. rw (brings e, message-answer s seq all info book (for-us (s .own) all (inr refl)) (is-answer info a)) (refl, record { state = refl; book = refl; parameter = refl });
         dropped = λ seq addr info e n m. rw (brings e, message-other s seq addr info book (for-another (s .own) addr n m)) (wrote-none refl, refl, record { state = refl; book = refl; parameter = refl });
@@ -301,35 +301,39 @@ module _ (book info : List ℕ) (hb : length book ≡ bookLen) where
 
 -- What each code does
 
-module _ (u : Running) (requested : ℕ) (book info : List ℕ) where
+module _ (s : State) (book info : List ℕ) where
   abbrev c : ℕ
   c = codeIn info
 
   abbrev p : ℕ
   p = planIn (bodyIn info)
 
+  -- the record of the plan that the message names
+  abbrev named : List ℕ
+  named = planRecord (s .running .which) book p
+
   abbrev H : Handling
-  H = handlingOf u requested book info
+  H = handlingOf s book info
 
   abbrev carried : ℕ → List ℕ → Handling
   carried q l = handling.reads (handling.accepted q (carriedOutReply c)) l
 
   abbrev declined : ℕ → ℕ → List ℕ → Handling
-  declined n m l = handling.reads (handling.refusedWith c requested n m) l
+  declined n m l = handling.reads (handling.refusedWith c (s .requested) n m) l
 
-  set-carried : (w : Setting) → w .answer .refusal ≡ refusal.none → handling.setHandled c requested w ≡ carried requested (w .book)
+  set-carried : (w : Setting) → w .answer .refusal ≡ refusal.none → handling.setHandled c (s .requested) w ≡ carried (s .requested) (w .book)
   unfolding setAs
   set-carried w e = rw (eq-eqb (w .answer .refusal) refusal.none e)
 
-  set-declined : (w : Setting) → (w .answer .refusal ≡ refusal.none → ⊥) → handling.setHandled c requested w ≡ declined (w .answer .refusal) (w .answer .field) (w .book)
+  set-declined : (w : Setting) → (w .answer .refusal ≡ refusal.none → ⊥) → handling.setHandled c (s .requested) w ≡ declined (w .answer .refusal) (w .answer .field) (w .book)
   unfolding setAs
   set-declined w n = rw (ne-eqb (w .answer .refusal) refusal.none n)
 
-  at-times : c ≡ setTimesCode → H ≡ handling.setHandled c requested (setTimesOf book info)
+  at-times : c ≡ setTimesCode → H ≡ handling.setHandled c (s .requested) (setTimesOf book info)
   unfolding handlingOf
   at-times e = rw e
 
-  at-plan : c ≡ setPlanCode → H ≡ handling.setHandled c requested (setPlanOf book info)
+  at-plan : c ≡ setPlanCode → H ≡ handling.setHandled c (s .requested) (setPlanOf book info)
   unfolding handlingOf
   at-plan e = rw e
 
@@ -348,32 +352,32 @@ module _ (u : Running) (requested : ℕ) (book info : List ℕ) where
       rw (ne-eqb c setTimesCode a, ne-eqb c setPlanCode b, ne-eqb c runCode d, ne-eqb c queryTimesCode e, ne-eqb c queryPlanCode f, ne-eqb c queryRunningCode g)
 
   module _ (r : readOf info .refusal ≡ refusal.none) where
-    at-run : c ≡ runCode → standingOf (planRecord (u .which) book p) ≡ ready → H ≡ carried p book
+    at-run : c ≡ runCode → standingOf named ≡ ready → H ≡ carried p book
     unfolding handlingOf runAs
-    at-run e h = rw (e, eq-eqb (readOf info .refusal) refusal.none r, eq-eqb (standingOf (planRecord (u .which) book p)) ready h)
+    at-run e h = rw (e, eq-eqb (readOf info .refusal) refusal.none r, eq-eqb (standingOf named) ready h)
 
-    at-no-run : c ≡ runCode → (standingOf (planRecord (u .which) book p) ≡ ready → ⊥) → H ≡ declined refusal.notReady planAt book
+    at-no-run : c ≡ runCode → (standingOf named ≡ ready → ⊥) → H ≡ declined refusal.notReady planAt book
     unfolding handlingOf runAs
-    at-no-run e n = rw (e, eq-eqb (readOf info .refusal) refusal.none r, ne-eqb (standingOf (planRecord (u .which) book p)) ready n)
+    at-no-run e n = rw (e, eq-eqb (readOf info .refusal) refusal.none r, ne-eqb (standingOf named) ready n)
 
-    at-query-times : c ≡ queryTimesCode → (standingOf (planRecord (u .which) book p) ≡ empty → ⊥) → H ≡ handling.reads (handling.accepted requested (reportTimesOf (planRecord (u .which) book p) p)) book
+    at-query-times : c ≡ queryTimesCode → (standingOf named ≡ empty → ⊥) → H ≡ handling.reads (handling.accepted (s .requested) (reportTimesOf named p)) book
     unfolding handlingOf queryTimesAs
-    at-query-times e n = rw (e, eq-eqb (readOf info .refusal) refusal.none r, ne-eqb (standingOf (planRecord (u .which) book p)) empty n)
+    at-query-times e n = rw (e, eq-eqb (readOf info .refusal) refusal.none r, ne-eqb (standingOf named) empty n)
 
-    at-no-times : c ≡ queryTimesCode → standingOf (planRecord (u .which) book p) ≡ empty → H ≡ declined refusal.notReady planAt book
+    at-no-times : c ≡ queryTimesCode → standingOf named ≡ empty → H ≡ declined refusal.notReady planAt book
     unfolding handlingOf queryTimesAs
-    at-no-times e h = rw (e, eq-eqb (readOf info .refusal) refusal.none r, eq-eqb (standingOf (planRecord (u .which) book p)) empty h)
+    at-no-times e h = rw (e, eq-eqb (readOf info .refusal) refusal.none r, eq-eqb (standingOf named) empty h)
 
-    at-query-plan : c ≡ queryPlanCode → standingOf (planRecord (u .which) book p) ≡ ready
-        → H ≡ handling.reads (handling.accepted requested (reportPlanOf (planRecord (u .which) book p) p reportPlanCode)) book
+    at-query-plan : c ≡ queryPlanCode → standingOf named ≡ ready
+        → H ≡ handling.reads (handling.accepted (s .requested) (reportPlanOf named p reportPlanCode)) book
     unfolding handlingOf queryPlanAs
-    at-query-plan e h = rw (e, eq-eqb (readOf info .refusal) refusal.none r, eq-eqb (standingOf (planRecord (u .which) book p)) ready h)
+    at-query-plan e h = rw (e, eq-eqb (readOf info .refusal) refusal.none r, eq-eqb (standingOf named) ready h)
 
-    at-no-plan : c ≡ queryPlanCode → (standingOf (planRecord (u .which) book p) ≡ ready → ⊥) → H ≡ declined refusal.notReady planAt book
+    at-no-plan : c ≡ queryPlanCode → (standingOf named ≡ ready → ⊥) → H ≡ declined refusal.notReady planAt book
     unfolding handlingOf queryPlanAs
-    at-no-plan e n = rw (e, eq-eqb (readOf info .refusal) refusal.none r, ne-eqb (standingOf (planRecord (u .which) book p)) ready n)
+    at-no-plan e n = rw (e, eq-eqb (readOf info .refusal) refusal.none r, ne-eqb (standingOf named) ready n)
 
-    at-query-running : c ≡ queryRunningCode → H ≡ handling.reads (handling.accepted requested (reportPlanOf (u .copy) (u .plan) reportRunningCode)) book
+    at-query-running : c ≡ queryRunningCode → H ≡ handling.reads (handling.accepted (s .requested) (reportPlanOf (s .running .copy) (s .running .plan) reportRunningCode)) book
     unfolding handlingOf queryRunningAs
     at-query-running e = rw (e, eq-eqb (readOf info .refusal) refusal.none r)
 
@@ -392,18 +396,18 @@ module _ (s : State) (seq addr : ℕ) (book info : List ℕ) (w : Call) where
   answers v e =
       record { names = v .names; parameter = v .parameter; reply = λ a. subst (λ (i : List ℕ). Wrote w (repliesOf seq (s .seq) (s .own) i)) e (v .reply a .0) }
 
-  carried-out : {q : ℕ} {l : List ℕ} → By (carried (s .running) (s .requested) book info q l) → CarriedOut s seq addr q l info w
+  carried-out : {q : ℕ} {l : List ℕ} → By (carried s book info q l) → CarriedOut s seq addr q l info w
   carried-out v = record { answers = answers v (carried-out-info (codeIn info)); book = v .book; requested = v .requested }
 
   reported : {m : message.Message} {i : List ℕ} → By (handling.reads (handling.accepted (s .requested) m) book) → infoOf m ≡ i → Reported s seq addr book i w
   reported v e = record { answers = answers v e; book = v .book; requested = v .requested }
 
-  refused-as : {n m : ℕ} {l : List ℕ} → By (declined (s .running) (s .requested) book info n m l) → n < 256 → m < 256 → l ≡ book → Refused s seq addr n m book info w
+  refused-as : {n m : ℕ} {l : List ℕ} → By (declined s book info n m l) → n < 256 → m < 256 → l ≡ book → Refused s seq addr n m book info w
   refused-as {n} {m} v hn hm e = record { answers = answers v (refused-info (codeIn info) n m hn hm); book = v .book ∙ e; requested = v .requested }
 
   module _ (u : RunningParts (s .running)) (hb : length book ≡ bookLen) (ob : Octets book) (oc : Octets (s .running .copy))
-      (v : By (handlingOf (s .running) (s .requested) book info)) where
-    by : {h : Handling} → handlingOf (s .running) (s .requested) book info ≡ h → By h
+      (v : By (handlingOf s book info)) where
+    by : {h : Handling} → handlingOf s book info ≡ h → By h
     by e = subst By e v
 
     abbrev rec : List ℕ
@@ -433,46 +437,46 @@ module _ (s : State) (seq addr : ℕ) (book info : List ℕ) (w : Call) where
         record {
           times = λ c f.
               let j = times-stored-exactly-when book info hb c in
-              let x = by (at-times (s .running) (s .requested) book info c ∙ set-carried (s .running) (s .requested) book info (setTimesOf book info) (j .accepted f)) in
+              let x = by (at-times s book info c ∙ set-carried s book info (setTimesOf book info) (j .accepted f)) in
               carried-out x;
           noTimes = λ c n.
               let j = times-stored-exactly-when book info hb c in
               let m : setTimesOf book info .answer .refusal ≡ refusal.none → ⊥ = λ e. n (j .only e) in
-              let x = by (at-times (s .running) (s .requested) book info c ∙ set-declined (s .running) (s .requested) book info (setTimesOf book info) m) in
+              let x = by (at-times s book info c ∙ set-declined s book info (setTimesOf book info) m) in
               let b = times-octets book info hb c m in
               refused-as x (b .0) (b .1) (j .kept m);
           plan = λ c f.
               let j = plan-stored-exactly-when book info hb ob c in
-              let x = by (at-plan (s .running) (s .requested) book info c ∙ set-carried (s .running) (s .requested) book info (setPlanOf book info) (j .accepted f)) in
+              let x = by (at-plan s book info c ∙ set-carried s book info (setPlanOf book info) (j .accepted f)) in
               carried-out x;
           noPlan = λ c n.
               let j = plan-stored-exactly-when book info hb ob c in
               let m : setPlanOf book info .answer .refusal ≡ refusal.none → ⊥ = λ e. n (j .only e) in
-              let x = by (at-plan (s .running) (s .requested) book info c ∙ set-declined (s .running) (s .requested) book info (setPlanOf book info) m) in
+              let x = by (at-plan s book info c ∙ set-declined s book info (setPlanOf book info) m) in
               let b = plan-octets book info hb ob c m in
               refused-as x (b .0) (b .1) (j .kept m);
-          unread = λ c n. refused-as (by (at-unread (s .running) (s .requested) book info c n)) (read-octet info) (read-field info) refl;
-          run = λ q c r k. of-plan (λ q. Ready q → CarriedOut s seq addr (planIn (bodyIn info)) book info w) k (λ h. carried-out (by (at-run (s .running) (s .requested) book info r c (stands .readyTo h))));
+          unread = λ c n. refused-as (by (at-unread s book info c n)) (read-octet info) (read-field info) refl;
+          run = λ q c r k. of-plan (λ q. Ready q → CarriedOut s seq addr (planIn (bodyIn info)) book info w) k (λ h. carried-out (by (at-run s book info r c (stands .readyTo h))));
           noRun = λ q c r k.
-              of-plan (λ q. (Ready q → ⊥) → Refused s seq addr 13 1 book info w) k (λ n. refused-as (by (at-no-run (s .running) (s .requested) book info r c (not-ready n))) (omega arith) (omega arith) refl);
+              of-plan (λ q. (Ready q → ⊥) → Refused s seq addr 13 1 book info w) k (λ n. refused-as (by (at-no-run s book info r c (not-ready n))) (omega arith) (omega arith) refl);
           queryTimes = λ q c r k.
               of-plan (λ q. HasTimes q → Reported s seq addr book (timesInfo q (planIn (bodyIn info))) w) k (λ h.
               let n = has-stands rec ro h in
-              let x = by (at-query-times (s .running) (s .requested) book info r c n) in
+              let x = by (at-query-times s book info r c n) in
               reported x (times-info rec (planIn (bodyIn info)) ro (most n) n));
           noTimesYet = λ q c r k.
-              of-plan (λ q. (HasTimes q → ⊥) → Refused s seq addr 13 1 book info w) k (λ n. refused-as (by (at-no-times (s .running) (s .requested) book info r c (no-times n))) (omega arith) (omega arith) refl);
+              of-plan (λ q. (HasTimes q → ⊥) → Refused s seq addr 13 1 book info w) k (λ n. refused-as (by (at-no-times s book info r c (no-times n))) (omega arith) (omega arith) refl);
           queryPlan = λ q c r k.
               of-plan (λ q. Ready q → Reported s seq addr book (planInfo q (planIn (bodyIn info)) 0x5FC5) w) k (λ h.
               let e = stands .readyTo h in
-              let x = by (at-query-plan (s .running) (s .requested) book info r c e) in
+              let x = by (at-query-plan s book info r c e) in
               reported x (plan-info rec (planIn (bodyIn info)) ro (most (λ z. absurd (omega arith))) reportPlanCode e (inl refl) (omega arith)));
           noPlanYet = λ q c r k.
-              of-plan (λ q. (Ready q → ⊥) → Refused s seq addr 13 1 book info w) k (λ n. refused-as (by (at-no-plan (s .running) (s .requested) book info r c (not-ready n))) (omega arith) (omega arith) refl);
+              of-plan (λ q. (Ready q → ⊥) → Refused s seq addr 13 1 book info w) k (λ n. refused-as (by (at-no-plan s book info r c (not-ready n))) (omega arith) (omega arith) refl);
           queryRunning = λ c r.
-              let x = by (at-query-running (s .running) (s .requested) book info r c) in
+              let x = by (at-query-running s book info r c) in
               reported x (plan-info (s .running .copy) (s .running .plan) oc (u .plan) reportRunningCode (u .checks) (inr refl) (omega arith));
-          unknown = λ a b c d e f. refused-as (by (at-unknown (s .running) (s .requested) book info a b c d e f)) (omega arith) (omega arith) refl;
+          unknown = λ a b c d e f. refused-as (by (at-unknown s book info a b c d e f)) (omega arith) (omega arith) refl;
         }
 
 pub handles : Handles

@@ -20,7 +20,7 @@ use Rattle.controller.specs.declared.Held.{Held}
 use Rattle.controller.specs.declared.HeldAnswer.{HeldAnswer}
 use Rattle.controller.specs.declared.HeldShown.{HeldShown}
 use Rattle.controller.specs.declared.Event.the-variants as event
-use Rattle.controller.specs.State.{State, joined, all, outputLen, freshOf, soundOf}
+use Rattle.controller.specs.State.{State, joined, keptLen, all, outputLen, freshOf, soundOf}
 use Rattle.controller.specs.Replies.{Answer, Call, CallLeaves, answerWith, octetOf, lineIdleOf}
 use Rattle.controller.specs.Seconds.{Shown, startedOf, plainStartOf, oldStartOf, StartsWith, secondOf, ShowsWith}
 
@@ -248,7 +248,7 @@ RefusedAsCame =
 abbrev pub FewerRefused : Type 0
 FewerRefused = (s : Held) (lent : List ℕ) → length lent < 256 → soundOf (joined s lent) ≡ false
 
--- The numbers that have names: "Plan p, 1 to 48, has 80 octets", "plan book is not 3,840 octets", "544 for an octet call", "FFFF is
+-- The numbers that have names: "Plan p, 1 to 48, has 80 octets", "plan book is not 3,840 octets", INFO of 256, "544 for an octet call", "FFFF is
 -- for all"
 abbrev pub NumbersAsSaid : Type 0
-NumbersAsSaid = (recordLen ≡ 80) × (plansMost ≡ 48) × (bookLen ≡ 3840) × (outputLen ≡ 544) × (all ≡ 0xFFFF)
+NumbersAsSaid = (recordLen ≡ 80) × (plansMost ≡ 48) × (bookLen ≡ 3840) × (keptLen ≡ 256) × (outputLen ≡ 544) × (all ≡ 0xFFFF)

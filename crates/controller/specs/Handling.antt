@@ -19,7 +19,7 @@ use Rattle.plan.specs.Setting.{Setting, setTimesCode, setPlanCode, setTimesOf, 
 use Rattle.plan.specs.Reporting.{reportPlanCode, reportRunningCode, reportTimesOf, reportPlanOf}
 use Rattle.controller.specs.declared.Running.{Running}
 use Rattle.controller.specs.declared.Handled.{Handled}
-use Rattle.controller.specs.State.{planRecord, readyIn}
+use Rattle.controller.specs.State.{State, planRecord, readyIn}
 
 abbrev pub carriedOutCode : ℕ
 carriedOutCode = 0x0F80
@@ -103,14 +103,16 @@ abbrev pub setHandled : ℕ → ℕ → Setting → Handling
 setHandled code requested w = record { handled = setAs code requested (w .answer); book = w .book }
 
 -- by the code; "code not handled" is refusal 10; plan 0 is the one that is kept beside the running plan
-unfoldable pub handlingOf : Running → ℕ → List ℕ → List ℕ → Handling
-handlingOf u requested book info =
+unfoldable pub handlingOf : State → List ℕ → List ℕ → Handling
+handlingOf s book info =
+    let which = s .running .which in
+    let requested = s .requested in
     let code = codeIn info in
     let p = planIn (bodyIn info) in
     pick (eqb code setTimesCode) (setHandled code requested (setTimesOf book info))
     (pick (eqb code setPlanCode) (setHandled code requested (setPlanOf book info))
-    (pick (eqb code runCode) (asks code requested book info (runAs (u .which) code requested book p))
-    (pick (eqb code queryTimesCode) (asks code requested book info (queryTimesAs (u .which) code requested book p))
-    (pick (eqb code queryPlanCode) (asks code requested book info (queryPlanAs (u .which) code requested book p))
-    (pick (eqb code queryRunningCode) (asks code requested book info (queryRunningAs requested u))
+    (pick (eqb code runCode) (asks code requested book info (runAs which code requested book p))
+    (pick (eqb code queryTimesCode) (asks code requested book info (queryTimesAs which code requested book p))
+    (pick (eqb code queryPlanCode) (asks code requested book info (queryPlanAs which code requested book p))
+    (pick (eqb code queryRunningCode) (asks code requested book info (queryRunningAs requested (s .running)))
     (reads (refusedWith code requested refusal.codeNotHandled 0) book))))))

@@ -24,7 +24,7 @@ use Rattle.controller.specs.declared.Event.the-variants as event
 use Rattle.controller.specs.declared.Told.{Told}
 use Rattle.controller.specs.declared.HeldAnswer.{HeldAnswer}
 use Rattle.controller.specs.declared.Handled.{Handled}
-use Rattle.controller.specs.State.{State, joined, all, outputLen, soundOf, withDecoder}
+use Rattle.controller.specs.State.{State, joined, keptLen, all, outputLen, soundOf, withDecoder}
 use Rattle.controller.specs.Handling.{Handling, carriedOutCode, refusedCode, handlingOf}
 
 -- The octet call
@@ -48,7 +48,7 @@ answerWith r kept = record { state = joined (r .state) kept; told = r .told }
 -- wanted those beyond stay
 pub record CallLeaves (w : Call) (lent : List ℕ) (r : HeldAnswer) (k b o : List ℕ) : Type 0 where
   pub answer : answerWith r k ≡ w .answer
-  pub beyond : drop infoMost k ≡ drop infoMost lent
+  pub beyond : drop keptLen k ≡ drop keptLen lent
   pub book : b ≡ w .book
   pub out : o ≡ w .out
 
@@ -149,7 +149,7 @@ unfoldable pub messageOf : State → ℕ → ℕ → List ℕ → List ℕ → R
 messageOf s seq addr info book =
     pick (forUs (s .own) addr)
     (pick (isAnswer (codeIn info)) (leaves book (unchanged s refusal.none event.Nothing (acks (s .own) seq addr)))
-    (handledOf s seq addr (handlingOf (s .running) (s .requested) book info)))
+    (handledOf s seq addr (handlingOf s book info)))
     (leaves book (unchanged s refusal.none event.Nothing []))
 
 -- "A sound ACK or NAK for us is handed to the host as an event and changes nothing; one to FFFF is dropped."

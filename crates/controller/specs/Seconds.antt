@@ -7,7 +7,6 @@ use lib.Dec.{eqb, ltb}
 use lib.ListN.{length, take}
 use Rattle.octets.specs.Choice.{pick}
 use Rattle.octets.specs.Refusal as refusal
-use Rattle.frame.specs.Frame.{infoMost}
 use Rattle.record.specs.Record.{bookLen, cycleOf}
 use Rattle.plan.specs.declared.Which.{Which}
 use Rattle.plan.specs.declared.Which.the-variants.{New, Old}
@@ -20,7 +19,7 @@ use Rattle.controller.specs.declared.Told.{Told}
 use Rattle.controller.specs.declared.HeldAnswer.{HeldAnswer}
 use Rattle.controller.specs.declared.HeldShown.{HeldShown}
 use Rattle.controller.specs.Replies.{Answer, answerWith}
-use Rattle.controller.specs.State.{State, joined, all, freshOf, soundOf, startedAt, planRecord, readyIn, withRunning}
+use Rattle.controller.specs.State.{State, joined, keptLen, all, freshOf, soundOf, startedAt, planRecord, readyIn, withRunning}
 
 -- The fresh start, with the new plan 0 or the old: "fresh start with address FFFF": "a fresh state but for own address FFFF, so unsound"
 
@@ -40,7 +39,7 @@ oldStartOf own info = startedOf Old own info
 
 -- a start is lent no octets: it answers so with whatever octets are kept
 abbrev pub StartsWith : (List ℕ → Answer) → HeldAnswer → Type 0
-StartsWith w r = (kept : List ℕ) → answerWith r kept ≡ w (take infoMost kept)
+StartsWith w r = (kept : List ℕ) → answerWith r kept ≡ w (take keptLen kept)
 
 -- The second call
 
@@ -83,4 +82,4 @@ abbrev pub shownWith : HeldShown → List ℕ → Shown
 shownWith r kept = record { state = joined (r .state) kept; told = r .told; plan = r .plan; row = r .row }
 
 abbrev pub ShowsWith : Held → List ℕ → HeldShown → Type 0
-ShowsWith s book r = (kept : List ℕ) → infoMost ≤ length kept → shownWith r kept ≡ secondOf (joined s kept) book
+ShowsWith s book r = (kept : List ℕ) → keptLen ≤ length kept → shownWith r kept ≡ secondOf (joined s kept) book

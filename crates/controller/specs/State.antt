@@ -23,8 +23,11 @@ pub record State : Type 0 where
   pub decoder : Decoder
   pub running : Running
 
--- In the code these are a struct, and the octets of INFO, which are lent to the calls: the first 256 of those lent. Those beyond are no part
--- of the state.
+-- In the code these are a struct, and octets that are lent to the calls: the decoder's of INFO, the first of those lent. So many are wanted;
+-- those beyond are no part of the state.
+abbrev pub keptLen : ℕ
+keptLen = infoMost
+
 abbrev pub joined : Held → List ℕ → State
 joined s kept = record { own = s .own; seq = s .seq; requested = s .requested; decoder = joinedDecoder (s .head) kept; running = s .running }
 

@@ -1,6 +1,7 @@
 // 01, "Replies" and "Lamps and seconds": the controller's state, and what its calls answer. There is nothing to run: what each
 // call makes of state, book and output is defined in specs/, and demands 1 to 3 are proved of it in proofs/. The functions that
 // are proved to do so are the crate `controller_calls`.
+use frame::INFO_MOST;
 use frame::decoder::Head;
 use lamps::Row;
 use message::Message;
@@ -12,6 +13,10 @@ pub const ALL: u16 = 0xFFFF;
 
 // The output that an octet call is lent, at least.
 pub const OUTPUT_LEN: usize = 544;
+
+// The octets that a host lends for the state, at least: the decoder's of INFO. 02, E4 and E6, will each keep those of another INFO behind
+// them.
+pub const KEPT_LEN: usize = INFO_MOST;
 
 // What the stepper owns: "The running plan is a copy"; 02, E1: "The state keeps which one, and plan 0 means that one throughout".
 pub struct Running {

@@ -39,7 +39,7 @@ use Rattle.plan.proofs.Reportable.{report-times-writable, report-plan-writable,
 use Rattle.plan.proofs.Cases.{built-in-stands}
 use Rattle.controller.specs.declared.Running.{Running}
 use Rattle.controller.specs.declared.Handled.{Handled}
-use Rattle.controller.specs.State.{runningSound, recordWith, planRecord, startedAt}
+use Rattle.controller.specs.State.{State, runningSound, recordWith, planRecord, startedAt}
 use Rattle.controller.specs.Handling.{runCode, queryTimesCode, queryPlanCode, queryRunningCode, carriedOutReply, accepted, refusedWith, setAs, runAs, queryTimesAs, queryPlanAs, queryRunningAs, handlingOf}
 use Rattle.controller.specs.Seconds.{pickedOf}
 use Rattle.controller.proofs.Laws.{picked-ready, picked-stays}
@@ -229,61 +229,50 @@ asks-running (inr (inr (inl e))) f g h = absurd (h e)
 asks-running (inr (inr (inr e))) f g h = e
 
 -- by the code
-module _ (u : Running) (requested : ℕ) (book info : List ℕ) where
-  leaves : Leaves info → book ≡ handlingOf u requested book info .book
-  unfolding handlingOf
-  leaves (inl e) = rw e
-  leaves (inr (inl e)) = rw e
-  leaves (inr (inr (inl e))) = rw e
-  leaves (inr (inr (inr e))) = rw e
-
-  module _ {m : Read} (em : m ≡ readOf info) {code : ℕ} (ec : code ≡ codeIn info) where
-    unread : Leaves info → (m .refusal ≡ refusal.none → ⊥) → refusedWith code requested (m .refusal) (m .field) ≡ handlingOf u requested book info .handled
-    unfolding handlingOf
-    unread (inl e) n = rw (e, ← em, ne-eqb (m .refusal) refusal.none n, ec ∙ e)
-    unread (inr (inl e)) n = rw (e, ← em, ne-eqb (m .refusal) refusal.none n, ec ∙ e)
-    unread (inr (inr (inl e))) n = rw (e, ← em, ne-eqb (m .refusal) refusal.none n, ec ∙ e)
-    unread (inr (inr (inr e))) n = rw (e, ← em, ne-eqb (m .refusal) refusal.none n, ec ∙ e)
-
-module _ (u : Running) (requested : ℕ) (book info : List ℕ) {code : ℕ} (ec : code ≡ codeIn info) {h : Handled} where
-  pub handles-times : codeIn info ≡ setTimesCode → {a : Answered} {b : List ℕ} → setting.SetLeaves (setTimesOf book info) a b → h ≡ setAs code requested a
-      → HandlingLeaves (handlingOf u requested book info) h b
+module _ (s : State) (book info : List ℕ) {code : ℕ} (ec : code ≡ codeIn info) {h : Handled} where
+  pub handles-times : codeIn info ≡ setTimesCode → {a : Answered} {b : List ℕ} → setting.SetLeaves (setTimesOf book info) a b → h ≡ setAs code (s .requested) a
+      → HandlingLeaves (handlingOf s book info) h b
   unfolding handlingOf
   handles-times e d eh = rw e (record { handled = eh ∙ rw (ec ∙ e, d .answer); book = d .book })
 
-  pub handles-plan : codeIn info ≡ setPlanCode → {a : Answered} {b : List ℕ} → setting.SetLeaves (setPlanOf book info) a b → h ≡ setAs code requested a
-      → HandlingLeaves (handlingOf u requested book info) h b
+  pub handles-plan : codeIn info ≡ setPlanCode → {a : Answered} {b : List ℕ} → setting.SetLeaves (setPlanOf book info) a b → h ≡ setAs code (s .requested) a
+      → HandlingLeaves (handlingOf s book info) h b
   unfolding handlingOf
   handles-plan e d eh = rw e (record { handled = eh ∙ rw (ec ∙ e, d .answer); book = d .book })
 
-  pub handles-asked : {second : ℕ} → Asks code second → h ≡ handlingOf u requested book info .handled → HandlingLeaves (handlingOf u requested book info) h book
-  handles-asked a eh = record { handled = eh; book = leaves u requested book info (asked-is info ec a) }
-
   module _ {m : Read} (em : m ≡ readOf info) where
-    pub asked-unread : {second : ℕ} → Asks code second → (m .refusal ≡ refusal.none → ⊥) → h ≡ refusedWith code requested (m .refusal) (m .field)
-        → h ≡ handlingOf u requested book info .handled
-    asked-unread a n eh = eh ∙ unread u requested book info em ec (asked-is info ec a) n
-
-    module _ (z : m .refusal ≡ refusal.none) {p : ℕ} (ep : p ≡ planIn (bodyIn info)) where
-      pub asked-run : codeIn info ≡ runCode → h ≡ runAs (u .which) code requested book p → h ≡ handlingOf u requested book info .handled
-      unfolding handlingOf
-      asked-run e eh = eh ∙ rw (e, ← em, eq-eqb (m .refusal) refusal.none z, ec ∙ e, ep)
-
-      pub asked-times : codeIn info ≡ queryTimesCode → h ≡ queryTimesAs (u .which) code requested book p → h ≡ handlingOf u requested book info .handled
-      unfolding handlingOf
-      asked-times e eh = eh ∙ rw (e, ← em, eq-eqb (m .refusal) refusal.none z, ec ∙ e, ep)
-
-      pub asked-plan : codeIn info ≡ queryPlanCode → h ≡ queryPlanAs (u .which) code requested book p → h ≡ handlingOf u requested book info .handled
-      unfolding handlingOf
-      asked-plan e eh = eh ∙ rw (e, ← em, eq-eqb (m .refusal) refusal.none z, ec ∙ e, ep)
-
-    pub asked-running : m .refusal ≡ refusal.none → codeIn info ≡ queryRunningCode → h ≡ queryRunningAs requested u → h ≡ handlingOf u requested book info .handled
+    pub asked-unread : {second : ℕ} → Asks code second → (m .refusal ≡ refusal.none → ⊥) → h ≡ refusedWith code (s .requested) (m .refusal) (m .field)
+        → HandlingLeaves (handlingOf s book info) h book
     unfolding handlingOf
-    asked-running z e eh = eh ∙ rw (e, ← em, eq-eqb (m .refusal) refusal.none z)
+    asked-unread a n eh = by (asked-is info ec a)
+      where
+        by : Leaves info → HandlingLeaves (handlingOf s book info) h book
+        by (inl e) = rw (e, ← em, ne-eqb (m .refusal) refusal.none n) (record { handled = eh ∙ rw (ec ∙ e); book = refl })
+        by (inr (inl e)) = rw (e, ← em, ne-eqb (m .refusal) refusal.none n) (record { handled = eh ∙ rw (ec ∙ e); book = refl })
+        by (inr (inr (inl e))) = rw (e, ← em, ne-eqb (m .refusal) refusal.none n) (record { handled = eh ∙ rw (ec ∙ e); book = refl })
+        by (inr (inr (inr e))) = rw (e, ← em, ne-eqb (m .refusal) refusal.none n) (record { handled = eh ∙ rw (ec ∙ e); book = refl })
+
+    module _ (z : m .refusal ≡ refusal.none) where
+      module _ {p : ℕ} (ep : p ≡ planIn (bodyIn info)) where
+        pub asked-run : codeIn info ≡ runCode → h ≡ runAs (s .running .which) code (s .requested) book p → HandlingLeaves (handlingOf s book info) h book
+        unfolding handlingOf
+        asked-run e eh = rw (e, ← em, eq-eqb (m .refusal) refusal.none z) (record { handled = eh ∙ rw (ec ∙ e, ep); book = refl })
+
+        pub asked-times : codeIn info ≡ queryTimesCode → h ≡ queryTimesAs (s .running .which) code (s .requested) book p → HandlingLeaves (handlingOf s book info) h book
+        unfolding handlingOf
+        asked-times e eh = rw (e, ← em, eq-eqb (m .refusal) refusal.none z) (record { handled = eh ∙ rw (ec ∙ e, ep); book = refl })
+
+        pub asked-plan : codeIn info ≡ queryPlanCode → h ≡ queryPlanAs (s .running .which) code (s .requested) book p → HandlingLeaves (handlingOf s book info) h book
+        unfolding handlingOf
+        asked-plan e eh = rw (e, ← em, eq-eqb (m .refusal) refusal.none z) (record { handled = eh ∙ rw (ec ∙ e, ep); book = refl })
+
+      pub asked-running : codeIn info ≡ queryRunningCode → h ≡ queryRunningAs (s .requested) (s .running) → HandlingLeaves (handlingOf s book info) h book
+      unfolding handlingOf
+      asked-running e eh = rw (e, ← em, eq-eqb (m .refusal) refusal.none z) (record { handled = eh; book = refl })
 
   pub handles-other : (codeIn info ≡ setTimesCode → ⊥) → (codeIn info ≡ setPlanCode → ⊥) → (codeIn info ≡ runCode → ⊥) → (codeIn info ≡ queryTimesCode → ⊥)
-      → (codeIn info ≡ queryPlanCode → ⊥) → (codeIn info ≡ queryRunningCode → ⊥) → h ≡ refusedWith code requested refusal.codeNotHandled 0
-      → HandlingLeaves (handlingOf u requested book info) h book
+      → (codeIn info ≡ queryPlanCode → ⊥) → (codeIn info ≡ queryRunningCode → ⊥) → h ≡ refusedWith code (s .requested) refusal.codeNotHandled 0
+      → HandlingLeaves (handlingOf s book info) h book
   unfolding handlingOf
   handles-other n1 n2 n3 n4 n5 n6 eh =
       rw (ne-eqb (codeIn info) setTimesCode n1, ne-eqb (codeIn info) setPlanCode n2, ne-eqb (codeIn info) runCode n3, ne-eqb (codeIn info) queryTimesCode n4, ne-eqb (codeIn info) queryPlanCode n5, ne-eqb (codeIn info) queryRunningCode n6)

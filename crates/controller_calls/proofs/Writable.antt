@@ -22,8 +22,7 @@ use Rattle.message.proofs.Ranges.{placed-at}
 use Rattle.message.proofs.WrittenSo.{in-writable}
 use Rattle.record.specs.Record.{bookLen, plansMost, ready}
 use Rattle.checks.specs.Standing.{standingOf}
-use Rattle.controller.specs.declared.Running.{Running}
-use Rattle.controller.specs.State.{outputLen}
+use Rattle.controller.specs.State.{State, outputLen}
 use Rattle.controller.specs.Handling.{carriedOutReply, refusedReply, handlingOf}
 use Rattle.controller.specs.Replies.{sent, repliesOf, CanFind}
 use Rattle.controller.proofs.Replying.{info-fits, by-reply, sent-most}
@@ -75,11 +74,11 @@ module _ (code : ℕ) (h : code < 65536) where
 
 -- Every reply
 
-module _ (u : Running) (requested : ℕ) (book info : List ℕ) (r : standingOf (u .copy) ≡ ready) (hp : u .plan ≤ plansMost) (hb : length book ≡ bookLen) where
-  pub reply-writable : codeIn info < 65536 → handlingOf u requested book info .handled .refusal < 256 → handlingOf u requested book info .handled .parameter < 256
-      → writable (handlingOf u requested book info .handled .reply) ≡ true
+module _ (s : State) (book info : List ℕ) (r : standingOf (s .running .copy) ≡ ready) (hp : s .running .plan ≤ plansMost) (hb : length book ≡ bookLen) where
+  pub reply-writable : codeIn info < 65536 → handlingOf s book info .handled .refusal < 256 → handlingOf s book info .handled .parameter < 256
+      → writable (handlingOf s book info .handled .reply) ≡ true
   reply-writable hc =
-      by-reply u requested book info r hp hb (λ h. h .refusal < 256 → h .parameter < 256 → writable (h .reply) ≡ true)
+      by-reply s book info r hp hb (λ h. h .refusal < 256 → h .parameter < 256 → writable (h .reply) ≡ true)
       (λ _ _ _. carried-out-writable (codeIn info) hc) (λ n m. refused-writable (codeIn info) hc n m) (λ m w _ _. w)
 
 pub reply-frames-fit : (seq ours own : ℕ) (m : message.Message) → writable m ≡ true → length (sent (repliesOf seq ours own (infoOf m))) ≤ outputLen

@@ -6,12 +6,18 @@ use mathlib.Core.Logic.{_⊎_}
 use mathlib.Core.List.{List}
 use Rattle.message.specs.Writer.{writable}
 use Rattle.controller.specs.declared.Handled.{Handled}
-use Rattle.controller.specs.Handling.{Handling}
+use Rattle.controller.specs.declared.Held.{Held}
+use Rattle.controller.specs.State.{joined}
+use Rattle.controller.specs.Handling.{Handling, handlingOf}
 
 -- the message was handled as it should, and b is left in the book
 pub record HandlingLeaves (w : Handling) (h : Handled) (b : List ℕ) : Type 0 where
   pub handled : h ≡ w .handled
   pub book : b ≡ w .book
+
+-- the message in INFO was, whatever octets are kept: its own have been handed on
+abbrev pub HandledWith : Held → List ℕ → List ℕ → Handled → List ℕ → Type 0
+HandledWith s book info h b = (kept : List ℕ) → HandlingLeaves (handlingOf (joined s kept) book info) h b
 
 -- its reply can be written, refusal and parameter being octets
 abbrev pub Sendable : Handled → Type 0

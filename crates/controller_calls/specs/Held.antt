@@ -3,14 +3,13 @@ use Prim.Native.Nat.{ℕ}
 use mathlib.Core.Bool.{Bool, not}
 use lib.Dec.{eqb, leb}
 use Rattle.octets.specs.Choice.{both}
-use Rattle.frame.specs.Frame.{infoMost}
 use Rattle.frame.specs.Decoder.{possibleOf}
 use Rattle.record.specs.Record.{plansMost}
 use Rattle.lamps.specs.Rows.{noRow}
 use Rattle.controller.specs.declared.Held.{Held}
 use Rattle.controller.specs.declared.HeldAnswer.{HeldAnswer}
 use Rattle.controller.specs.declared.HeldShown.{HeldShown}
-use Rattle.controller.specs.State.{all, runningSound}
+use Rattle.controller.specs.State.{keptLen, all, runningSound}
 use Rattle.controller.specs.Seconds.{tells}
 
 -- is the state sound, with so many octets lent for INFO?
@@ -18,7 +17,7 @@ unfoldable pub heldSound : Held → ℕ → Bool
 heldSound s lent =
     both (not (eqb (s .own) all))
     (both (leb (s .requested) plansMost)
-    (both (leb infoMost lent)
+    (both (leb keptLen lent)
     (both (possibleOf (s .head))
     (runningSound (s .running)))))
 

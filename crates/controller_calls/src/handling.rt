@@ -5,9 +5,10 @@ ghost use lib.ListN.{length};
 ghost use Rattle.octets.specs.Part.{codeLen};
 ghost use Rattle.message.specs.Reader.{codeIn};
 ghost use Rattle.record.specs.Record.{plansMost, bookLen};
-ghost use Rattle.controller.specs.Handling.{carriedOutReply, refusedReply, accepted, refusedWith, setAs, runAs, queryTimesAs, queryPlanAs, queryRunningAs, handlingOf};
-ghost use Rattle.controller_calls.specs.Handling.{HandlingLeaves, Asks};
+ghost use Rattle.controller.specs.Handling.{carriedOutReply, refusedReply, accepted, refusedWith, setAs, runAs, queryTimesAs, queryPlanAs, queryRunningAs};
+ghost use Rattle.controller_calls.specs.Handling.{HandledWith, Asks};
 use controller::Handled;
+use controller::Held;
 use controller::Running;
 use message::FIELDS_MOST;
 use message::Message;
@@ -35,10 +36,11 @@ const QUERY_PLAN: u8 = (message::QUERY_PLAN % 256) as u8;
 const QUERY_RUNNING: u8 = (message::QUERY_RUNNING % 256) as u8;
 
 // The message that INFO holds, carried out.
-pub(crate) fn carry_out(u: Running, requested: u8, book: &mut [u8], info: &[u8]) -> Handled
+pub(crate) fn carry_out(s: Held, book: &mut [u8], info: &[u8]) -> Handled
     requires { ⌜ (length (now book) ≡ bookLen) × (codeLen ≤ length (now info)) ⌝ }
-    ensures { λ r. ⌜ HandlingLeaves (handlingOf u requested (now (book .entry)) (now (info .entry))) r (now (book .exit)) ⌝ }
+    ensures { λ r. ⌜ HandledWith s (now (book .entry)) (now (info .entry)) r (now (book .exit)) ⌝ }
 {
+    let requested = s.requested;
     let code = octets::word(info[0], info[1]);
     if info[0] != CODE_HIGH {
         return refused(code, requested, refusal::CODE_NOT_HANDLED, 0);
@@ -47,29 +49,24 @@ pub(crate) fn carry_out(u: Running, requested: u8, book: &mut [u8], info: &[u8])
     match second {
         SET_TIMES => set(code, requested, setting::set_times(book, info)),
         SET_PLAN => set(code, requested, setting::set_plan(book, info)),
-        RUN | QUERY_TIMES | QUERY_PLAN | QUERY_RUNNING => asked(
-            u,
-            code,
-            second,
-            requested,
-            book,
-            info,
-        ),
+        RUN | QUERY_TIMES | QUERY_PLAN | QUERY_RUNNING => asked(s, code, second, book, info),
         _ => refused(code, requested, refusal::CODE_NOT_HANDLED, 0),
     }
 }
 
 // A message that leaves the book, of this code with this second octet: read, and then by what was read.
-fn asked(u: Running, code: u16, second: u8, requested: u8, book: &[u8], info: &[u8]) -> Handled
+fn asked(s: Held, code: u16, second: u8, book: &[u8], info: &[u8]) -> Handled
     requires { ⌜ (length (now book) ≡ bookLen) × (code ≡ codeIn (now info)) × Asks code second ⌝ }
-    ensures { λ r. ⌜ r ≡ handlingOf u requested (now (book .entry)) (now (info .entry)) .handled ⌝ }
+    ensures { λ r. ⌜ HandledWith s (now (book .entry)) (now (info .entry)) r (now (book .entry)) ⌝ }
 {
+    let requested = s.requested;
     let r = reader::read(info);
     if r.refusal != refusal::NONE {
         return refused(code, requested, r.refusal, r.field);
     }
     let values = r.message.values;
     let plan = octets::low(values[message::PLAN_AT]);
+    let u = s.running;
     let which = u.which;
     match second {
         RUN => run(which, code, requested, book, plan),

@@ -15,11 +15,11 @@ use controller::Event;
 use controller::Held;
 use controller::HeldAnswer;
 use controller::HeldShown;
+use controller::KEPT_LEN;
 use controller::OUTPUT_LEN;
 use controller::Told;
-use frame::INFO_MOST;
 use frame_calls::decoder;
-use lamps::Row;
+use lamps::NO_ROW;
 use octets::refusal;
 use plan::Which;
 use plan_calls::book;
@@ -98,7 +98,7 @@ pub fn line_idle(s: Held, kept: &[u8]) -> HeldAnswer
 pub fn second(s: Held, book: &[u8]) -> HeldShown
     ensures { λ r. ⌜ ShowsWith s (now (book .entry)) r ⌝ }
 {
-    if !soundness::stands(s, INFO_MOST) {
+    if !soundness::stands(s, KEPT_LEN) {
         return dark(s, refusal::STATE_UNSOUND);
     }
     if book.len() != BOOK_LEN {
@@ -144,11 +144,6 @@ fn dark(s: Held, n: u8) -> HeldShown
         state: s,
         told: tells(n),
         plan: 0,
-        row: Row {
-            step: 0,
-            left: 0,
-            steady: 0,
-            flashing: 0,
-        },
+        row: NO_ROW,
     }
 }

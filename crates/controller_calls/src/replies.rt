@@ -170,8 +170,7 @@ fn message_taken(
         let count = ack(s.own, seq, addr, out);
         return unchanged(s, refusal::NONE, Event::Nothing, count);
     }
-    let u = s.running;
-    let h = handling::carry_out(u, s.requested, book, info);
+    let h = handling::carry_out(s, book, info);
     replied(s, seq, addr, h, out)
 }
 

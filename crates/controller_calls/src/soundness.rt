@@ -5,13 +5,13 @@ ghost use Rattle.controller.specs.State.{runningSound};
 ghost use Rattle.controller_calls.specs.Held.{heldSound};
 use controller::ALL;
 use controller::Held;
+use controller::KEPT_LEN;
 use controller::Running;
-use frame::INFO_MOST;
 use frame_calls::decoder;
 use plan_calls::book;
 use record::PLANS_MOST;
 
-// So many octets are lent for INFO; none of them is read.
+// So many octets are lent; none of them is read.
 pub(crate) fn stands(s: Held, lent: usize) -> bool
     ensures { λ r. ⌜ r ≡ heldSound s lent ⌝ }
 {
@@ -21,7 +21,7 @@ pub(crate) fn stands(s: Held, lent: usize) -> bool
     if PLANS_MOST < s.requested {
         return false;
     }
-    if lent < INFO_MOST {
+    if lent < KEPT_LEN {
         return false;
     }
     let h = s.head;

@@ -3,8 +3,8 @@
 // or the old. Other numbers make the same calls from a second place, so that in the compiled program they are functions of their own,
 // and can be counted.
 use controller::Held;
+use controller::KEPT_LEN;
 use controller::OUTPUT_LEN;
-use frame::INFO_MOST;
 use libc::STDIN_FILENO;
 use libc::STDOUT_FILENO;
 use record::BOOK_LEN;
@@ -14,7 +14,7 @@ const OWN: u16 = 0x0001;
 fn main() {
     let mut events = io::large_buffer();
     let n = io::read_full(STDIN_FILENO, &mut events);
-    let mut kept = [0u8; INFO_MOST];
+    let mut kept = [0u8; KEPT_LEN];
     let mut book = [0u8; BOOK_LEN];
     let mut out = [0u8; OUTPUT_LEN];
     let f = controller_calls::fresh(OWN);

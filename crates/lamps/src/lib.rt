@@ -8,3 +8,11 @@ pub struct Row {
     pub steady: u64,
     pub flashing: u64,
 }
+
+// Where there is no row: step 0, which no row has, and all lamps dark.
+pub const NO_ROW: Row = Row {
+    step: 0,
+    left: 0,
+    steady: 0,
+    flashing: 0,
+};

@@ -4,6 +4,7 @@ ghost use Prim.Native.Nat.{_-_, _≤_, _<_};
 ghost use lib.ListN.{length, getD};
 ghost use Rattle.record.specs.Record.{kOf, readyEnd};
 ghost use Rattle.lamps.specs.Rows.{greenLess, tableOf, phaseTable, tableSum, rowOf, phaseRows, noRow, rowAt};
+use lamps::NO_ROW;
 use lamps::Row;
 use record::ALL_RED;
 use record::GREEN_LEN;
@@ -105,14 +106,6 @@ fn row_of(order: u8, step: u16, left: u16) -> Row
         flashing: lamps.flashing,
     }
 }
-
-// Where there is no row: step 0, which no row has, and all lamps dark.
-const NO_ROW: Row = Row {
-    step: 0,
-    left: 0,
-    steady: 0,
-    flashing: 0,
-};
 
 // What a phase with these seconds shows, so many of them on: the step that they fall into.
 fn row_in(rec: &[u8], i: u8, table: [u16; STEPS], on: u16) -> Row

@@ -10,8 +10,8 @@ ghost use Rattle.octets.specs.Put.{Stored};
 ghost use Rattle.controller.specs.State.{joined};
 ghost use Rattle.printout.specs.Run.{lineMade};
 ghost use Rattle.listing.specs.Room.{Room, half};
+use controller::KEPT_LEN;
 use controller::OUTPUT_LEN;
-use frame::INFO_MOST;
 use libc::STDERR_FILENO;
 use libc::STDIN_FILENO;
 use libc::STDOUT_FILENO;
@@ -73,7 +73,7 @@ fn words_given() -> usize {
 }
 
 fn list(which: Which) {
-    let mut kept = [0u8; INFO_MOST];
+    let mut kept = [0u8; KEPT_LEN];
     let mut book = [0u8; BOOK_LEN];
     let mut out = [0u8; OUTPUT_LEN];
     let mut text = [0u8; TEXT_LEN];

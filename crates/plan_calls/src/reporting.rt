@@ -10,7 +10,7 @@ use message::Message;
 use record::RECORD_LEN;
 
 // The most octets of a report, and room to spare: the code, the fields up to the count, and a record.
-const INFO_MOST: usize = octets::CODE_LEN + message::PLAN_COUNT as usize + RECORD_LEN;
+const REPORT_MOST: usize = octets::CODE_LEN + message::PLAN_COUNT as usize + RECORD_LEN;
 
 // The report 5F C4 of a record's times; no message of octets that read as empty.
 pub fn report_times(rec: &[u8], plan: u8) -> Message
@@ -64,7 +64,7 @@ fn reported(front: &[u8], rest: &[u8]) -> Message
     requires { ⌜ length (now front) + length (now rest) ≤ reportMost ⌝ }
     ensures { λ r. ⌜ r ≡ readOf (now (front .entry) ++ now (rest .entry)) .message ⌝ }
 {
-    let mut info = [0u8; INFO_MOST];
+    let mut info = [0u8; REPORT_MOST];
     let p = octets::put(front, &mut info, 0);
     let n = octets::put(rest, &mut info, p);
     let r = message_calls::reader::read(&info[..n]);

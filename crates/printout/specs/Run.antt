@@ -7,13 +7,12 @@ use lib.Dec.{eqb}
 use lib.ListN.{length, getD, take, drop, replicate}
 use Rattle.octets.specs.Choice.{pick, both}
 use Rattle.octets.specs.Put.{Put}
-use Rattle.frame.specs.Frame.{infoMost}
 use Rattle.frame.specs.Decoder.{freshHead}
 use Rattle.record.specs.Record.{emptyBook}
 use Rattle.plan.specs.declared.Which.{Which}
 use Rattle.plan.specs.declared.Which.the-variants.{New, Old}
 use Rattle.plan.specs.BuiltIn.{builtIn}
-use Rattle.controller.specs.State.{State, joined, outputLen, startedAt, freshOf}
+use Rattle.controller.specs.State.{State, joined, keptLen, outputLen, startedAt, freshOf}
 use Rattle.controller.specs.Replies.{octetOf}
 use Rattle.controller.specs.Seconds.{secondOf}
 use Rattle.line.specs.declared.LineFound.{LineFound}
@@ -73,7 +72,7 @@ pub record Said (w : Saying) (kept : List ℕ) (used : ℕ) (t : List ℕ) (r : 
 -- the octets lent for INFO are k now, those beyond as they came
 pub record Listed (m : Making) (lent : List ℕ) (used : ℕ) (t : List ℕ) (r : Run) (k b o t′ : List ℕ) : Type 0 where
   pub said : Said (m .said) k used t r t′
-  pub beyond : drop infoMost k ≡ drop infoMost lent
+  pub beyond : drop keptLen k ≡ drop keptLen lent
   pub book : b ≡ m .book
   pub out : o ≡ m .out
 
@@ -118,4 +117,4 @@ listingFrom s n book out (f ∷ fs) =
 
 -- "starts fresh at address 0001 with an empty book"; the octets that are lent for INFO are 0 at first
 unfoldable pub listingOf : Which → List ℕ → List ℕ
-listingOf which input = header ++ listingFrom (freshOf which own (replicate infoMost 0)) 0 emptyBook (replicate outputLen 0) (foundIn firstLine input)
+listingOf which input = header ++ listingFrom (freshOf which own (replicate keptLen 0)) 0 emptyBook (replicate outputLen 0) (foundIn firstLine input)

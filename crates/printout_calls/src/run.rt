@@ -7,9 +7,9 @@ use controller::Event;
 use controller::Held;
 use controller::HeldAnswer;
 use controller::HeldShown;
+use controller::KEPT_LEN;
 use controller::Told;
-use frame::INFO_MOST;
-use lamps::Row;
+use lamps::NO_ROW;
 use line::LineFound;
 use octets::refusal;
 use plan::Which;
@@ -115,7 +115,7 @@ fn on_second(run: Run, kept: &[u8], book: &[u8], text: &mut [u8]) -> Run
 fn shown(s: Held, kept: &[u8], book: &[u8]) -> HeldShown
     ensures { λ r. ⌜ shownWith r (now (kept .entry)) ≡ secondOf (joined s (now (kept .entry))) (now (book .entry)) ⌝ }
 {
-    if kept.len() < INFO_MOST {
+    if kept.len() < KEPT_LEN {
         return HeldShown {
             state: s,
             told: Told {
@@ -125,12 +125,7 @@ fn shown(s: Held, kept: &[u8], book: &[u8]) -> HeldShown
                 count: 0,
             },
             plan: 0,
-            row: Row {
-                step: 0,
-                left: 0,
-                steady: 0,
-                flashing: 0,
-            },
+            row: NO_ROW,
         };
     }
     controller_calls::second(s, book)

@@ -9,16 +9,17 @@ use Rattle.message.proofs.Numbers.{field-numbers}
 use Rattle.record.specs.Record.{plansMost}
 use Rattle.plan.specs.Setting.{planIn}
 use Rattle.plan_calls.proofs.Read.{plan-asked}
+use Rattle.controller.specs.State.{joined}
 use Rattle.controller_calls.proofs.Laws.{asked-unread, asked-run, asked-times, asked-plan, asked-running, asks-running}
 use Rattle.controller_calls.proofs.handling.asked.Statement.{statement}
 use Rattle.controller_calls.proofs.handling.asked.Tie as tie
 
 returns : tie.Need-returns
-returns c =
+returns c kept =
     let r = c .before .before .before in
     let d = r .before .before .before in
     let a = d .args in
-    asked-unread (a .u) (a .requested) (a .book .now) (a .info .now) (d .pre .1) (r .read .ensures) (d .pre .2) (c .before .if1 .taken) (c .refused .ensures)
+    asked-unread (joined (a .s) kept) (a .book .now) (a .info .now) (d .pre .1) (r .read .ensures) (d .pre .2) (c .before .if1 .taken) (c .refused .ensures)
 
 -- the code, by its second octet, and the plan that was read
 coded : (c : tie.After-low) {j : ℕ} → (let a = c .before .before .before .before .before .before .before .args in a .second ≡ j → codeIn (a .info .now) ≡ 0x5F00 + j)
@@ -32,48 +33,48 @@ planned c e one =
     plan-asked (r .before .before .before .args .info .now) (r .read .ensures) (i .if1 .left) e one (c .low .ensures)
 
 returns-2 : tie.Need-returns-2
-returns-2 c =
+returns-2 c kept =
     let m = c .before in
-    let l = m .before in
+    let l = m .before .before in
     let i = l .before .before in
     let r = i .before .before in
     let d = r .before .before .before in
     let a = d .args in
     let e = coded l (m .match .keys1) in
-    asked-run (a .u) (a .requested) (a .book .now) (a .info .now) (d .pre .1) (r .read .ensures) (i .if1 .left) (planned l e (field-numbers .run) .0) e (c .run .ensures)
+    asked-run (joined (a .s) kept) (a .book .now) (a .info .now) (d .pre .1) (r .read .ensures) (i .if1 .left) (planned l e (field-numbers .run) .0) e (c .run .ensures)
 
 returns-3 : tie.Need-returns-3
-returns-3 c =
+returns-3 c kept =
     let m = c .before in
-    let l = m .before in
+    let l = m .before .before in
     let i = l .before .before in
     let r = i .before .before in
     let d = r .before .before .before in
     let a = d .args in
     let e = coded l (m .match .keys2) in
-    asked-times (a .u) (a .requested) (a .book .now) (a .info .now) (d .pre .1) (r .read .ensures) (i .if1 .left) (planned l e (field-numbers .queryTimes) .0) e (c .query-times .ensures)
+    asked-times (joined (a .s) kept) (a .book .now) (a .info .now) (d .pre .1) (r .read .ensures) (i .if1 .left) (planned l e (field-numbers .queryTimes) .0) e (c .query-times .ensures)
 
 returns-4 : tie.Need-returns-4
-returns-4 c =
+returns-4 c kept =
     let m = c .before in
-    let l = m .before in
+    let l = m .before .before in
     let i = l .before .before in
     let r = i .before .before in
     let d = r .before .before .before in
     let a = d .args in
     let e = coded l (m .match .keys3) in
-    asked-plan (a .u) (a .requested) (a .book .now) (a .info .now) (d .pre .1) (r .read .ensures) (i .if1 .left) (planned l e (field-numbers .queryPlan) .0) e (c .query-plan .ensures)
+    asked-plan (joined (a .s) kept) (a .book .now) (a .info .now) (d .pre .1) (r .read .ensures) (i .if1 .left) (planned l e (field-numbers .queryPlan) .0) e (c .query-plan .ensures)
 
 returns-5 : tie.Need-returns-5
-returns-5 c =
+returns-5 c kept =
     let m = c .before in
-    let l = m .before in
+    let l = m .before .before in
     let i = l .before .before in
     let r = i .before .before in
     let d = r .before .before .before in
     let a = d .args in
     let n = m .match .rest in
-    asked-running (a .u) (a .requested) (a .book .now) (a .info .now) (d .pre .1) (r .read .ensures) (i .if1 .left) (coded l (asks-running (d .pre .2 .one) (n .0 .0 .1) (n .0 .1) (n .1))) (c .query-running .ensures)
+    asked-running (joined (a .s) kept) (a .book .now) (a .info .now) (d .pre .1) (r .read .ensures) (i .if1 .left) (coded l (asks-running (d .pre .2 .one) (n .0 .0 .1) (n .0 .1) (n .1))) (c .query-running .ensures)
 
 pub asked-spec : {M : Type 1} → statement M
-asked-spec = tie.close (tie.spec (λ c κs. search needs) (λ c κs. search needs) returns (λ c. search needs) (λ c κs. search needs) (λ c κs. (search needs, planned (c .before) (coded (c .before) (c .match .keys1)) (field-numbers .run) .1)) (λ c κs. (search needs, planned (c .before) (coded (c .before) (c .match .keys2)) (field-numbers .queryTimes) .1)) (λ c κs. (search needs, planned (c .before) (coded (c .before) (c .match .keys3)) (field-numbers .queryPlan) .1)) (λ c κs. search needs) returns-2 returns-3 returns-4 returns-5)
+asked-spec = tie.close (tie.spec (λ c κs. search needs) (λ c κs. search needs) returns (λ c. search needs) (λ c κs. search needs) (λ c κs. (search needs, planned (c .before .before) (coded (c .before .before) (c .match .keys1)) (field-numbers .run) .1)) (λ c κs. (search needs, planned (c .before .before) (coded (c .before .before) (c .match .keys2)) (field-numbers .queryTimes) .1)) (λ c κs. (search needs, planned (c .before .before) (coded (c .before .before) (c .match .keys3)) (field-numbers .queryPlan) .1)) (λ c κs. search needs) returns-2 returns-3 returns-4 returns-5)

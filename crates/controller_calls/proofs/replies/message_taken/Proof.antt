@@ -1,6 +1,7 @@
 -- `controller_calls::replies::message_taken` meets its contract: a frame for another address is dropped, an answer acknowledged, any
 -- other message carried out and replied to.
 use mathlib.Core.Path.{refl, sym, ap, _∙_}
+use mathlib.Core.List.{[]}
 use native.Mathlib.Omega.{arith}
 use borrow.Author.Tests.{not-true, not-false}
 use Rattle.controller.specs.State.{joined}
@@ -34,24 +35,23 @@ returns-2 c kept =
 replied-requires : tie.Need-replied-requires
 replied-requires c κs =
     let h = c .before .before .before in
-    let w = h .before .before .before .before .before in
+    let w = h .before .before .before .before in
     let z = w .before .before .before .before .before .before .before .before in
-    let u = z .args .s .running in
-    let e = h .carry-out .ensures .handled in
-    (rw e (reply-writable u (z .args .s .requested) (z .args .book .now) _ (z .pre .1) (z .pre .2) (z .pre .3) (omega (arith, w .before .shared-slice-known3 .given 0, w .before .shared-slice-known3 .given 1))), z .pre .4)
+    let e = h .carry-out .ensures [] .handled in
+    (rw e (reply-writable (joined (z .args .s) []) (z .args .book .now) _ (z .pre .1) (z .pre .2) (z .pre .3) (omega (arith, w .before .shared-slice-known3 .given 0, w .before .shared-slice-known3 .given 1))), z .pre .4)
 
 returns-3 : tie.Need-returns-3
 returns-3 c kept =
     let r = c .before .before in
     let h = r .before .before .before .before in
-    let i = h .before .before .before in
+    let i = h .before .before in
     let w = i .before .before in
     let j = w .before .before .before in
     let f = j .before in
     let a = f .before .before .before .before .args in
     rw (message-handled (joined (a .s) kept) (a .seq) (a .addr) (a .info .now) (a .book .now) (sym (f .for-us .ensures) ∙ not-false _ (j .if1 .left))
     (ap isAnswer (sym (w .word .ensures)) ∙ (sym (i .before .is-answer .ensures) ∙ i .if2 .left)))
-    (handled-brings (a .s) (a .seq) (a .addr) _ (r .replied .ensures) (h .carry-out .ensures) kept)
+    (handled-brings (a .s) (a .seq) (a .addr) _ (r .replied .ensures) (h .carry-out .ensures kept) kept)
 
 pub message-taken-spec : {M : Type 1} → statement M
 message-taken-spec =
