@@ -38,7 +38,6 @@ use Rattle.checks.specs.Standing.{timesDisagree, planDisagree, standingOf, Stan
 use Rattle.plan.specs.Reading.{recordAt}
 use Rattle.plan.specs.Setting.{Setting, setTimesCode, setPlanCode, planIn, countIn, notMade, readyRecord, timesMade, readyMade, keptAs, otherCode, setFront, setOf, setTimesOf, setPlanOf}
 use Rattle.checks.proofs.Stands.{stands-as-it-is}
-use Rattle.controller.specs.declared.Running.{Running}
 use Rattle.controller.specs.declared.Event.{Event}
 use Rattle.controller.specs.declared.Event.the-variants as event
 use Rattle.controller.specs.declared.Handled.{Handled}

@@ -36,7 +36,6 @@ use Rattle.record.specs.Record.{bookLen, plansMost, ready}
 use Rattle.record.proofs.Laws.{octet-below}
 use Rattle.checks.specs.Standing.{standingOf}
 use Rattle.plan.proofs.Cases.{octets-built-in}
-use Rattle.controller.specs.declared.Running.{Running}
 use Rattle.controller.specs.State.{State, all, outputLen, freshOf, soundOf}
 use Rattle.controller.specs.Handling.{carriedOutReply, refusedReply, handlingOf}
 use Rattle.controller.specs.Replies.{Answer, Call, CanFind, ResultAndBook, sent, errOf, naks, acks, forUs, isAnswer, repliedOf, messageOf, broughtOf, octetOf, lineIdleOf}

@@ -45,7 +45,6 @@ use Rattle.plan.proofs.Readying.{stands-has, has-stands, plan-stored-exactly-wh
 use Rattle.plan.proofs.Reportable.{reports-read}
 use Rattle.lamps.proofs.Second.{lamps-of-step}
 use Rattle.lamps.proofs.Cycle.{cycle-long}
-use Rattle.controller.specs.declared.Running.{Running}
 use Rattle.controller.specs.declared.Event.the-variants as event
 use Rattle.controller.specs.State.{State, all, outputLen, planRecord, soundOf}
 use Rattle.controller.specs.Handling as handling
