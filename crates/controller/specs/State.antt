@@ -23,11 +23,11 @@ pub record State : Type 0 where
   pub decoder : Decoder
   pub running : Running
 
--- In the code these are a struct, and octets that are lent to the calls: the decoder's of INFO, the first of those lent. So many are wanted;
--- those beyond are no part of the state.
+-- In the code the state is a struct and octets that the host lends. So many of these are wanted: the 256 that the decoder keeps for INFO.
 abbrev pub keptLen : ℕ
 keptLen = infoMost
 
+-- the state that the struct and the octets lent are; where more are lent, those beyond are no part of it
 abbrev pub joined : Held → List ℕ → State
 joined s kept = record { own = s .own; seq = s .seq; requested = s .requested; decoder = joinedDecoder (s .head) kept; running = s .running }
 

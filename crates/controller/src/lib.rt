@@ -14,8 +14,8 @@ pub const ALL: u16 = 0xFFFF;
 // The output that an octet call is lent, at least.
 pub const OUTPUT_LEN: usize = 544;
 
-// The octets that a host lends for the state, at least: the decoder's of INFO. 02, E4 and E6, will each keep those of another INFO behind
-// them.
+// The octets that a host lends with the struct, at least: those that the decoder keeps for INFO. 02, E4 and E6: each will keep another INFO
+// behind them.
 pub const KEPT_LEN: usize = INFO_MOST;
 
 // What the stepper owns: "The running plan is a copy"; 02, E1: "The state keeps which one, and plan 0 means that one throughout".

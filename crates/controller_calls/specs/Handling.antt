@@ -15,7 +15,7 @@ pub record HandlingLeaves (w : Handling) (h : Handled) (b : List ℕ) : Type 0 w
   pub handled : h ≡ w .handled
   pub book : b ≡ w .book
 
--- the message in INFO was, whatever octets are kept: its own have been handed on
+-- the same by the code's struct: what octets are lent with it does not matter, since those of the message are handed on
 abbrev pub HandledWith : Held → List ℕ → List ℕ → Handled → List ℕ → Type 0
 HandledWith s book info h b = (kept : List ℕ) → HandlingLeaves (handlingOf (joined s kept) book info) h b
 
