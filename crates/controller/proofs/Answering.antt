@@ -27,7 +27,6 @@ use Rattle.message.specs.declared.Read.{Read}
 use Rattle.message.specs.Reader as reader
 use Rattle.message.specs.Names.{planAt}
 use Rattle.message.specs.Reader.{codeIn, bodyIn, readOf}
-use Rattle.message.specs.Writer.{infoOf}
 use Rattle.message.specs.Promises.{Judged, short, body, unknown, wrongLength, outOfRange, accepted}
 use Rattle.message.proofs.ReadSo.{read-so}
 use Rattle.plan.specs.declared.Which.{Which}
@@ -46,7 +45,7 @@ use Rattle.controller.specs.declared.HeldAnswer.{HeldAnswer}
 use Rattle.controller.specs.declared.HeldShown.{HeldShown}
 use Rattle.controller.specs.State.{State, joined, runningSound, all, outputLen, planRecord, readyIn, freshOf, soundOf}
 use Rattle.controller.specs.Handling as handling
-use Rattle.controller.specs.Handling.{setAs, unlessUnread, runAs, queryTimesAs, queryPlanAs, queryRunningAs, handlingOf}
+use Rattle.controller.specs.Handling.{replyInfo, setAs, unlessUnread, runAs, queryTimesAs, queryPlanAs, handlingOf}
 use Rattle.controller.specs.Replies.{Answer, Call, answerWith, sent, refusedCall, errOf, naks, acks, forUs, isAnswer, repliesOf, CanFind, ResultAndBook, unchanged, leaves, repliedOf, messageOf, eventFor, broughtOf, madeOf, octetOf}
 use Rattle.controller.specs.Seconds.{Shown, shownWith, startedOf, secondOf, noSecond}
 use Rattle.controller.specs.Demand1.{Sound, SoundAsItIs, OctetRefused, CallRefused, InDone, OctetsAnswered, SecondRefused, ShownRefused, SecondsAnswered, IdlesAnswered, StartAnswered, StartsAnswered, RefusedLeavesBook, OutputsLeft, NumbersAsSaid, JoinedSo, CallsLeaveSo, RefusedAsCame, FewerRefused}
@@ -207,11 +206,11 @@ module _ (s : State) (book info : List ℕ) where
   or-not-ready false h d = inr (omega arith, omega arith)
 
   pub handled-in-done : length book ≡ bookLen → InDone (handlingOf s book info .handled .refusal)
-  unfolding runAs queryTimesAs queryPlanAs queryRunningAs
+  unfolding runAs queryTimesAs queryPlanAs
   handled-in-done hb =
       handling-by (λ h. InDone (h .handled .refusal)) s book info
-      (as-in-done (setTimesOf book info .answer) (set-in-done setTimesCode (timesMade (bodyIn info)) book info refl hb (times-in-done (bodyIn info))))
-      (as-in-done (setPlanOf book info .answer) (set-in-done setPlanCode (readyMade (recordAt book p) (bodyIn info)) book info refl hb (ready-in-done (recordAt book p) (bodyIn info))))
+      (λ _. as-in-done (setTimesOf book info .answer) (set-in-done setTimesCode (timesMade (bodyIn info)) book info refl hb (times-in-done (bodyIn info))))
+      (λ _. as-in-done (setPlanOf book info .answer) (set-in-done setPlanCode (readyMade (recordAt book p) (bodyIn info)) book info refl hb (ready-in-done (recordAt book p) (bodyIn info))))
       (read-or-done _ (or-not-ready (readyIn (s .running .which) book p) _ (inl (omega arith))))
       (read-or-done _
       (pick-by (λ (h : Handled). InDone (h .refusal)) (eqb (standingOf (planRecord (s .running .which) book p)) empty) (λ _. inr (omega arith, omega arith)) (λ _. inl (omega arith))))
@@ -222,8 +221,8 @@ module _ (s : State) (book info : List ℕ) where
   pub handled-leaves : (handlingOf s book info .handled .refusal ≡ refusal.none → ⊥) → handlingOf s book info .book ≡ book
   handled-leaves =
       handling-by (λ h. (h .handled .refusal ≡ refusal.none → ⊥) → h .book ≡ book) s book info
-      (λ n. set-refused-leaves setTimesCode (timesMade (bodyIn info)) book info refl (as-leaves (setTimesOf book info .answer) n))
-      (λ n. set-refused-leaves setPlanCode (readyMade (recordAt book p) (bodyIn info)) book info refl (as-leaves (setPlanOf book info .answer) n))
+      (λ _ n. set-refused-leaves setTimesCode (timesMade (bodyIn info)) book info refl (as-leaves (setTimesOf book info .answer) n))
+      (λ _ n. set-refused-leaves setPlanCode (readyMade (recordAt book p) (bodyIn info)) book info refl (as-leaves (setPlanOf book info .answer) n))
       (λ _. refl) (λ _. refl) (λ _. refl) (λ _. refl) (λ _. refl)
 
 -- The octet call
@@ -263,10 +262,10 @@ module _ (s : State) (book : List ℕ) where
         (λ _. unchanged-right refusal.none event.Nothing [] (omega arith) none-fit)
       where
         reply : List ℕ
-        reply = infoOf (handlingOf s book info .handled .reply)
+        reply = replyInfo s book (handlingOf s book info .handled .reply)
 
         frames : FramesFit (pick (eqb addr (s .own)) (repliesOf seq (s .seq) (s .own) reply) [])
-        frames = pick-by FramesFit (eqb addr (s .own)) (λ _. sent-most seq (s .seq) (s .own) reply (reply-fits s book info (p .checks) (p .plan) hb)) (λ _. none-fit)
+        frames = pick-by FramesFit (eqb addr (s .own)) (λ _. sent-most seq (s .seq) (s .own) reply (reply-fits s book info (p .checks))) (λ _. none-fit)
 
     brought-right : (f : Found) (kept : List ℕ) → CanFind f → Right book (broughtOf (foundMeans f kept) s book)
     brought-right found.Nothing kept c = unchanged-right refusal.none event.Nothing [] (omega arith) none-fit

@@ -89,8 +89,7 @@ module _ (s : State) (book info : List ℕ) where
   unfolding queryPlanAs
   plan-leaves = read-leaves _ (pick-by (λ (h : Handled). h .requested ≡ s .requested) (readyIn (s .running .which) book asked) (λ _. refl) (λ _. refl))
 
-  running-leaves : unlessUnread code (s .requested) info (queryRunningAs (s .requested) (s .running)) .requested ≡ s .requested
-  unfolding queryRunningAs
+  running-leaves : unlessUnread code (s .requested) info (queryRunningAs (s .requested)) .requested ≡ s .requested
   running-leaves = read-leaves _ refl
 
   pub handled-leaves : Leaves (handlingOf s book info .handled)

@@ -56,7 +56,7 @@ module _ (s : State) (seq addr : ℕ) (info book : List ℕ) where
     message-answer a = rw (f, a)
 
     pub message-handled : isAnswer (codeIn info) ≡ false
-        → messageOf s seq addr info book ≡ handledOf s seq addr (handlingOf s book info)
+        → messageOf s seq addr info book ≡ handledOf s book seq addr (handlingOf s book info)
     unfolding messageOf
     message-handled a = rw (f, a)
 

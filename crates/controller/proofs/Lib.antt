@@ -4,6 +4,7 @@ pub mod Replying
 pub mod Keeping
 pub mod Answering
 pub mod Serving
+pub mod AsWritten
 pub mod Latest
 pub mod Run
 pub mod OurSeq

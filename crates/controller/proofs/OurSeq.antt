@@ -6,11 +6,9 @@ use mathlib.Core.Bool.{Bool, true, false}
 use mathlib.Core.Logic.{_⊎_, inl, inr}
 use mathlib.Core.List.{List, [], _∷_, _++_, append-assoc}
 use native.Mathlib.Omega.{arith}
-use borrow.Author.Tests.{eqb-true}
 use lib.Dec.{eqb}
-use lib.ListN.{length, getD, take, replicate}
+use lib.ListN.{length, take, replicate}
 use Rattle.octets.specs.Choice.{pick}
-use Rattle.octets.specs.First.{firstOf}
 use Rattle.octets.specs.Octet.{Octets}
 use Rattle.octets.proofs.Laws.{pick-by}
 use Rattle.frame.specs.declared.Kind.{Kind}
@@ -23,21 +21,10 @@ use Rattle.frame.specs.Decoder.{Decoder, Taken, freshHead, freshDecoder, takenO
 use Rattle.frame.specs.Run.{Outcome, nothing, refused, sound, foundMeans, outcomeOf, outcomes, decoderAfter, AtRest}
 use Rattle.frame.proofs.Reading.{reading-undoes-writing}
 use Rattle.frame.proofs.Held.{HoldsOctets, OutcomeOctets, taken-octets, idled-octets}
-use Rattle.message.specs.declared.Message as message
-use Rattle.message.specs.Layouts.{layouts, layoutAt, numberOf, rowsAt, layoutRows}
-use Rattle.message.specs.Values.{placed}
 use Rattle.message.specs.Reader.{codeIn}
-use Rattle.message.specs.Writer.{numberIn, kOfMessage, writable, infoAs, infoOf}
-use Rattle.message.specs.Promises.{listed}
-use Rattle.message.proofs.Numbers.{codes-listed}
-use Rattle.message.proofs.Fitting.{right-fits, fits-octets}
-use Rattle.message.proofs.WrittenSo.{writable-in}
-use Rattle.record.specs.Record.{bookLen, plansMost, ready}
-use Rattle.record.proofs.Laws.{octet-below}
-use Rattle.checks.specs.Standing.{standingOf}
+use Rattle.record.specs.Record.{bookLen}
 use Rattle.plan.proofs.Cases.{octets-built-in}
 use Rattle.controller.specs.State.{State, all, outputLen, freshOf, soundOf}
-use Rattle.controller.specs.Handling.{carriedOutReply, refusedReply, handlingOf}
 use Rattle.controller.specs.Replies.{Answer, Call, CanFind, ResultAndBook, sent, errOf, naks, acks, forUs, isAnswer, repliedOf, messageOf, broughtOf, octetOf, lineIdleOf}
 use Rattle.controller.specs.Seconds.{startedOf, secondOf}
 use Rattle.controller.specs.Demand1.{OctetRefused}
@@ -46,7 +33,8 @@ use Rattle.controller.specs.Demand3.{HostCall, octet, lineIdle, second, 
 use Rattle.controller.specs.OurSeq.{writes, writesOn, framesHeard, CountsFrom, OurSeqCounts}
 use Rattle.controller.proofs.Laws.{octet-brings, idle-done}
 use Rattle.controller.proofs.Judging.{RunningParts, sound-parts}
-use Rattle.controller.proofs.Replying.{can-find, info-fits, by-reply}
+use Rattle.controller.proofs.Replying.{can-find}
+use Rattle.controller.proofs.AsWritten.{GoodInfo, reply-good}
 use Rattle.controller.proofs.Answering.{octets-answered, octet-refused, octet-right, written-take}
 use Rattle.controller.proofs.Keeping.{done-left, by-octet, idle-left, second-left, fresh-sound}
 use Rattle.controller.proofs.Latest.{Kept, kept-next}
@@ -96,45 +84,6 @@ sent-line : (fs : List Frame) → sent fs ≡ onLine fs
 sent-line [] = refl
 sent-line (f ∷ fs) = ap (λ (l : List ℕ). written f ++ l) (sent-line fs)
 
--- The reply is octets
-
-abbrev Below : ℕ → List ℕ → Type 0
-Below b [] = 0 < b
-Below b (x ∷ xs) = (x < b) × Below b xs
-
-at-below : (b : ℕ) (l : List ℕ) → Below b l → (j : ℕ) → getD l j 0 < b
-at-below b [] h j = h
-at-below b (x ∷ xs) h zero = h .0
-at-below b (x ∷ xs) h (suc j) = at-below b xs (h .1) j
-
-code-below : (c : ℕ) → 1 ≤ numberOf c → c < 65536
-code-below c h =
-    let j = numberOf c - 1 in
-    let e = eqb-true (getD listed j 0) c (codes-listed c .here j (omega arith)) in
-    omega (arith, at-below 65536 listed (search arith) j)
-
-info-octets : (m : message.Message) → writable m ≡ true → Octets (infoOf m)
-unfolding infoAs
-info-octets m w =
-    let v = writable-in m w in
-    let fs = rowsAt (numberIn m) (kOfMessage m) in
-    let c = code-below (m .code) (v .listed .first) in
-    (omega arith, (omega arith, fits-octets fs (m .values) (right-fits (numberIn m) (kOfMessage m) (m .values) (λ j l. v .ranges j (omega (arith, v .fields))))))
-
-abbrev GoodInfo : List ℕ → Type 0
-GoodInfo i = Octets i × (2 ≤ length i) × (length i ≤ 256)
-
-module _ (s : State) (book info : List ℕ) (r : standingOf (s .running .copy) ≡ ready) (hp : s .running .plan ≤ plansMost) (hb : length book ≡ bookLen) (o : Octets info) where
-  reply-good : GoodInfo (infoOf (handlingOf s book info .handled .reply))
-  unfolding carriedOutReply refusedReply numberOf firstOf layouts layoutAt rowsAt layoutRows placed infoAs
-  reply-good =
-      let a = octet-below info 0 o in
-      let b = octet-below info 1 o in
-      by-reply s book info r hp hb (λ h. GoodInfo (infoOf (h .reply)))
-      (λ q. ((omega arith, (omega arith, (omega arith, (omega arith, tt)))), omega arith, omega arith))
-      (λ n m. ((omega arith, (omega arith, (omega arith, (omega arith, (omega arith, (omega arith, tt)))))), omega arith, omega arith))
-      (λ m w. (info-octets m w, info-fits m w .0, info-fits m w .1))
-
 -- What a call writes
 
 -- of n message frames before it these are the next; then the state has this SEQ, and `more` frames are written
@@ -167,13 +116,13 @@ module _ (n : ℕ) (s : State) (hw : s .own < 65535) (e : s .seq ≡ n % 256) wh
   reply-sent true seq i h g =
       record {
         more = n + 1;
-        readable = (((h, omega arith), tt), (((omega arith, omega arith, g .0), (g .1, g .2)), tt));
+        readable = (((h, omega arith), tt), (((omega arith, omega arith, g .octets), (g .least, g .most)), tt));
         next = omega arith;
         then = λ gs c. (e, c);
       }
   reply-sent false seq i h g = none-sent
 
-  module _ (p : RunningParts (s .running)) (book : List ℕ) (hb : length book ≡ bookLen) where
+  module _ (p : RunningParts (s .running)) (oc : Octets (s .running .copy)) (book : List ℕ) (hb : length book ≡ bookLen) (ob : Octets book) where
     abbrev Sent : ResultAndBook → Type 0
     Sent w = Sends n (w .result .frames) (w .result .seq)
 
@@ -182,7 +131,7 @@ module _ (n : ℕ) (s : State) (hw : s .own < 65535) (e : s .seq ≡ n % 256) wh
     message-sent seq addr info h o =
         pick-by Sent (forUs (s .own) addr)
         (λ _. pick-by Sent (isAnswer (codeIn info)) (λ _. ack-sent seq addr h)
-        (λ _. reply-sent (eqb addr (s .own)) seq _ h (reply-good s book info (p .checks) (p .plan) hb o)))
+        (λ _. reply-sent (eqb addr (s .own)) seq _ h (reply-good s book info hb ob oc (p .checks) (p .plan) o)))
         (λ _. none-sent)
 
     brought-sent : (f : Found) (kept : List ℕ) → CanFind f → OutcomeOctets (foundMeans f kept) → Sent (broughtOf (foundMeans f kept) s book)
@@ -205,9 +154,9 @@ module _ (own : ℕ) (hw : own < 65535) where
     octets : HoldsOctets (s .decoder)
     seq : s .seq ≡ n % 256
 
-  octet-sends : (n : ℕ) (s : State) (b : ℕ) → b < 256 → (book out : List ℕ) → Able n s
+  octet-sends : (n : ℕ) (s : State) (b : ℕ) → b < 256 → (book out : List ℕ) → Octets book → Able n s
       → CallSends n (let w = octetOf s book out b in take (w .answer .told .count) (w .out)) (octetOf s book out b .answer .state .seq)
-  octet-sends n s b l book out a = by (octets-answered s book out b .either)
+  octet-sends n s b l book out o a = by (octets-answered s book out b .either)
     where
       t : Taken
       t = takenOf (s .decoder) b
@@ -223,12 +172,12 @@ module _ (own : ℕ) (hw : own < 65535) where
           let fs = w .result .frames in
           let fits : length (sent fs) ≤ length out = omega (arith, octet-right s book out b (x .0) (x .1) .fits, x .2) in
           let v =
-          brought-sent n s (rw (a .kept .own) hw) (a .seq) (p .running) book (x .1) (t .found) (t .decoder .info)
+          brought-sent n s (rw (a .kept .own) hw) (a .seq) (p .running) (a .kept .octets) book (x .1) o (t .found) (t .decoder .info)
           (can-find (s .decoder) b (p .decoder)) (taken-octets (s .decoder) b l (a .octets) .1) in
           rw (octet-brings s book out b (x .0) (x .1) (x .2) refl) (record { frames = fs; written = written-take (sent fs) out fits ∙ sent-line fs; sends = v })
 
   call-sends : (n : ℕ) (s : State) (e : HostCall) → Able n s → CallSends n (writes s e) (next s e .seq)
-  call-sends n s (octet b l book out o) a = octet-sends n s b l book out a
+  call-sends n s (octet b l book out o) a = octet-sends n s b l book out o a
   call-sends n s lineIdle a =
       record { frames = []; written = refl; sends = none-sent n (lineIdleOf s .state) (rw (idle-left s, a .kept .own) hw) (ap (λ (w : Answer). w .state .seq) (idle-done s (a .kept .sound)) ∙ a .seq) }
   call-sends n s (second book o) a =

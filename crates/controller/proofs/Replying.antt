@@ -1,42 +1,32 @@
 -- What an octet call writes: the INFO of every reply fits a frame, and the frames fit the output.
 use Prim.Native.Nat.{ℕ, _*_, _≤_, _<_}
 use mathlib.Core.Path.{_≡_, refl}
-use mathlib.Core.Bool.{Bool, true, false}
-use mathlib.Core.Logic.{inl, inr}
+use mathlib.Core.Bool.{true}
 use mathlib.Core.List.{List, [], _∷_}
 use native.Mathlib.Decide.{decLt}
-use native.Mathlib.Nat.{mod-eq-of-lt}
 use native.Mathlib.Omega.{arith}
 use borrow.Author.Tests.{ne-eqb, eqb-true, eqb-false}
 use lib.Dec.{eqb}
 use lib.ListN.{length, length-append}
-use Rattle.octets.specs.Choice.{pick}
-use Rattle.octets.specs.First.{firstOf}
-use Rattle.octets.specs.Part.{codeLen}
 use Rattle.octets.specs.Refusal as refusal
-use Rattle.octets.specs.Word.{highOf, lowOf}
 use Rattle.octets.proofs.Laws.{pick-by}
 use Rattle.frame.specs.Frame.{ack, nak, infoMost, frontOf, sentOf, twice, doubled, written}
 use Rattle.frame.specs.Decoder.{Decoder, possibleOf, takenOf}
 use Rattle.frame.proofs.Finding.{finds}
-use Rattle.message.specs.declared.Message as message
-use Rattle.message.specs.Layouts.{layouts, layoutAt, numberOf, rowsAt, layoutRows}
-use Rattle.message.specs.Values.{placed}
 use Rattle.message.specs.Names.{planAt}
 use Rattle.message.specs.Reader.{codeIn, bodyIn, readOf}
-use Rattle.message.specs.Writer.{numberIn, kOfMessage, writable, infoAs, infoOf}
-use Rattle.message.proofs.Layouts.{rows-size}
-use Rattle.message.proofs.Writing.{info-len, writable-most}
 use Rattle.plan.specs.declared.Which.{Which}
 use Rattle.plan.specs.declared.setting.Answered.{Answered}
 use Rattle.record.specs.Record.{bookLen, plansMost, empty, ready}
 use Rattle.checks.specs.Standing.{standingOf}
-use Rattle.plan.specs.Setting.{setTimesCode, setPlanCode, setTimesOf, setPlanOf, planIn}
+use Rattle.plan.specs.Setting.{Setting, setTimesCode, setPlanCode, setTimesOf, setPlanOf, planIn}
 use Rattle.plan.specs.Reporting.{reportPlanCode, reportRunningCode}
-use Rattle.plan.proofs.Reportable.{report-times-writable, report-plan-writable, standing-past}
+use Rattle.plan.proofs.Reports.{times-most, plan-most}
+use Rattle.plan.proofs.Reportable.{standing-past}
 use Rattle.controller.specs.declared.Handled.{Handled}
+use Rattle.controller.specs.declared.Reply.the-variants as reply
 use Rattle.controller.specs.State.{State, outputLen, planRecord, readyIn}
-use Rattle.controller.specs.Handling.{Handling, accepted, reads, asks, setHandled, runCode, queryTimesCode, queryPlanCode, queryRunningCode, carriedOutReply, refusedReply, refusedWith, setAs, unlessUnread, runAs, queryTimesAs, queryPlanAs, queryRunningAs, handlingOf}
+use Rattle.controller.specs.Handling.{Handling, replyInfo, accepted, reads, asks, setHandled, runCode, queryTimesCode, queryPlanCode, queryRunningCode, refusedWith, setAs, unlessUnread, runAs, queryTimesAs, queryPlanAs, queryRunningAs, handlingOf}
 use Rattle.controller.specs.Replies.{sent, repliesOf, CanFind}
 
 -- What the decoder finds
@@ -52,31 +42,11 @@ can-find =
       nak = λ seq addr err. tt;
     })
 
--- The replies 0F 80 and 0F 81
-
-pub carried-out-info : (code : ℕ) → infoOf (carriedOutReply code) ≡ 0x0F ∷ 0x80 ∷ highOf code ∷ lowOf code ∷ []
-unfolding carriedOutReply numberOf firstOf layouts layoutAt rowsAt layoutRows placed infoAs
-carried-out-info code = refl
-
-pub refused-info : (code n parameter : ℕ) → n < 256 → parameter < 256
-    → infoOf (refusedReply code n parameter) ≡ 0x0F ∷ 0x81 ∷ highOf code ∷ lowOf code ∷ n ∷ parameter ∷ []
-unfolding refusedReply numberOf firstOf layouts layoutAt rowsAt layoutRows placed infoAs
-refused-info code n parameter hn hp = rw (mod-eq-of-lt hn, mod-eq-of-lt hp)
-
--- INFO of what is writable
-
-pub info-fits : (m : message.Message) → writable m ≡ true → (codeLen ≤ length (infoOf m)) × (length (infoOf m) ≤ infoMost)
-info-fits m w =
-    let l = numberIn m in
-    let k = kOfMessage m in
-    let n = info-len (m .code) (rowsAt l k) (m .values) in
-    (omega arith, omega (arith, rows-size l k (writable-most l k (m .fields) (m .values) w)))
-
 -- A plan that is reported
 
 -- a plan with more than an empty record is one of the book, or plan 0
-pub plan-most : (which : Which) (book : List ℕ) (p : ℕ) → length book ≡ bookLen → (standingOf (planRecord which book p) ≡ empty → ⊥) → p ≤ plansMost
-plan-most which book p hb n = by (decLt plansMost p)
+pub plan-in-book : (which : Which) (book : List ℕ) (p : ℕ) → length book ≡ bookLen → (standingOf (planRecord which book p) ≡ empty → ⊥) → p ≤ plansMost
+plan-in-book which book p hb n = by (decLt plansMost p)
   where
     by : Dec (plansMost < p) → p ≤ plansMost
     by (yes l) = absurd (n (rw (ne-eqb p 0 (λ z. absurd (omega arith))) (standing-past book p hb l)))
@@ -85,30 +55,26 @@ plan-most which book p hb n = by (decLt plansMost p)
 -- Every reply
 
 -- what holds of each way to handle a message holds of what its code brings
-by-seven : (P : Handling → Type 0) (a b c d e f : Bool) {m n o p q r s : Handling} → P m → P n → P o → P p → P q → P r → P s
-    → P (pick a m (pick b n (pick c o (pick d p (pick e q (pick f r s))))))
-by-seven P true b c d e f m n o p q r s = m
-by-seven P false true c d e f m n o p q r s = n
-by-seven P false false true d e f m n o p q r s = o
-by-seven P false false false true e f m n o p q r s = p
-by-seven P false false false false true f m n o p q r s = q
-by-seven P false false false false false true m n o p q r s = r
-by-seven P false false false false false false m n o p q r s = s
-
 pub handling-by : (P : Handling → Type 0) (s : State) (book info : List ℕ)
-    → P (setHandled (codeIn info) (s .requested) (setTimesOf book info)) → P (setHandled (codeIn info) (s .requested) (setPlanOf book info))
+    → (codeIn info ≡ setTimesCode → P (setHandled (codeIn info) (s .requested) (setTimesOf book info)))
+    → (codeIn info ≡ setPlanCode → P (setHandled (codeIn info) (s .requested) (setPlanOf book info)))
     → P (asks (codeIn info) (s .requested) book info (runAs (s .running .which) (codeIn info) (s .requested) book (planIn (bodyIn info))))
     → P (asks (codeIn info) (s .requested) book info (queryTimesAs (s .running .which) (codeIn info) (s .requested) book (planIn (bodyIn info))))
     → P (asks (codeIn info) (s .requested) book info (queryPlanAs (s .running .which) (codeIn info) (s .requested) book (planIn (bodyIn info))))
-    → P (asks (codeIn info) (s .requested) book info (queryRunningAs (s .requested) (s .running)))
+    → P (asks (codeIn info) (s .requested) book info (queryRunningAs (s .requested)))
     → P (reads (refusedWith (codeIn info) (s .requested) refusal.codeNotHandled 0) book) → P (handlingOf s book info)
 unfolding handlingOf
-handling-by P s book info =
+handling-by P s book info times plan run queryTimes queryPlan queryRunning unknown =
     let code = codeIn info in
-    by-seven P (eqb code setTimesCode) (eqb code setPlanCode) (eqb code runCode) (eqb code queryTimesCode) (eqb code queryPlanCode) (eqb code queryRunningCode)
+    pick-by P (eqb code setTimesCode) (λ e. times (eqb-true code setTimesCode e))
+    (λ _. pick-by P (eqb code setPlanCode) (λ e. plan (eqb-true code setPlanCode e))
+    (λ _. pick-by P (eqb code runCode) (λ _. run)
+    (λ _. pick-by P (eqb code queryTimesCode) (λ _. queryTimes)
+    (λ _. pick-by P (eqb code queryPlanCode) (λ _. queryPlan)
+    (λ _. pick-by P (eqb code queryRunningCode) (λ _. queryRunning) (λ _. unknown))))))
 
--- what holds of every 0F 80, of every 0F 81 and of every report that is writable holds of what is handled
-module _ (s : State) (book info : List ℕ) (r : standingOf (s .running .copy) ≡ ready) (hp : s .running .plan ≤ plansMost) (hb : length book ≡ bookLen) where
+-- what holds of every 0F 80, of every 0F 81 and of every report of what is there holds of what is handled
+module _ (s : State) (book info : List ℕ) where
   abbrev code : ℕ
   code = codeIn info
 
@@ -119,8 +85,9 @@ module _ (s : State) (book info : List ℕ) (r : standingOf (s .running .copy) �
   abbrev named : List ℕ
   named = planRecord (s .running .which) book p
 
-  module _ (P : Handled → Type 0) (carried : (q : ℕ) → P (accepted q (carriedOutReply code))) (refused : (n m : ℕ) → P (refusedWith code (s .requested) n m))
-      (report : (m : message.Message) → writable m ≡ true → P (accepted (s .requested) m)) where
+  module _ (P : Handled → Type 0) (carried : (q : ℕ) → P (accepted q (reply.CarriedOut code))) (refused : (n m : ℕ) → P (refusedWith code (s .requested) n m))
+      (times : (standingOf named ≡ empty → ⊥) → P (accepted (s .requested) (reply.Times p))) (plan : standingOf named ≡ ready → P (accepted (s .requested) (reply.Plan p)))
+      (running : P (accepted (s .requested) reply.Running)) where
     by-read : (h : Handled) → P h → P (unlessUnread code (s .requested) info h)
     by-read h w = pick-by P (eqb (readOf info .refusal) refusal.none) (λ _. w) (λ _. refused (readOf info .refusal) (readOf info .field))
 
@@ -134,33 +101,36 @@ module _ (s : State) (book info : List ℕ) (r : standingOf (s .running .copy) �
 
     by-query-times : P (queryTimesAs (s .running .which) code (s .requested) book p)
     unfolding queryTimesAs
-    by-query-times =
-        pick-by P (eqb (standingOf named) empty) (λ _. refused refusal.notReady planAt)
-        (λ e. let n = eqb-false (standingOf named) empty e in report _ (report-times-writable named p (plan-most (s .running .which) book p hb n) n))
+    by-query-times = pick-by P (eqb (standingOf named) empty) (λ _. refused refusal.notReady planAt) (λ e. times (eqb-false (standingOf named) empty e))
 
     by-query-plan : P (queryPlanAs (s .running .which) code (s .requested) book p)
     unfolding queryPlanAs
-    by-query-plan =
-        pick-by P (readyIn (s .running .which) book p)
-        (λ e.
-        let d = eqb-true (standingOf named) ready e in
-        report _ (report-plan-writable named p reportPlanCode (plan-most (s .running .which) book p hb (λ z. absurd (omega arith))) d (inl refl)))
-        (λ _. refused refusal.notReady planAt)
-
-    by-query-running : P (queryRunningAs (s .requested) (s .running))
-    unfolding queryRunningAs
-    by-query-running = report _ (report-plan-writable (s .running .copy) (s .running .plan) reportRunningCode hp r (inr refl))
+    by-query-plan = pick-by P (readyIn (s .running .which) book p) (λ e. plan (eqb-true (standingOf named) ready e)) (λ _. refused refusal.notReady planAt)
 
     pub by-reply : P (handlingOf s book info .handled)
     by-reply =
-        handling-by (λ h. P (h .handled)) s book info (by-set (setTimesOf book info .answer)) (by-set (setPlanOf book info .answer))
-        (by-read _ by-run) (by-read _ by-query-times) (by-read _ by-query-plan) (by-read _ by-query-running)
+        handling-by (λ h. P (h .handled)) s book info (λ _. by-set (setTimesOf book info .answer)) (λ _. by-set (setPlanOf book info .answer))
+        (by-read _ by-run) (by-read _ by-query-times) (by-read _ by-query-plan) (by-read _ running)
         (refused refusal.codeNotHandled 0)
 
   -- its INFO fits a frame, whatever it names
-  pub reply-fits : length (infoOf (handlingOf s book info .handled .reply)) ≤ infoMost
-  unfolding carriedOutReply refusedReply numberOf firstOf layouts layoutAt rowsAt layoutRows infoAs
-  reply-fits = by-reply (λ h. length (infoOf (h .reply)) ≤ infoMost) (λ q. omega arith) (λ n m. omega arith) (λ m w. info-fits m w .1)
+  pub reply-fits : standingOf (s .running .copy) ≡ ready → length (replyInfo s book (handlingOf s book info .handled .reply)) ≤ infoMost
+  unfolding replyInfo
+  reply-fits r =
+      by-reply (λ h. length (replyInfo s book (h .reply)) ≤ infoMost) (λ q. omega arith) (λ n m. omega arith) (λ n. omega (arith, times-most named n p))
+      (λ e. omega (arith, plan-most named e p reportPlanCode)) (omega (arith, plan-most (s .running .copy) r (s .running .plan) reportRunningCode))
+
+  -- what a set leaves in the book is no part of its reply
+  set-as-came : (w : Setting) → replyInfo s (w .book) (setAs code (s .requested) (w .answer) .reply) ≡ replyInfo s book (setAs code (s .requested) (w .answer) .reply)
+  unfolding setAs replyInfo
+  set-as-came w =
+      pick-by (λ (h : Handled). replyInfo s (w .book) (h .reply) ≡ replyInfo s book (h .reply)) (eqb (w .answer .refusal) refusal.none) (λ _. refl) (λ _. refl)
+
+  -- a report is of the book as it came: a message that has one leaves the book
+  pub reply-as-came : replyInfo s (handlingOf s book info .book) (handlingOf s book info .handled .reply) ≡ replyInfo s book (handlingOf s book info .handled .reply)
+  reply-as-came =
+      handling-by (λ h. replyInfo s (h .book) (h .handled .reply) ≡ replyInfo s book (h .handled .reply)) s book info
+      (λ _. set-as-came (setTimesOf book info)) (λ _. set-as-came (setPlanOf book info)) refl refl refl refl refl
 
 -- The frames fit
 

@@ -15,16 +15,15 @@ use Rattle.frame.specs.Decoder.{freshHead, possibleOf, frontIn, cksIn, stepOf, 
 use Rattle.message.specs.Layouts.{layouts, layoutAt, known, numberOf, rowsAt, layoutRows}
 use Rattle.message.specs.Values.{zeros, placed, firstOut}
 use Rattle.message.specs.Reader.{noMessage, notRead, partOf, rangedOf, readPartOf, readOf}
-use Rattle.message.specs.Writer.{infoAs}
 use Rattle.record.specs.Record.{bookLen, emptyBook}
 use Rattle.checks.specs.Standing.{timesDisagree, planDisagree, ranged, timesStand, planStands, readyStands, allZero, standingOf}
 use Rattle.plan.specs.declared.Which.{Which}
 use Rattle.plan.specs.declared.Which.the-variants.{New, Old}
 use Rattle.plan.specs.BuiltIn.{padded, builtIn}
-use Rattle.plan.specs.Reporting.{planInfo, reportPlanOf}
+use Rattle.plan.specs.Reporting.{planInfo}
 use Rattle.lamps.specs.Rows.{phaseTable, secondsOf}
 use Rattle.controller.specs.State.{State, outputLen, freshOf, soundOf}
-use Rattle.controller.specs.Handling.{carriedOutReply, refusedReply, runAs, queryRunningAs, handlingOf}
+use Rattle.controller.specs.Handling.{replyInfo, runAs, handlingOf}
 use Rattle.controller.specs.Replies.{repliedOf, messageOf, doneOf, octetOf}
 use Rattle.controller.specs.Table.{emptyOut, writtenBy, cameOut, stateAfter, p1, p4, stepRow, rows, due, OneTable}
 use Rattle.controller.proofs.Laws.{octet-done}
@@ -75,7 +74,7 @@ rowsDone which =
     ∷ []
 
 computed : rowsDone New ++ rowsDone Old ≡ due
-unfolding xor exclusiveOr firstOf diagram.find table.directory diagram.diagramOf table.lampRows diagram.rowNumber diagram.lampRowOf frontOf bodyOf sentOf cksOf twice doubled written freshHead possibleOf frontIn cksIn stepOf takenOf layouts layoutAt known numberOf rowsAt layoutRows zeros placed firstOut noMessage notRead partOf rangedOf readPartOf readOf infoAs timesDisagree planDisagree ranged timesStand planStands readyStands allZero standingOf padded builtIn planInfo reportPlanOf phaseTable secondsOf freshOf carriedOutReply refusedReply runAs queryRunningAs handlingOf repliedOf messageOf doneOf doneWith due
+unfolding xor exclusiveOr firstOf diagram.find table.directory diagram.diagramOf table.lampRows diagram.rowNumber diagram.lampRowOf frontOf bodyOf sentOf cksOf twice doubled written freshHead possibleOf frontIn cksIn stepOf takenOf layouts layoutAt known numberOf rowsAt layoutRows zeros placed firstOut noMessage notRead partOf rangedOf readPartOf readOf timesDisagree planDisagree ranged timesStand planStands readyStands allZero standingOf padded builtIn planInfo phaseTable secondsOf freshOf replyInfo runAs handlingOf repliedOf messageOf doneOf doneWith due
 computed = refl
 
 pub one-table : OneTable

@@ -6,7 +6,7 @@ use mathlib.Core.Path.{_≡_}
 use mathlib.Core.Bool.{true}
 use mathlib.Core.Logic.{_⊎_}
 use mathlib.Core.List.{List, [], _∷_, _++_}
-use lib.ListN.{length, take}
+use lib.ListN.{length, take, drop}
 use Rattle.octets.specs.Octet.{Octets}
 use Rattle.octets.specs.Word.{highOf, lowOf}
 use Rattle.frame.specs.declared.Kind.{Kind}
@@ -15,6 +15,7 @@ use Rattle.frame.specs.Frame.{Frame, message, ack, nak, written}
 use Rattle.frame.specs.Decoder.{takenOf}
 use Rattle.frame.specs.Run.{Outcome, nothing, refused, sound, outcomeOf}
 use Rattle.message.specs.Reader.{codeIn, bodyIn, readOf}
+use Rattle.message.specs.Writer.{writeMessage}
 use Rattle.record.specs.Record.{orderOf, Ready}
 use Rattle.plan.specs.declared.Which.{Which}
 use Rattle.plan.specs.BuiltIn.{builtIn}
@@ -189,6 +190,23 @@ Handles =
     → Octets book → Octets (s .running .copy)
     → outcomeOf (takenOf (s .decoder) b) ≡ sound (message seq addr info) → (addr ≡ s .own) ⊎ (addr ≡ 0xFFFF) → (IsAnswer info → ⊥)
     → HandledSo s seq addr book info (octetOf s book out b)
+
+-- 02, E3: "Write the octets straight into the output. Every octet and refusal stays the same." No message is made of a reply any more; its
+-- INFO is still what the message writer would have written.
+
+-- the reader reads INFO, nothing refused, and wherever there is room the writer writes what was read as the same octets
+pub record AsWritten (info : List ℕ) : Type 0 where
+  pub read : readOf info .refusal ≡ 0
+  pub written : (at : ℕ) (out : List ℕ) → at + length info ≤ length out
+      → writeMessage (readOf info .message) at out
+      ≡ record { answer = record { refusal = 0; count = length info }; out = take at out ++ (info ++ drop (at + length info) out) }
+
+abbrev pub RepliesAsWritten : Type 0
+RepliesAsWritten =
+    (s : State) (book out : List ℕ) (b seq : ℕ) (info : List ℕ) → soundOf s ≡ true → length book ≡ 3840 → 544 ≤ length out
+    → Octets book → Octets (s .running .copy) → Octets info
+    → outcomeOf (takenOf (s .decoder) b) ≡ sound (message seq (s .own) info) → (IsAnswer info → ⊥)
+    → (reply : List ℕ) × Wrote (octetOf s book out b) (ack seq (s .own) ∷ message (s .seq) (s .own) reply ∷ []) × AsWritten reply
 
 -- What a second shows
 

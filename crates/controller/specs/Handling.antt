@@ -1,4 +1,4 @@
--- 01, "Messages" and "Plan book": what the controller does with a message, and the message that replies to it.
+-- 01, "Messages" and "Plan book": what the controller does with a message, which reply it gets, and the octets of that reply.
 --
 -- "The controller handles 14, 15, 18, 44, 45, 48, 0F 80 and 0F 81; a report sent to it is refusal 10. Sets and 18 are replied to
 -- with 0F 80, queries with C4, C5, C8."
@@ -7,17 +7,17 @@ use mathlib.Core.List.{List, [], _∷_}
 use lib.Dec.{eqb}
 use Rattle.octets.specs.Choice.{pick}
 use Rattle.octets.specs.Refusal as refusal
-use Rattle.message.specs.declared.Message.{Message}
+use Rattle.octets.specs.Word.{highOf, lowOf}
 use Rattle.message.specs.Names.{planAt}
 use Rattle.message.specs.Reader.{codeIn, bodyIn, readOf}
-use Rattle.message.specs.Values.{placed}
 use Rattle.plan.specs.declared.Which.{Which}
 use Rattle.plan.specs.declared.setting.Answered.{Answered}
 use Rattle.record.specs.Record.{empty}
 use Rattle.checks.specs.Standing.{standingOf}
 use Rattle.plan.specs.Setting.{Setting, setTimesCode, setPlanCode, setTimesOf, setPlanOf, planIn}
-use Rattle.plan.specs.Reporting.{reportPlanCode, reportRunningCode, reportTimesOf, reportPlanOf}
-use Rattle.controller.specs.declared.Running.{Running}
+use Rattle.plan.specs.Reporting.{reportPlanCode, reportRunningCode, timesInfo, planInfo}
+use Rattle.controller.specs.declared.Reply.{Reply}
+use Rattle.controller.specs.declared.Reply.the-variants as reply
 use Rattle.controller.specs.declared.Handled.{Handled}
 use Rattle.controller.specs.State.{State, planRecord, readyIn}
 
@@ -39,29 +39,37 @@ queryPlanCode = 0x5F45
 abbrev pub queryRunningCode : ℕ
 queryRunningCode = 0x5F48
 
--- The replies: "0F 80 | code(2)", "0F 81 | code(2), error number, parameter number"
-unfoldable pub carriedOutReply : ℕ → Message
-carriedOutReply code = record { code = carriedOutCode; fields = 1; values = placed (code ∷ []) }
+-- "0F 80 | code(2)", "0F 81 | code(2), error number, parameter number"
+abbrev pub carriedOutInfo : ℕ → List ℕ
+carriedOutInfo code = highOf carriedOutCode ∷ lowOf carriedOutCode ∷ highOf code ∷ lowOf code ∷ []
 
-unfoldable pub refusedReply : ℕ → ℕ → ℕ → Message
-refusedReply code n parameter = record { code = refusedCode; fields = 3; values = placed (code ∷ n ∷ parameter ∷ []) }
+abbrev pub refusedInfo : ℕ → ℕ → ℕ → List ℕ
+refusedInfo code n parameter = highOf refusedCode ∷ lowOf refusedCode ∷ highOf code ∷ lowOf code ∷ n ∷ parameter ∷ []
 
--- What a message brings: the refusal and its parameter, the plan then requested, the reply, and the book
+-- The INFO octets that each reply stands for. A report is of its plan's record in the book as it came, and 5F C8 of the copy that runs.
+unfoldable pub replyInfo : State → List ℕ → Reply → List ℕ
+replyInfo s book (reply.CarriedOut code) = carriedOutInfo code
+replyInfo s book (reply.Refused code n parameter) = refusedInfo code n parameter
+replyInfo s book (reply.Times p) = timesInfo (planRecord (s .running .which) book p) p
+replyInfo s book (reply.Plan p) = planInfo (planRecord (s .running .which) book p) p reportPlanCode
+replyInfo s book reply.Running = planInfo (s .running .copy) (s .running .plan) reportRunningCode
+
+-- What a message brings: the refusal and its parameter, the plan then requested, which reply, and the book
 
 pub record Handling : Type 0 where
   pub handled : Handled
   pub book : List ℕ
 
-abbrev pub accepted : ℕ → Message → Handled
+abbrev pub accepted : ℕ → Reply → Handled
 accepted requested reply = record { refusal = refusal.none; parameter = 0; requested = requested; reply = reply }
 
 abbrev pub refusedWith : ℕ → ℕ → ℕ → ℕ → Handled
-refusedWith code requested n parameter = record { refusal = n; parameter = parameter; requested = requested; reply = refusedReply code n parameter }
+refusedWith code requested n parameter = record { refusal = n; parameter = parameter; requested = requested; reply = reply.Refused code n parameter }
 
 -- 5F 14 and 5F 15: what the set answered
 unfoldable pub setAs : ℕ → ℕ → Answered → Handled
 setAs code requested a =
-    pick (eqb (a .refusal) refusal.none) (accepted requested (carriedOutReply code))
+    pick (eqb (a .refusal) refusal.none) (accepted requested (reply.CarriedOut code))
     (refusedWith code requested (a .refusal) (a .field))
 
 -- what the message reader refuses is refused so; else h
@@ -73,24 +81,24 @@ unlessUnread code requested info h =
 -- "5F 18 notes the requested plan. Refused 13: .. 5F 18 of one not ready."
 unfoldable pub runAs : Which → ℕ → ℕ → List ℕ → ℕ → Handled
 runAs which code requested book p =
-    pick (readyIn which book p) (accepted p (carriedOutReply code))
+    pick (readyIn which book p) (accepted p (reply.CarriedOut code))
     (refusedWith code requested refusal.notReady planAt)
 
 -- "Refused 13: 5F 44 of an empty plan"
 unfoldable pub queryTimesAs : Which → ℕ → ℕ → List ℕ → ℕ → Handled
 queryTimesAs which code requested book p =
     pick (eqb (standingOf (planRecord which book p)) empty) (refusedWith code requested refusal.notReady planAt)
-    (accepted requested (reportTimesOf (planRecord which book p) p))
+    (accepted requested (reply.Times p))
 
 -- "5F 45 .. of one not ready"
 unfoldable pub queryPlanAs : Which → ℕ → ℕ → List ℕ → ℕ → Handled
 queryPlanAs which code requested book p =
-    pick (readyIn which book p) (accepted requested (reportPlanOf (planRecord which book p) p reportPlanCode))
+    pick (readyIn which book p) (accepted requested (reply.Plan p))
     (refusedWith code requested refusal.notReady planAt)
 
 -- "5F 48 query running plan": the copy that runs
-unfoldable pub queryRunningAs : ℕ → Running → Handled
-queryRunningAs requested u = accepted requested (reportPlanOf (u .copy) (u .plan) reportRunningCode)
+abbrev pub queryRunningAs : ℕ → Handled
+queryRunningAs requested = accepted requested reply.Running
 
 -- a message that leaves the book, one of these that is read first, and a set
 abbrev pub reads : Handled → List ℕ → Handling
@@ -114,5 +122,5 @@ handlingOf s book info =
     (pick (eqb code runCode) (asks code requested book info (runAs which code requested book p))
     (pick (eqb code queryTimesCode) (asks code requested book info (queryTimesAs which code requested book p))
     (pick (eqb code queryPlanCode) (asks code requested book info (queryPlanAs which code requested book p))
-    (pick (eqb code queryRunningCode) (asks code requested book info (queryRunningAs requested (s .running)))
+    (pick (eqb code queryRunningCode) (asks code requested book info (queryRunningAs requested))
     (reads (refusedWith code requested refusal.codeNotHandled 0) book))))))

@@ -17,7 +17,6 @@ use Rattle.frame.specs.Frame.{Frame, message, ack, nak, infoMost, written}
 use Rattle.frame.specs.Decoder.{Decoder, Taken, takenOf, idledOf}
 use Rattle.frame.specs.Run.{Outcome, nothing, refused, sound, outcomeOf}
 use Rattle.message.specs.Reader.{codeIn}
-use Rattle.message.specs.Writer.{infoOf}
 use Rattle.record.specs.Record.{bookLen}
 use Rattle.controller.specs.declared.Event.{Event}
 use Rattle.controller.specs.declared.Event.the-variants as event
@@ -25,7 +24,7 @@ use Rattle.controller.specs.declared.Told.{Told}
 use Rattle.controller.specs.declared.HeldAnswer.{HeldAnswer}
 use Rattle.controller.specs.declared.Handled.{Handled}
 use Rattle.controller.specs.State.{State, joined, keptLen, all, outputLen, soundOf, withDecoder}
-use Rattle.controller.specs.Handling.{Handling, carriedOutCode, refusedCode, handlingOf}
+use Rattle.controller.specs.Handling.{Handling, carriedOutCode, refusedCode, replyInfo, handlingOf}
 
 -- The octet call
 
@@ -129,27 +128,27 @@ abbrev pub leaves : List ℕ → Result → ResultAndBook
 leaves book w = record { result = w; book = book }
 
 -- "Our SEQ .. grows by one per message frame written, and after 255 comes 0."
-unfoldable pub repliedOf : State → ℕ → ℕ → Handled → Result
-repliedOf s seq addr h =
+unfoldable pub repliedOf : State → List ℕ → ℕ → ℕ → Handled → Result
+repliedOf s book seq addr h =
     record {
       refusal = h .refusal;
       parameter = h .parameter;
       event = event.Nothing;
-      frames = pick (eqb addr (s .own)) (repliesOf seq (s .seq) (s .own) (infoOf (h .reply))) [];
+      frames = pick (eqb addr (s .own)) (repliesOf seq (s .seq) (s .own) (replyInfo s book (h .reply))) [];
       seq = pick (eqb addr (s .own)) ((s .seq + 1) % 256) (s .seq);
       requested = h .requested;
     }
 
 -- a message carried out and replied to
-abbrev pub handledOf : State → ℕ → ℕ → Handling → ResultAndBook
-handledOf s seq addr h = record { result = repliedOf s seq addr (h .handled); book = h .book }
+abbrev pub handledOf : State → List ℕ → ℕ → ℕ → Handling → ResultAndBook
+handledOf s book seq addr h = record { result = repliedOf s book seq addr (h .handled); book = h .book }
 
 -- a sound message frame; "A sound frame for another address is dropped silently."
 unfoldable pub messageOf : State → ℕ → ℕ → List ℕ → List ℕ → ResultAndBook
 messageOf s seq addr info book =
     pick (forUs (s .own) addr)
     (pick (isAnswer (codeIn info)) (leaves book (unchanged s refusal.none event.Nothing (acks (s .own) seq addr)))
-    (handledOf s seq addr (handlingOf s book info)))
+    (handledOf s book seq addr (handlingOf s book info)))
     (leaves book (unchanged s refusal.none event.Nothing []))
 
 -- "A sound ACK or NAK for us is handed to the host as an event and changes nothing; one to FFFF is dropped."

@@ -4,7 +4,6 @@
 use frame::INFO_MOST;
 use frame::decoder::Head;
 use lamps::Row;
-use message::Message;
 use plan::Which;
 use record::RECORD_LEN;
 
@@ -65,10 +64,23 @@ pub struct HeldShown {
     pub row: Row,
 }
 
-// What a message brought: the refusal and its parameter, the plan then requested, and the reply.
+// Which reply a message gets, 01, "Messages". A report is named by its plan: what it reports is read from the plan's record as it is written.
+pub enum Reply {
+    // 0F 80, of a message with this code
+    CarriedOut(u16),
+    // 0F 81: the code, the error number and the parameter number
+    Refused(u16, u8, u8),
+    // 5F C4 and 5F C5 of a plan
+    Times(u8),
+    Plan(u8),
+    // 5F C8
+    Running,
+}
+
+// What a message brought: the refusal and its parameter, the plan then requested, and which reply.
 pub struct Handled {
     pub refusal: u8,
     pub parameter: u8,
     pub requested: u8,
-    pub reply: Message,
+    pub reply: Reply,
 }

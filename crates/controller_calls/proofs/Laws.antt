@@ -12,18 +12,13 @@ use lib.Dec.{eqb, leb}
 use lib.ListN.{length, getD, take, drop-of-length-le}
 use lib.Seq.{sets-eq, take-all}
 use Rattle.octets.specs.Choice.{pick, both}
-use Rattle.octets.specs.First.{firstOf}
 use Rattle.octets.specs.Part.{PartOf}
 use Rattle.octets.specs.Put.{Put}
 use Rattle.octets.specs.Refusal as refusal
 use Rattle.octets.proofs.Laws.{put-stored}
-use Rattle.message.specs.declared.Message.{Message}
 use Rattle.message.specs.declared.Read.{Read}
 use Rattle.message.specs.Names.{planAt}
-use Rattle.message.specs.Reader.{noMessage, codeIn, bodyIn, readOf}
-use Rattle.message.specs.Writer.{writable}
-use Rattle.message.specs.Layouts.{layouts, layoutAt, numberOf}
-use Rattle.message.proofs.WrittenSo.{writable-in}
+use Rattle.message.specs.Reader.{codeIn, bodyIn, readOf}
 use Rattle.plan.specs.declared.setting.Answered.{Answered}
 use Rattle.record.specs.Record.{recordLen, plansMost, bookLen, empty, ready, cycleOf}
 use Rattle.checks.specs.Standing.{standingOf}
@@ -32,17 +27,18 @@ use Rattle.plan.specs.BuiltIn.{builtIn}
 use Rattle.plan.specs.Reading.{recordStart, recordAt, same, eitherBuiltIn, readRefusal, PartRead}
 use Rattle.plan.specs.Setting.{setTimesCode, setPlanCode, setTimesOf, setPlanOf, planIn}
 use Rattle.plan.specs.Setting as setting
-use Rattle.plan.specs.Reporting.{reportPlanCode, reportTimesOf, reportPlanOf}
 use Rattle.plan.proofs.Laws.{same-is, length-built-in, is-either, refused-range, read-zero, refused-empty, read-set}
 use Rattle.checks.proofs.Stands.{some-long, some-state}
-use Rattle.plan.proofs.Reportable.{report-times-writable, report-plan-writable, standing-none, standing-past}
+use Rattle.plan.proofs.Reportable.{standing-none, standing-past}
 use Rattle.plan.proofs.Cases.{built-in-stands}
 use Rattle.controller.specs.declared.Running.{Running}
 use Rattle.controller.specs.declared.Handled.{Handled}
+use Rattle.controller.specs.declared.Reply.the-variants as reply
 use Rattle.controller.specs.State.{State, runningSound, recordWith, planRecord, startedAt}
-use Rattle.controller.specs.Handling.{runCode, queryTimesCode, queryPlanCode, queryRunningCode, carriedOutReply, accepted, refusedWith, setAs, runAs, queryTimesAs, queryPlanAs, queryRunningAs, handlingOf}
+use Rattle.controller.specs.Handling.{runCode, queryTimesCode, queryPlanCode, queryRunningCode, accepted, refusedWith, setAs, runAs, queryTimesAs, queryPlanAs, queryRunningAs, handlingOf}
 use Rattle.controller.specs.Seconds.{pickedOf}
 use Rattle.controller.proofs.Laws.{picked-ready, picked-stays}
+use Rattle.controller.proofs.Replying.{plan-in-book}
 use Rattle.controller_calls.specs.Handling.{HandlingLeaves, Asks}
 use Rattle.controller_calls.specs.Stepper.{RecordOf}
 
@@ -108,32 +104,6 @@ module _ (book copy r : RefT (List ℕ)) (p : ℕ) (f : PartRead book copy p r) 
 
 -- Messages
 
--- what may be written has a code
-no-code : (m : Message) → writable m ≡ true → m .code ≡ 0 → ⊥
-unfolding numberOf firstOf layoutAt layouts
-no-code m w e = let z : numberOf (m .code) ≡ 0 = ap numberOf e in omega (arith, z, writable-in m w .listed .first)
-
--- a report has a code exactly where there is something to report
-module _ (rec : List ℕ) (p : ℕ) where
-  times-no-code : standingOf rec ≡ empty → reportTimesOf rec p .code ≡ 0
-  unfolding reportTimesOf noMessage
-  times-no-code e = rw (eq-eqb (standingOf rec) empty e)
-
-  plan-no-code : (standingOf rec ≡ ready → ⊥) → reportPlanOf rec p reportPlanCode .code ≡ 0
-  unfolding reportPlanOf noMessage
-  plan-no-code n = rw (ne-eqb (standingOf rec) ready n)
-
-  module _ (hp : p ≤ plansMost) where
-    times-none-is : reportTimesOf rec p .code ≡ 0 → standingOf rec ≡ empty
-    times-none-is e = by (ℕ-discrete (standingOf rec) empty)
-      where
-        by : Dec (standingOf rec ≡ empty) → standingOf rec ≡ empty
-        by (yes z) = z
-        by (no n) = absurd (no-code (reportTimesOf rec p) (report-times-writable rec p hp n) e)
-
-    plan-none-is : reportPlanOf rec p reportPlanCode .code ≡ 0 → standingOf rec ≡ ready → ⊥
-    plan-none-is e r = no-code (reportPlanOf rec p reportPlanCode) (report-plan-writable rec p reportPlanCode hp r (inl refl)) e
-
 -- the octets of a plan's record
 part-is : (book copy r : RefT (List ℕ)) (p : ℕ) → length (now book) ≡ bookLen → p ≤ plansMost
     → pick (both (eqb (length (now book)) bookLen) (leb p plansMost)) (pick (eqb p 0) (PartOf copy 0 (length (now copy)) r) (PartOf book (recordStart p) recordLen r)) (PartOf copy 0 0 r)
@@ -144,12 +114,12 @@ part-is book copy r p hb hp f = by (eqb p 0) (rw (eq-eqb (length (now book)) boo
     by true q = q .octets ∙ take-all (length (now copy)) (now copy) (omega arith)
     by false q = q .octets
 
-module _ (which : Which) (code requested : ℕ) (book copy r : RefT (List ℕ)) (p : ℕ) (ez : now copy ≡ builtIn which) (hb : length (now book) ≡ bookLen) (hp : p ≤ plansMost)
+module _ (which : Which) (book copy r : RefT (List ℕ)) (p : ℕ) (ez : now copy ≡ builtIn which) (hb : length (now book) ≡ bookLen) (hp : p ≤ plansMost)
     (f : pick (both (eqb (length (now book)) bookLen) (leb p plansMost)) (pick (eqb p 0) (PartOf copy 0 (length (now copy)) r) (PartOf book (recordStart p) recordLen r)) (PartOf copy 0 0 r)) where
   rec-is : now r ≡ planRecord which (now book) p
   rec-is = part-is book copy r p hb hp f ∙ rw ez
 
-  module _ {n : ℕ} (en : n ≡ standingOf (now r)) where
+  module _ (code requested : ℕ) {n : ℕ} (en : n ≡ standingOf (now r)) where
     stands : n ≡ standingOf (planRecord which (now book) p)
     stands = en ∙ ap standingOf rec-is
 
@@ -157,42 +127,37 @@ module _ (which : Which) (code requested : ℕ) (book copy r : RefT (List ℕ)) 
     unfolding runAs
     run-13 g = rw (← stands, ne-eqb n ready g)
 
-    pub run-done : n ≡ ready → {w : Message} → w ≡ carriedOutReply code → accepted p w ≡ runAs which code requested (now book) p
+    pub run-done : n ≡ ready → accepted p (reply.CarriedOut code) ≡ runAs which code requested (now book) p
     unfolding runAs
-    run-done g ew = rw (← stands, eq-eqb n ready g, ew)
+    run-done g = rw (← stands, eq-eqb n ready g)
 
-  abbrev rec-due : List ℕ
-  rec-due = planRecord which (now book) p
-
-  module _ {w : Message} (ew : w ≡ reportTimesOf (now r) p) where
-    times-is : w ≡ reportTimesOf rec-due p
-    times-is = ew ∙ ap (λ (l : List ℕ). reportTimesOf l p) rec-is
-
-    pub times-13 : w .code ≡ 0 → refusedWith code requested refusal.notReady planAt ≡ queryTimesAs which code requested (now book) p
+    pub times-13 : n ≡ empty → refusedWith code requested refusal.notReady planAt ≡ queryTimesAs which code requested (now book) p
     unfolding queryTimesAs
-    times-13 e = let z : reportTimesOf rec-due p .code ≡ 0 = rw times-is at e in rw (eq-eqb (standingOf rec-due) empty (times-none-is rec-due p hp z))
+    times-13 g = rw (← stands, eq-eqb n empty g)
 
-    pub times-done : (w .code ≡ 0 → ⊥) → accepted requested w ≡ queryTimesAs which code requested (now book) p
+    pub times-done : (n ≡ empty → ⊥) → accepted requested (reply.Times p) ≡ queryTimesAs which code requested (now book) p
     unfolding queryTimesAs
-    times-done n =
-        let g : standingOf rec-due ≡ empty → ⊥ = λ (z : standingOf rec-due ≡ empty). n (rw times-is (times-no-code rec-due p z)) in
-        rw (ne-eqb (standingOf rec-due) empty g, times-is)
+    times-done g = rw (← stands, ne-eqb n empty g)
 
-  module _ {w : Message} (ew : w ≡ reportPlanOf (now r) p reportPlanCode) where
-    plan-is : w ≡ reportPlanOf rec-due p reportPlanCode
-    plan-is = ew ∙ ap (λ (l : List ℕ). reportPlanOf l p reportPlanCode) rec-is
-
-    pub plan-13 : w .code ≡ 0 → refusedWith code requested refusal.notReady planAt ≡ queryPlanAs which code requested (now book) p
+    pub plan-13 : (n ≡ ready → ⊥) → refusedWith code requested refusal.notReady planAt ≡ queryPlanAs which code requested (now book) p
     unfolding queryPlanAs
-    plan-13 e = let z : reportPlanOf rec-due p reportPlanCode .code ≡ 0 = rw plan-is at e in rw (ne-eqb (standingOf rec-due) ready (plan-none-is rec-due p hp z))
+    plan-13 g = rw (← stands, ne-eqb n ready g)
 
-    pub plan-done : (w .code ≡ 0 → ⊥) → accepted requested w ≡ queryPlanAs which code requested (now book) p
+    pub plan-done : n ≡ ready → accepted requested (reply.Plan p) ≡ queryPlanAs which code requested (now book) p
     unfolding queryPlanAs
-    plan-done n = by (ℕ-discrete (standingOf rec-due) ready)
-      where
-        by : Dec (standingOf rec-due ≡ ready) → accepted requested w ≡ pick (eqb (standingOf rec-due) ready) (accepted requested (reportPlanOf rec-due p reportPlanCode)) (refusedWith code requested refusal.notReady planAt)
-        by (yes e) = rw (eq-eqb (standingOf rec-due) ready e, plan-is)
-        by (no g) = absurd (n (rw plan-is (plan-no-code rec-due p g)))
+    plan-done g = rw (← stands, eq-eqb n ready g)
+
+-- the record of a plan that does not stand empty, and of one that stands ready, is the part that was found for it
+module _ (which : Which) (book copy r : RefT (List ℕ)) (p : ℕ) (ez : now copy ≡ builtIn which) (hb : length (now book) ≡ bookLen) where
+  pub there-is : (standingOf (planRecord which (now book) p) ≡ empty → ⊥)
+      → pick (both (eqb (length (now book)) bookLen) (leb p plansMost)) (pick (eqb p 0) (PartOf copy 0 (length (now copy)) r) (PartOf book (recordStart p) recordLen r)) (PartOf copy 0 0 r)
+      → now r ≡ planRecord which (now book) p
+  there-is n f = rec-is which book copy r p ez hb (plan-in-book which (now book) p hb n) f
+
+  pub ready-is : standingOf (planRecord which (now book) p) ≡ ready
+      → pick (both (eqb (length (now book)) bookLen) (leb p plansMost)) (pick (eqb p 0) (PartOf copy 0 (length (now copy)) r) (PartOf book (recordStart p) recordLen r)) (PartOf copy 0 0 r)
+      → now r ≡ planRecord which (now book) p
+  ready-is e f = there-is (λ n. absurd (omega (arith, e, n))) f
 
 -- one that leaves the book
 module _ (info : List ℕ) where
@@ -266,7 +231,7 @@ module _ (s : State) (book info : List ℕ) {code : ℕ} (ec : code ≡ codeIn i
         unfolding handlingOf
         asked-plan e eh = rw (e, ← em, eq-eqb (m .refusal) refusal.none z) (record { handled = eh ∙ rw (ec ∙ e, ep); book = refl })
 
-      pub asked-running : codeIn info ≡ queryRunningCode → h ≡ queryRunningAs (s .requested) (s .running) → HandlingLeaves (handlingOf s book info) h book
+      pub asked-running : codeIn info ≡ queryRunningCode → h ≡ queryRunningAs (s .requested) → HandlingLeaves (handlingOf s book info) h book
       unfolding handlingOf
       asked-running e eh = rw (e, ← em, eq-eqb (m .refusal) refusal.none z) (record { handled = eh; book = refl })
 

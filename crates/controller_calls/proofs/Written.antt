@@ -1,42 +1,55 @@
 -- What the frame and message writers leave in an output that is long enough, and what is told of it.
 use Prim.Native.Nat.{ℕ, _+_, _%_, _≤_}
-use mathlib.Core.Path.{_≡_, refl, sym, ap, _∙_}
+use mathlib.Core.Path.{_≡_, refl, sym, ap, subst, _∙_}
 use mathlib.Core.Bool.{true, false}
 use mathlib.Core.List.{List, [], _∷_, _++_, append-nil}
 use native.Mathlib.Omega.{arith}
-use borrow.Author.Tests.{eq-eqb, ne-eqb, le-leb}
+use borrow.Author.Tests.{eq-eqb, ne-eqb, eqb-true, eqb-false, le-leb}
 use lib.Dec.{eqb}
-use lib.ListN.{length, take, drop, replicate, length-append, length-replicate}
-use lib.Seq.{sets, sets-eq, length-sets, take-at}
+use lib.ListN.{length, take, length-append}
+use lib.Seq.{sets, length-sets, length-take-le}
+use Rattle.octets.specs.Part.{codeLen}
 use Rattle.octets.specs.Put.{Stored}
 use Rattle.octets.specs.Refusal as refusal
 use Rattle.octets.specs.declared.Written.{Written}
 use Rattle.octets.specs.Writing.{Writing, WriterLeaves, writtenAs}
-use Rattle.octets.proofs.Laws.{stored-then}
+use Rattle.octets.proofs.Laws.{pick-by, stored-then}
 use Rattle.frame.specs.declared.Kind.{Kind}
 use Rattle.frame.specs.declared.Kind.the-variants.{Message, Ack, Nak}
 use Rattle.frame.specs.Frame.{Frame, message, ack, nak, infoFits, infoLeast, infoMost, written}
+use Rattle.frame.specs.declared.decoder.Found.{Found}
+use Rattle.frame.specs.declared.decoder.Found.the-variants as found
 use Rattle.frame.specs.declared.decoder.Head.{Head}
 use Rattle.frame.specs.declared.decoder.HeadTaken.{HeadTaken}
 use Rattle.frame.specs.Run.{foundMeans, outcomeOf}
 use Rattle.frame.specs.Writer as frame
 use Rattle.frame.specs.Decoder.{Decoder, Taken, TakenLeaves}
-use Rattle.message.specs.declared.Message as message
-use Rattle.message.specs.Writer.{writable, infoOf}
-use Rattle.message.specs.Writer as writer
+use Rattle.message.specs.Reader.{codeIn, bodyIn, readOf}
+use Rattle.record.specs.Record.{empty, ready}
+use Rattle.checks.specs.Standing.{standingOf}
+use Rattle.plan.specs.Setting.{Setting, planIn, setTimesOf, setPlanOf}
+use Rattle.plan.specs.Reporting.{reportPlanCode, reportRunningCode, timesInfo, planInfo}
+use Rattle.plan.proofs.Reports.{times-most, plan-most}
 use Rattle.controller.specs.declared.Event.{Event}
 use Rattle.controller.specs.declared.Event.the-variants as event
 use Rattle.controller.specs.declared.Handled.{Handled}
 use Rattle.controller.specs.declared.Held.{Held}
 use Rattle.controller.specs.declared.HeldAnswer.{HeldAnswer}
-use Rattle.controller.specs.State.{State, joined, outputLen}
-use Rattle.controller.specs.Handling.{Handling}
-use Rattle.controller.specs.Replies.{Answer, CallLeaves, sent, naks, acks, errOf, repliesOf, unchanged, repliedOf, handledOf, doneOf}
-use Rattle.controller.proofs.Replying.{info-fits, ack-fits, nak-fits}
+use Rattle.controller.specs.declared.Reply.{Reply}
+use Rattle.controller.specs.declared.Reply.the-variants as reply
+use Rattle.controller.specs.State.{State, joined, outputLen, planRecord}
+use Rattle.controller.specs.Handling.{Handling, replyInfo, setAs, unlessUnread, runAs, queryTimesAs, queryPlanAs, handlingOf}
+use Rattle.controller.specs.Replies.{Answer, CallLeaves, CanFind, sent, naks, acks, errOf, repliesOf, unchanged, repliedOf, handledOf, doneOf}
+use Rattle.controller.proofs.Replying.{handling-by, reply-as-came, ack-fits, nak-fits, sent-most}
 use Rattle.controller_calls.specs.declared.replies.ResultCounted.{ResultCounted}
-use Rattle.controller_calls.specs.Handling.{HandlingLeaves}
-use Rattle.controller_calls.specs.Replies.{ResultWritten, ResultAndBookLeft, unchangedAs, RepliedWith, BroughtWith}
-use Rattle.controller_calls.proofs.Writable.{reply-frames-fit}
+use Rattle.controller_calls.specs.Handling.{HandlingLeaves, Reportable}
+use Rattle.controller_calls.specs.Replies.{ResultWritten, ResultAndBookLeft, unchangedAs, ReplyWritten, ReplyStored, RepliedWith, BroughtWith}
+
+-- What the decoder finds
+
+-- INFO of a message that is found is as long as it says
+pub info-found : {f : Found} {seq addr n : ℕ} (kept : List ℕ) → f ≡ found.Message seq addr n → CanFind f → length kept ≡ infoMost → (codeLen ≤ n) × (length (take n kept) ≡ n)
+info-found kept e c l = let h = subst CanFind e c in (h .0, length-take-le _ kept (omega (arith, h .1, l)))
 
 -- Frames
 
@@ -69,22 +82,6 @@ sent-two f g s t = rw (append-nil (written g)) (stored-then s t)
 
 pub sent-none : {out : List ℕ} → Stored (sent []) 0 out 0 out
 sent-none {out} = record { place = refl; holds = refl; long = refl; fits = omega arith }
-
--- The reply's INFO
-
-module _ (m : message.Message) {r : Written} {info : List ℕ} (h : writable m ≡ true) (w : WriterLeaves (writer.writeMessage m 0 (replicate infoMost 0)) r info) where
-  info-written : writer.writeMessage m 0 (replicate infoMost 0) ≡ stored-as (infoOf m) 0 (replicate infoMost 0)
-  unfolding writer.writeMessage
-  info-written = rw h (written-fits (infoOf m) 0 (replicate infoMost 0) (omega (arith, info-fits m h .1, length-replicate {A = ℕ} infoMost 0)))
-
-  pub info-count : r .count ≡ length (infoOf m)
-  info-count = ap (λ (x : Written). x .count) (w .answer ∙ ap (λ (x : Writing). x .answer) info-written)
-
-  pub info-taken : take (r .count) info ≡ infoOf m
-  info-taken =
-      let e : info ≡ infoOf m ++ drop (0 + length (infoOf m)) (replicate infoMost 0) =
-      (w .out ∙ ap (λ (x : Writing). x .out) info-written) ∙ sets-eq (infoOf m) (replicate infoMost 0) 0 (omega (arith, info-fits m h .1, length-replicate {A = ℕ} infoMost 0)) in
-      rw e (take-at (infoOf m) (drop (0 + length (infoOf m)) (replicate infoMost 0)) (r .count) (sym info-count))
 
 -- What is told
 
@@ -150,48 +147,95 @@ nak-other Nak own n seq addr out g = sent-none
 
 -- The reply
 
-module _ (seq ours own : ℕ) (m : message.Message) (out : List ℕ) (h : writable m ≡ true) (l : outputLen ≤ length out)
-    {r : Written} {info : List ℕ} (wi : WriterLeaves (writer.writeMessage m 0 (replicate infoMost 0)) r info)
-    {a : Written} {p : List ℕ} (wa : WriterLeaves (frame.writeFrame (ack seq own) 0 out) a p) where
-  frames-most : length (written (ack seq own)) + length (written (message ours own (infoOf m))) ≤ outputLen
+-- what is there to be reported fits a frame
+info-fits : (s : Held) (book : List ℕ) (r : Reply) (kept : List ℕ) → Reportable s book r
+    → (let i = replyInfo (joined s kept) book r in (infoLeast ≤ length i) × (length i ≤ infoMost))
+unfolding replyInfo timesInfo planInfo
+info-fits s book (reply.CarriedOut code) kept g = (omega arith, omega arith)
+info-fits s book (reply.Refused code n m) kept g = (omega arith, omega arith)
+info-fits s book (reply.Times p) kept g = (omega arith, times-most (planRecord (s .running .which) book p) g p)
+info-fits s book (reply.Plan p) kept g = (omega arith, plan-most (planRecord (s .running .which) book p) g p reportPlanCode)
+info-fits s book reply.Running kept g = (omega arith, plan-most (s .running .copy) g (s .running .plan) reportRunningCode)
+
+module _ (s : Held) (seq : ℕ) (book : List ℕ) (which : Reply) (out : List ℕ) (g : Reportable s book which) (l : outputLen ≤ length out)
+    {a : Written} {p : List ℕ} (wa : WriterLeaves (frame.writeFrame (ack seq (s .own)) 0 out) a p) (kept : List ℕ) where
+  abbrev info : List ℕ
+  info = replyInfo (joined s kept) book which
+
+  abbrev first : Frame
+  first = ack seq (s .own)
+
+  abbrev second : Frame
+  second = message (s .seq) (s .own) info
+
+  frames-most : length (written first) + length (written second) ≤ outputLen
   frames-most =
-      let e : length (sent (repliesOf seq ours own (infoOf m))) ≡ length (written (ack seq own)) + length (written (message ours own (infoOf m))) =
-      rw (append-nil (written (message ours own (infoOf m)))) (length-append (written (ack seq own)) (written (message ours own (infoOf m)))) in
-      omega (arith, e, reply-frames-fit seq ours own m h)
+      let e : length (sent (first ∷ second ∷ [])) ≡ length (written first) + length (written second) = rw (append-nil (written second)) (length-append (written first) (written second)) in
+      omega (arith, e, sent-most seq (s .seq) (s .own) info (info-fits s book which kept g .1))
 
-  ack-in : Stored (written (ack seq own)) 0 out (a .count) p
-  ack-in = frame-stored (ack seq own) 0 out refl (omega (arith, frames-most, l)) wa (omega arith)
+  ack-in : Stored (written first) 0 out (a .count) p
+  ack-in = frame-stored first 0 out refl (omega (arith, frames-most, l)) wa (omega arith)
 
-  module _ {w : Written} {o : List ℕ} (wm : WriterLeaves (frame.writeFrame (message ours own (take (r .count) info)) (a .count) p) w o) where
-    info-right : infoFits (message ours own (infoOf m)) ≡ true
-    info-right = let f = info-fits m h in rw (le-leb infoLeast (length (infoOf m)) (f .0), le-leb (length (infoOf m)) infoMost (f .1))
+  module _ {w : Written} {o : List ℕ} (wm : ReplyWritten s book which (a .count) p w o) where
+    info-right : infoFits second ≡ true
+    info-right = let f = info-fits s book which kept g in rw (le-leb infoLeast (length info) (f .0), le-leb (length info) infoMost (f .1))
 
-    wrote-it : WriterLeaves (frame.writeFrame (message ours own (infoOf m)) (a .count) p) w o
-    wrote-it = rw (info-taken m h wi) at wm
-
-    message-room : a .count + length (written (message ours own (infoOf m))) ≤ length p
-    message-room = omega (arith, frames-most, l, ack-in .long, ack-in .place)
+    message-room : a .count + length (written second) ≤ length p
+    message-room = omega (arith, frames-most, l, ack-in .place, ack-in .long)
 
     pub reply-count : a .count + w .count ≤ outputLen
-    reply-count = omega (arith, frame-count (message ours own (infoOf m)) (a .count) p info-right message-room wrote-it, frames-most, ack-in .place)
+    reply-count = omega (arith, frame-count second (a .count) p info-right message-room (wm kept), frames-most, ack-in .place)
 
-    pub reply-stored : Stored (sent (repliesOf seq ours own (infoOf m))) 0 out (a .count + w .count) o
-    reply-stored = sent-two (ack seq own) (message ours own (infoOf m)) ack-in (frame-stored (message ours own (infoOf m)) (a .count) p info-right message-room wrote-it refl)
+    pub reply-stored : Stored (sent (repliesOf seq (s .seq) (s .own) info)) 0 out (a .count + w .count) o
+    reply-stored = sent-two first second ack-in (frame-stored second (a .count) p info-right message-room (wm kept) refl)
 
-module _ (s : Held) (seq addr : ℕ) (h : Handled) (out : List ℕ) where
+module _ (s : Held) (book : List ℕ) (seq addr : ℕ) (h : Handled) (out : List ℕ) where
   abbrev replyAs : ℕ → ℕ → ResultCounted
   replyAs count q = record { told = record { refusal = h .refusal; parameter = h .parameter; event = event.Nothing; count = count }; seq = q; requested = h .requested }
 
-  pub replied-ours : eqb addr (s .own) ≡ true → {count q : ℕ} {o : List ℕ} → Stored (sent (repliesOf seq (s .seq) (s .own) (infoOf (h .reply)))) 0 out count o
-      → q ≡ (s .seq + 1) % 256 → RepliedWith s seq addr h out (replyAs count q) o
+  pub replied-ours : eqb addr (s .own) ≡ true → {count q : ℕ} {o : List ℕ} → ReplyStored s seq book (h .reply) out count o → q ≡ (s .seq + 1) % 256
+      → RepliedWith s book seq addr h out (replyAs count q) o
   unfolding repliedOf
-  replied-ours e p eq kept = rw e (record { told = rw eq (stored-count p (λ k. replyAs k ((s .seq + 1) % 256))); out = p .holds })
+  replied-ours e p eq kept = rw e (record { told = rw eq (stored-count (p kept) (λ k. replyAs k ((s .seq + 1) % 256))); out = p kept .holds })
 
-  pub replied-all : eqb addr (s .own) ≡ false → RepliedWith s seq addr h out (replyAs 0 (s .seq)) out
+  pub replied-all : eqb addr (s .own) ≡ false → RepliedWith s book seq addr h out (replyAs 0 (s .seq)) out
   unfolding repliedOf
   replied-all e kept = rw e (record { told = refl; out = refl })
 
--- a message carried out, and what is told of it
-pub handled-brings : (s : Held) (seq addr : ℕ) {h : Handled} (w : Handling) {out : List ℕ} {r : ResultCounted} {b o : List ℕ} → RepliedWith s seq addr h out r o → HandlingLeaves w h b
-    → (kept : List ℕ) → ResultAndBookLeft (handledOf (joined s kept) seq addr w) out r b o
-handled-brings s seq addr w t e kept = record { tells = rw (e .handled) at (t kept); book = e .book }
+-- A message carried out
+
+module _ (s : Held) (book info kept : List ℕ) where
+  abbrev due : Handling
+  due = handlingOf (joined s kept) book info
+
+  -- what is left in the book is that which its reply reports, and is as it came
+  module _ (r : standingOf (s .running .copy) ≡ ready) where
+    abbrev There : List ℕ → Handled → Type 0
+    There b h = Reportable s b (h .reply)
+
+    set-there : (w : Setting) → There (w .book) (setAs (codeIn info) (s .requested) (w .answer))
+    unfolding setAs
+    set-there w = pick-by (There (w .book)) (eqb (w .answer .refusal) refusal.none) (λ _. tt) (λ _. tt)
+
+    read-there : (h : Handled) → There book h → There book (unlessUnread (codeIn info) (s .requested) info h)
+    read-there h w = pick-by (There book) (eqb (readOf info .refusal) refusal.none) (λ _. w) (λ _. tt)
+
+    due-there : There (due .book) (due .handled)
+    unfolding runAs queryTimesAs queryPlanAs
+    due-there =
+        let plan = planIn (bodyIn info) in
+        let rec = planRecord (s .running .which) book plan in
+        handling-by (λ h. There (h .book) (h .handled)) (joined s kept) book info (λ _. set-there (setTimesOf book info)) (λ _. set-there (setPlanOf book info))
+        (read-there _ (pick-by (There book) (eqb (standingOf rec) ready) (λ _. tt) (λ _. tt)))
+        (read-there _ (pick-by (There book) (eqb (standingOf rec) empty) (λ _. tt) (λ e. eqb-false (standingOf rec) empty e)))
+        (read-there _ (pick-by (There book) (eqb (standingOf rec) ready) (λ e. eqb-true (standingOf rec) ready e) (λ _. tt)))
+        (read-there _ r)
+        tt
+
+    pub handled-there : {h : Handled} {b : List ℕ} → HandlingLeaves due h b → Reportable s b (h .reply)
+    handled-there e = rw (e .handled, e .book) due-there
+
+  pub handled-brings : (seq addr : ℕ) {h : Handled} {out : List ℕ} {r : ResultCounted} {b o : List ℕ} → RepliedWith s b seq addr h out r o → HandlingLeaves due h b
+      → ResultAndBookLeft (handledOf (joined s kept) book seq addr due) out r b o
+  unfolding repliedOf
+  handled-brings seq addr t e = record { tells = rw (e .handled, e .book, reply-as-came (joined s kept) book info) at (t kept); book = e .book }

@@ -4,14 +4,21 @@ use mathlib.Core.Path.{_≡_}
 use mathlib.Core.List.{List}
 use lib.ListN.{length}
 use lib.Seq.{sets}
+use Rattle.octets.specs.Put.{Stored}
+use Rattle.octets.specs.declared.Written.{Written}
+use Rattle.octets.specs.Writing.{WriterLeaves}
 use Rattle.frame.specs.Decoder.{takenOf, joinedDecoder}
+use Rattle.frame.specs.Frame.{message}
 use Rattle.frame.specs.Run.{Outcome}
+use Rattle.frame.specs.Writer.{writeFrame}
 use Rattle.controller.specs.declared.Event.{Event}
 use Rattle.controller.specs.declared.Handled.{Handled}
 use Rattle.controller.specs.declared.Held.{Held}
 use Rattle.controller.specs.declared.HeldAnswer.{HeldAnswer}
+use Rattle.controller.specs.declared.Reply.{Reply}
 use Rattle.controller.specs.State.{joined}
-use Rattle.controller.specs.Replies.{sent, CallLeaves, Result, ResultAndBook, repliedOf, messageOf, broughtOf, doneOf}
+use Rattle.controller.specs.Handling.{replyInfo}
+use Rattle.controller.specs.Replies.{sent, repliesOf, CallLeaves, Result, ResultAndBook, repliedOf, messageOf, broughtOf, doneOf}
 use Rattle.controller_calls.specs.declared.replies.ResultCounted.{ResultCounted}
 
 -- what is told of it: its frames are counted
@@ -38,8 +45,17 @@ abbrev pub unchangedAs : Held → ℕ → Event → ℕ → ResultCounted
 unchangedAs s n e count = record { told = record { refusal = n; parameter = 0; event = e; count = count }; seq = s .seq; requested = s .requested }
 
 -- What a frame brings is the same whatever octets are kept for INFO: its own have been handed on.
-abbrev pub RepliedWith : Held → ℕ → ℕ → Handled → List ℕ → ResultCounted → List ℕ → Type 0
-RepliedWith s seq addr h before r after = (kept : List ℕ) → ResultWritten (repliedOf (joined s kept) seq addr h) before r after
+abbrev pub RepliedWith : Held → List ℕ → ℕ → ℕ → Handled → List ℕ → ResultCounted → List ℕ → Type 0
+RepliedWith s book seq addr h before r after = (kept : List ℕ) → ResultWritten (repliedOf (joined s kept) book seq addr h) before r after
+
+-- the frame of the reply is written, or refused, from `at` on; the ACK and that frame are stored from the start on
+abbrev pub ReplyWritten : Held → List ℕ → Reply → ℕ → List ℕ → Written → List ℕ → Type 0
+ReplyWritten s book reply at before r after =
+    (kept : List ℕ) → WriterLeaves (writeFrame (message (s .seq) (s .own) (replyInfo (joined s kept) book reply)) at before) r after
+
+abbrev pub ReplyStored : Held → ℕ → List ℕ → Reply → List ℕ → ℕ → List ℕ → Type 0
+ReplyStored s seq book reply before r after =
+    (kept : List ℕ) → Stored (sent (repliesOf seq (s .seq) (s .own) (replyInfo (joined s kept) book reply))) 0 before r after
 
 abbrev pub MessageWith : Held → ℕ → ℕ → List ℕ → List ℕ → List ℕ → ResultCounted → List ℕ → List ℕ → Type 0
 MessageWith s seq addr info book before r b after = (kept : List ℕ) → ResultAndBookLeft (messageOf (joined s kept) seq addr info book) before r b after

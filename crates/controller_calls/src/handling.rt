@@ -1,23 +1,20 @@
-// 01, "Messages": "The controller handles 14, 15, 18, 44, 45, 48": what each does, and the message that replies to it.
+// 01, "Messages": "The controller handles 14, 15, 18, 44, 45, 48": what each does, and which reply it gets.
 ghost use mathlib.Core.Path.{_≡_};
 ghost use Prim.Native.Nat.{_≤_};
 ghost use lib.ListN.{length};
 ghost use Rattle.octets.specs.Part.{codeLen};
 ghost use Rattle.message.specs.Reader.{codeIn};
 ghost use Rattle.record.specs.Record.{plansMost, bookLen};
-ghost use Rattle.controller.specs.Handling.{carriedOutReply, refusedReply, accepted, refusedWith, setAs, runAs, queryTimesAs, queryPlanAs, queryRunningAs};
+ghost use Rattle.controller.specs.Handling.{accepted, refusedWith, setAs, runAs, queryTimesAs, queryPlanAs};
 ghost use Rattle.controller_calls.specs.Handling.{HandledWith, Asks};
 use controller::Handled;
 use controller::Held;
-use controller::Running;
-use message::FIELDS_MOST;
-use message::Message;
+use controller::Reply;
 use message_calls::reader;
 use octets::refusal;
 use plan::Which;
 use plan::setting::Answered;
 use plan_calls::book;
-use plan_calls::reporting;
 use plan_calls::setting;
 
 // The first octet of the codes that are handled, and the second of each.
@@ -72,39 +69,11 @@ fn asked(s: Held, code: u16, second: u8, book: &[u8], info: &[u8]) -> Handled
         RUN => run(which, code, requested, book, plan),
         QUERY_TIMES => query_times(which, code, requested, book, plan),
         QUERY_PLAN => query_plan(which, code, requested, book, plan),
-        _ => query_running(requested, u),
+        _ => accepted(requested, Reply::Running),
     }
 }
 
-// "0F 80"
-fn carried_out_reply(code: u16) -> Message
-    ensures { λ r. ⌜ r ≡ carriedOutReply code ⌝ }
-{
-    let mut values = [0u16; FIELDS_MOST];
-    values[0] = code;
-    Message {
-        code: message::CARRIED_OUT,
-        fields: 1,
-        values,
-    }
-}
-
-// "0F 81": the code, the refusal as the error number, and the parameter.
-fn refused_reply(code: u16, n: u8, parameter: u8) -> Message
-    ensures { λ r. ⌜ r ≡ refusedReply code n parameter ⌝ }
-{
-    let mut values = [0u16; FIELDS_MOST];
-    values[0] = code;
-    values[1] = n as u16;
-    values[2] = parameter as u16;
-    Message {
-        code: message::REFUSED,
-        fields: 3,
-        values,
-    }
-}
-
-fn accepted(requested: u8, reply: Message) -> Handled
+fn accepted(requested: u8, reply: Reply) -> Handled
     ensures { λ r. ⌜ r ≡ accepted requested reply ⌝ }
 {
     Handled {
@@ -122,7 +91,7 @@ fn refused(code: u16, requested: u8, n: u8, parameter: u8) -> Handled
         refusal: n,
         parameter,
         requested,
-        reply: refused_reply(code, n, parameter),
+        reply: Reply::Refused(code, n, parameter),
     }
 }
 
@@ -133,7 +102,7 @@ fn set(code: u16, requested: u8, a: Answered) -> Handled
     if a.refusal != refusal::NONE {
         return refused(code, requested, a.refusal, a.field);
     }
-    accepted(requested, carried_out_reply(code))
+    accepted(requested, Reply::CarriedOut(code))
 }
 
 // "5F 18 notes the requested plan."
@@ -146,7 +115,7 @@ fn run(which: Which, code: u16, requested: u8, book: &[u8], plan: u8) -> Handled
     if checks::standing(rec) != record::READY {
         return refused(code, requested, refusal::NOT_READY, message::PLAN);
     }
-    accepted(plan, carried_out_reply(code))
+    accepted(plan, Reply::CarriedOut(code))
 }
 
 fn query_times(which: Which, code: u16, requested: u8, book: &[u8], plan: u8) -> Handled
@@ -155,12 +124,10 @@ fn query_times(which: Which, code: u16, requested: u8, book: &[u8], plan: u8) ->
 {
     let lent = book::built_in(which);
     let rec = book::plan_part(book, &lent, plan);
-    let report = reporting::report_times(rec, plan);
-    // An empty plan has no report.
-    if report.code == message::NO_MESSAGE {
+    if checks::standing(rec) == record::EMPTY {
         return refused(code, requested, refusal::NOT_READY, message::PLAN);
     }
-    accepted(requested, report)
+    accepted(requested, Reply::Times(plan))
 }
 
 fn query_plan(which: Which, code: u16, requested: u8, book: &[u8], plan: u8) -> Handled
@@ -169,20 +136,8 @@ fn query_plan(which: Which, code: u16, requested: u8, book: &[u8], plan: u8) -> 
 {
     let lent = book::built_in(which);
     let rec = book::plan_part(book, &lent, plan);
-    let report = reporting::report_plan(rec, plan, message::REPORT_PLAN);
-    // A plan that is not ready has none.
-    if report.code == message::NO_MESSAGE {
+    if checks::standing(rec) != record::READY {
         return refused(code, requested, refusal::NOT_READY, message::PLAN);
     }
-    accepted(requested, report)
-}
-
-fn query_running(requested: u8, u: Running) -> Handled
-    ensures { λ r. ⌜ r ≡ queryRunningAs requested u ⌝ }
-{
-    let copy = u.copy;
-    accepted(
-        requested,
-        reporting::report_plan(&copy, u.plan, message::REPORT_RUNNING),
-    )
+    accepted(requested, Reply::Plan(plan))
 }

@@ -1,6 +1,7 @@
 // 01, "Replies" and "Lamps and seconds": the controller's calls. A call is refused by the first of 7, 8 and 9 that it
 // can meet, or done.
 mod handling;
+mod info;
 mod replies;
 mod soundness;
 mod stepper;

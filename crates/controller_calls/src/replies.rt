@@ -8,19 +8,20 @@ ghost use Rattle.octets.specs.Put.{Stored};
 ghost use Rattle.frame.specs.Frame.{infoMost};
 ghost use Rattle.frame.specs.Decoder.{infoGoesOn, takenOf, joinedDecoder};
 ghost use Rattle.frame.specs.Run.{foundMeans};
-ghost use Rattle.message.specs.Writer.{writable, infoOf};
 ghost use Rattle.record.specs.Record.{plansMost, bookLen, ready};
 ghost use Rattle.checks.specs.Standing.{standingOf};
 ghost use Rattle.controller.specs.State.{joined, outputLen, soundOf};
-ghost use Rattle.controller.specs.Replies.{CallLeaves, sent, errOf, naks, acks, forUs, isAnswer, eventFor, repliesOf, CanFind, doneOf};
-ghost use Rattle.controller_calls.specs.Handling.{Sendable};
-ghost use Rattle.controller_calls.specs.Replies.{unchangedAs, RepliedWith, MessageWith, BroughtWith, KeptWith};
+ghost use Rattle.controller.specs.Replies.{CallLeaves, sent, errOf, naks, acks, forUs, isAnswer, eventFor, CanFind, doneOf};
+ghost use Rattle.controller_calls.specs.Handling.{Reportable};
+ghost use Rattle.controller_calls.specs.Replies.{unchangedAs, ReplyStored, RepliedWith, MessageWith, BroughtWith, KeptWith};
 use crate::handling;
+use crate::info;
 use controller::ALL;
 use controller::Event;
 use controller::Handled;
 use controller::Held;
 use controller::HeldAnswer;
+use controller::Reply;
 use controller::Told;
 use frame::INFO_MOST;
 use frame::Kind;
@@ -28,7 +29,6 @@ use frame::decoder::Found;
 use frame::decoder::Head;
 use frame_calls::decoder;
 use frame_calls::writer;
-use message::Message;
 use octets::refusal;
 
 // ERR of a NAK for refusal 3; for 1 and 2 it is the refusal itself.
@@ -170,8 +170,8 @@ fn message_taken(
         let count = ack(s.own, seq, addr, out);
         return unchanged(s, refusal::NONE, Event::Nothing, count);
     }
-    let h = handling::carry_out(s, book, info);
-    replied(s, seq, addr, h, out)
+    let h = handling::carry_out(s, &mut *book, info);
+    replied(s, seq, addr, h, book, out)
 }
 
 fn for_us(own: u16, addr: u16) -> bool
@@ -204,16 +204,17 @@ fn ack(own: u16, seq: u8, addr: u16, out: &mut [u8]) -> usize
 }
 
 // "A sound message frame for us writes an ACK with the received SEQ, then one message frame with our next SEQ."
-fn replied(s: Held, seq: u8, addr: u16, h: Handled, out: &mut [u8]) -> ResultCounted
-    requires { ⌜ (Sendable h) × (outputLen ≤ length (now out)) ⌝ }
-    ensures { λ r. ⌜ RepliedWith s seq addr h (now (out .entry)) r (now (out .exit)) ⌝ }
+fn replied(s: Held, seq: u8, addr: u16, h: Handled, book: &[u8], out: &mut [u8]) -> ResultCounted
+    requires { ⌜ (length (now book) ≡ bookLen) × (Reportable s (now book) (h .reply)) × (outputLen ≤ length (now out)) ⌝ }
+    ensures { λ r. ⌜ RepliedWith s (now (book .entry)) seq addr h (now (out .entry)) r (now (out .exit)) ⌝ }
 {
     // "FFFF is for all: carried out, never replied to."
     let reply_due = addr == s.own;
     let mut count: usize = 0;
     let mut next = s.seq;
     if reply_due {
-        count = write_reply(seq, s.seq, s.own, h.reply, out);
+        let reply = h.reply;
+        count = write_reply(s, seq, reply, book, out);
         next = std::num::wrapping_add_u8(s.seq, 1);
     }
     ResultCounted {
@@ -228,13 +229,11 @@ fn replied(s: Held, seq: u8, addr: u16, h: Handled, out: &mut [u8]) -> ResultCou
     }
 }
 
-fn write_reply(seq: u8, ours: u8, own: u16, reply: Message, out: &mut [u8]) -> usize
-    requires { ⌜ (writable reply ≡ true) × (outputLen ≤ length (now out)) ⌝ }
-    ensures { λ r. ⌜ Stored (sent (repliesOf seq ours own (infoOf reply))) 0 (now (out .entry)) r (now (out .exit)) ⌝ }
+fn write_reply(s: Held, seq: u8, reply: Reply, book: &[u8], out: &mut [u8]) -> usize
+    requires { ⌜ (length (now book) ≡ bookLen) × (Reportable s (now book) reply) × (outputLen ≤ length (now out)) ⌝ }
+    ensures { λ r. ⌜ ReplyStored s seq (now (book .entry)) reply (now (out .entry)) r (now (out .exit)) ⌝ }
 {
-    let mut info = [0u8; INFO_MOST];
-    let m = message_calls::writer::write(reply, &mut info, 0);
-    let a = writer::write_ack(seq, own, &mut *out, 0);
-    let w = writer::write_message(ours, own, &info[..m.count], &mut *out, a.count);
+    let a = writer::write_ack(seq, s.own, &mut *out, 0);
+    let w = info::write(s, reply, book, &mut *out, a.count);
     a.count + w.count
 }

@@ -26,7 +26,7 @@ use Rattle.frame.specs.Decoder.{Decoder, Taken, headOf, possibleOf, info
 use Rattle.frame.specs.Decoder as decoder
 use Rattle.frame.specs.Run.{nothing, refused, sound, outcomeOf, decoderAfter, AtRest, drops, NothingDropped}
 use Rattle.frame.specs.Promises.{WrittenBack, WritingFramesUndoesReading, Refusable, lenMessage, lenAck, lenNak, doubling, closingAa, closingCc, cksMessage, cksAck, cksNak, RefusedFor, RefusedOnlyThen}
-use Rattle.frame.proofs.Laws.{message-len, info-len, twice-aa, twice-other, possible-at, taken-done}
+use Rattle.frame.proofs.Laws.{message-len, info-len, twice-aa, twice-other, doubled-append, possible-at, taken-done}
 use Rattle.frame.proofs.Fitting.{fits-in, len-message}
 use Rattle.frame.proofs.Possible.{at, step-possible}
 use Rattle.frame.proofs.Reading.{whole, most-run, quiet-undropped}
@@ -65,11 +65,6 @@ data Went (h : List ℕ) (b : ℕ) (drop : Bool) (t : Taken) : Type 0 where
   refuse : (n : ℕ) (k : Kind) (s a : ℕ) (pre : List ℕ) → outcomeOf t ≡ refused n k s a → h ++ (b ∷ []) ≡ pre ++ held (t .decoder)
       → Refusable n k s a (h ++ (b ∷ [])) → Went h b drop t
   ended : (f : Frame) → outcomeOf t ≡ sound f → h ++ (b ∷ []) ≡ written f → held (t .decoder) ≡ [] → infoFits f ≡ true → Went h b drop t
-
-doubled-append : (xs ys : List ℕ) → doubled (xs ++ ys) ≡ doubled xs ++ doubled ys
-unfolding doubled
-doubled-append [] ys = refl
-doubled-append (x ∷ xs) ys = rw (doubled-append xs ys) (sym (append-assoc (twice x) (doubled xs) (doubled ys)))
 
 -- INFO with one octet more
 doubled-more : (l : List ℕ) (g b : ℕ) → g < length l → doubled (take (g + 1) (set l g b)) ≡ doubled (take g l) ++ twice b

@@ -24,16 +24,32 @@ use octets::refusal;
 pub fn write_message(seq: u8, addr: u16, info: &[u8], out: &mut [u8], at: usize) -> Written
     ensures { λ r. ⌜ WriterLeaves (writeFrame (message seq addr (now (info .entry))) at (now (out .entry))) r (now (out .exit)) ⌝ }
 {
-    if !info_fits(info.len()) {
+    write_message_from(seq, addr, info, &[0u8; 0], out, at)
+}
+
+// A message frame whose INFO stands in two places, one run of octets behind the other: it is put together nowhere but in the output.
+pub fn write_message_from(
+    seq: u8,
+    addr: u16,
+    head: &[u8],
+    rest: &[u8],
+    out: &mut [u8],
+    at: usize,
+) -> Written
+    ensures { λ r. ⌜ WriterLeaves (writeFrame (message seq addr (now (head .entry) ++ now (rest .entry))) at (now (out .entry))) r (now (out .exit)) ⌝ }
+{
+    if !info_fits(head.len(), rest.len()) {
         return Written {
             refusal: refusal::INFO_WRONG,
             count: 0,
         };
     }
-    let f = crate::front(Kind::Message, seq, addr, MESSAGE_LEN + info.len() as u16);
-    let x = octets::exclusive_or(octets::exclusive_or(0, &f), info);
+    let n = head.len() + rest.len();
+    let f = crate::front(Kind::Message, seq, addr, MESSAGE_LEN + n as u16);
+    let h = octets::exclusive_or(octets::exclusive_or(0, &f), head);
+    let x = octets::exclusive_or(h, rest);
     let e = [AA, CC, octets::exclusive_or(x, &[AA, CC])];
-    write_parts(&f, info, &e, out, at)
+    write_parts(&f, head, rest, &e, out, at)
 }
 
 pub fn write_ack(seq: u8, addr: u16, out: &mut [u8], at: usize) -> Written
@@ -41,7 +57,7 @@ pub fn write_ack(seq: u8, addr: u16, out: &mut [u8], at: usize) -> Written
 {
     let f = crate::front(Kind::Ack, seq, addr, ACK_LEN);
     let e = [octets::exclusive_or(0, &f)];
-    write_parts(&f, &[0u8; 0], &e, out, at)
+    write_plain(&f, &e, out, at)
 }
 
 pub fn write_nak(seq: u8, addr: u16, err: u8, out: &mut [u8], at: usize) -> Written
@@ -52,22 +68,35 @@ pub fn write_nak(seq: u8, addr: u16, err: u8, out: &mut [u8], at: usize) -> Writ
         err,
         octets::exclusive_or(octets::exclusive_or(0, &f), &[err]),
     ];
-    write_parts(&f, &[0u8; 0], &e, out, at)
+    write_plain(&f, &e, out, at)
 }
 
-// "n from 2 to 256"
-fn info_fits(n: usize) -> bool
-    ensures { λ r. ⌜ r ≡ both (leb infoLeast n) (leb n infoMost) ⌝ }
+// "n from 2 to 256", of INFO in two runs
+fn info_fits(head: usize, rest: usize) -> bool
+    ensures { λ r. ⌜ r ≡ both (leb infoLeast (head + rest)) (leb (head + rest) infoMost) ⌝ }
 {
-    INFO_LEAST <= n && n <= INFO_MOST
+    if INFO_MOST < head {
+        return false;
+    }
+    if INFO_MOST - head < rest {
+        return false;
+    }
+    INFO_LEAST <= head + rest
 }
 
 // The front of a frame, its INFO with each AA twice, and its end, where there is room for all of it.
-fn write_parts(front: &[u8], info: &[u8], end: &[u8], out: &mut [u8], at: usize) -> Written
-    requires { ⌜ (length (now front) ≤ infoMost) × (length (now info) ≤ infoMost) × (length (now end) ≤ infoMost) ⌝ }
-    ensures { λ r. ⌜ WriterLeaves (writtenAs (now (front .entry) ++ (doubled (now (info .entry)) ++ now (end .entry))) at (now (out .entry))) r (now (out .exit)) ⌝ }
+fn write_parts(
+    front: &[u8],
+    head: &[u8],
+    rest: &[u8],
+    end: &[u8],
+    out: &mut [u8],
+    at: usize,
+) -> Written
+    requires { ⌜ (length (now front) ≤ infoMost) × (length (now head) ≤ infoMost) × (length (now rest) ≤ infoMost) × (length (now end) ≤ infoMost) ⌝ }
+    ensures { λ r. ⌜ WriterLeaves (writtenAs (now (front .entry) ++ (doubled (now (head .entry)) ++ (doubled (now (rest .entry)) ++ now (end .entry)))) at (now (out .entry))) r (now (out .exit)) ⌝ }
 {
-    let n = front.len() + doubled_len(info) + end.len();
+    let n = front.len() + doubled_len(head) + doubled_len(rest) + end.len();
     if !octets::room(out.len(), at, n) {
         return Written {
             refusal: refusal::OUTPUT_SHORT,
@@ -75,8 +104,29 @@ fn write_parts(front: &[u8], info: &[u8], end: &[u8], out: &mut [u8], at: usize)
         };
     }
     let p = octets::put(front, &mut *out, at);
-    let q = put_doubled(info, &mut *out, p);
+    let h = put_doubled(head, &mut *out, p);
+    let q = put_doubled(rest, &mut *out, h);
     octets::put(end, &mut *out, q);
+    Written {
+        refusal: refusal::NONE,
+        count: n,
+    }
+}
+
+// A frame without INFO: its front and its end, where there is room for both.
+fn write_plain(front: &[u8], end: &[u8], out: &mut [u8], at: usize) -> Written
+    requires { ⌜ (length (now front) ≤ infoMost) × (length (now end) ≤ infoMost) ⌝ }
+    ensures { λ r. ⌜ WriterLeaves (writtenAs (now (front .entry) ++ now (end .entry)) at (now (out .entry))) r (now (out .exit)) ⌝ }
+{
+    let n = front.len() + end.len();
+    if !octets::room(out.len(), at, n) {
+        return Written {
+            refusal: refusal::OUTPUT_SHORT,
+            count: 0,
+        };
+    }
+    let p = octets::put(front, &mut *out, at);
+    octets::put(end, &mut *out, p);
     Written {
         refusal: refusal::NONE,
         count: n,
@@ -119,9 +169,10 @@ fn put_twice(b: u8, out: &mut [u8], at: usize) -> usize
     requires { ⌜ at + length (twice b) ≤ length (now out) ⌝ }
     ensures { λ r. ⌜ Stored (twice b) at (now (out .entry)) r (now (out .exit)) ⌝ }
 {
-    if b == AA {
-        octets::put(&[AA, AA], out, at)
-    } else {
-        octets::put(&[b], out, at)
+    out[at] = b;
+    if b != AA {
+        return at + 1;
     }
+    out[at + 1] = AA;
+    at + 2
 }

@@ -6,7 +6,7 @@ use mathlib.Core.List.{List, [], _∷_, _++_, append-assoc}
 use native.Mathlib.Omega.{arith}
 use borrow.Author.Tests.{eqb-true, lt-ltb, le-ltb, le-leb, not-true}
 use lib.Dec.{eqb, leb}
-use lib.ListN.{length, getD, drop, List·getD-append}
+use lib.ListN.{length, getD, drop, List·getD-append, List·getD-eq-default}
 use lib.Seq.{drop-drop}
 use Rattle.octets.specs.Choice.{pick, both}
 use Rattle.octets.specs.Refusal as refusal
@@ -21,12 +21,17 @@ use Rattle.message.specs.Layouts.{Layout, layouts, noLayout, layoutAt, n
 use Rattle.message.specs.Values.{fieldsMost, sizeOf, fieldStart, valuesOf, placed, numbered, firstOut, outAt}
 use Rattle.message.specs.Reader.{notRead, kIn, readPartOf, readOf}
 use Rattle.message.proofs.Layouts.{fitting-at}
-use Rattle.message.proofs.Ranges.{both-le}
+use Rattle.message.proofs.Ranges.{both-le, placed-at}
 use Rattle.message.proofs.Values.{numbered-one, value-at, length-values}
 
 pub first-out-most : (fs : List Field) (vs : List ℕ) → firstOut fs vs ≤ fieldsMost
 unfolding firstOut
 first-out-most fs vs = search-first (outAt fs vs) fieldsMost .within
+
+-- past the last field there is none, and no value: nothing to be out of range
+pub none-past : (fs : List Field) (os : List ℕ) (j : ℕ) → length fs ≤ j → outAt fs (placed (valuesOf fs os)) j ≡ false
+none-past fs os j h =
+    rw (List·getD-eq-default fs noField h, placed-at (valuesOf fs os) j, List·getD-eq-default (valuesOf fs os) 0 {n = j} (omega (arith, length-values fs os)))
 
 pub values-append : (fs gs : List Field) (os : List ℕ) → valuesOf (fs ++ gs) os ≡ valuesOf fs os ++ valuesOf gs (drop (sizeOf fs) os)
 values-append [] gs os = refl

@@ -46,7 +46,7 @@ module _ (m : Message) (long : length (m .values) ≡ fieldsMost) (w : Writable 
       (accepted (w .listed) (record { fewest = w .fewest; most = w .most; octets = length-octets (fs m) (m .values) })
       (λ j h. right-same (fs m) (m .values) (valuesOf (fs m) os) (λ i. rw all at (placed-at (valuesOf (fs m) os) i)) j (w .ranges j (omega (arith, w .fields)))))
 
-  read-info : readOf (infoOf m) ≡ messageRead m
+  pub read-info : readOf (infoOf m) ≡ messageRead m
   unfolding infoAs
   read-info =
       sym (parts-read-so (l m) (k m) os (messageRead m) .0 read

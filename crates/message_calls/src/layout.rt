@@ -8,6 +8,7 @@ ghost use Rattle.message.specs.Fields.{twoOf, widthOf, passes, noField};
 ghost use Rattle.message.specs.Layouts.{layoutAt, known, rowsAt, kFits, numberOf};
 ghost use Rattle.message.specs.Values.{fieldsMost, sizeOf, numbered, firstOut};
 ghost use Rattle.message.specs.Table.{table, tableLen, cut, Kept};
+ghost use Rattle.message_calls.specs.Walk.{NoneOut};
 use crate::walk::Walk;
 use message::FIELDS_MOST;
 use message::layout;
@@ -170,16 +171,15 @@ pub fn passes(f: Field, v: u16) -> bool
     }
 }
 
-// "The search over fields stops at the first that fails and yields its number", 0 where none fails. Past the last field
-// nothing but 0 has a place.
-pub(crate) fn first_out(l: usize, k: usize, values: &[u16]) -> usize
-    requires { ⌜ (kFits (layoutAt l) k ≡ true) × (length (now values) ≡ fieldsMost) ⌝ }
+// "The search over fields stops at the first that fails and yields its number", 0 where none fails. None fails from place `end` on.
+pub(crate) fn first_out(l: usize, k: usize, end: usize, values: &[u16]) -> usize
+    requires { ⌜ (kFits (layoutAt l) k ≡ true) × (length (now values) ≡ fieldsMost) × NoneOut (rowsAt l k) (now values) end ⌝ }
     ensures { λ r. ⌜ r ≡ firstOut (rowsAt l k) (now (values .entry)) ⌝ }
 {
     let mut w = Walk::start(l, k);
     let mut i: usize = 0;
     loop {
-        if FIELDS_MOST <= i {
+        if end <= i {
             break 0;
         }
         if !passes(w.field(), values[i]) {

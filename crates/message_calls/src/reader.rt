@@ -47,12 +47,12 @@ fn ranged(l: usize, k: usize, part: &[u8]) -> Read
     ensures { λ r. ⌜ r ≡ rangedOf l k (now (part .entry)) ⌝ }
 {
     let values = values(l, k, part);
-    let field = layout::first_out(l, k, &values);
+    let fields = layout::fields(l, k);
+    let field = layout::first_out(l, k, fields, &values);
     if field != 0 {
         return refused(refusal::OUT_OF_RANGE, field as u8);
     }
     let code = layout::layout_at(l).code;
-    let fields = layout::fields(l, k);
     Read {
         refusal: refusal::NONE,
         field: 0,

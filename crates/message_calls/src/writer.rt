@@ -46,7 +46,7 @@ fn writable(l: usize, k: usize, fields: usize, values: [u16; FIELDS_MOST]) -> bo
     if fields != layout::fields(l, k) {
         return false;
     }
-    layout::first_out(l, k, &values) == 0
+    layout::first_out(l, k, FIELDS_MOST, &values) == 0
 }
 
 // The code and the fields, where there is room for all of them.

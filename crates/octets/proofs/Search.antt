@@ -1,6 +1,6 @@
 -- A search that stops at the first place at which a test holds.
 use Prim.Native.Nat.{ℕ, zero, suc, _+_, _-_, _≤_, _<_}
-use mathlib.Core.Path.{_≡_, refl, ap}
+use mathlib.Core.Path.{_≡_, refl, ap, _∙_}
 use mathlib.Core.Bool.{Bool, true, false}
 use native.Mathlib.Omega.{arith}
 use borrow.Author.Count.{below-more}
@@ -21,6 +21,15 @@ module _ (t : ℕ → Bool) (n i : ℕ) where
 
   pub search-goes : i < n → t i ≡ false → firstOf t i (n - i) ≡ firstOf t (i + 1) (n - (i + 1))
   search-goes h e = let s : n - i ≡ suc (n - (i + 1)) = omega arith in rw s (searched t i (n - (i + 1)) e)
+
+none-from : (t : ℕ → Bool) (i m : ℕ) → ((j : ℕ) → i ≤ j → j < i + m → t j ≡ false) → firstOf t i m ≡ 0
+unfolding firstOf
+none-from t i zero h = refl
+none-from t i (suc m) h = searched t i m (h i (omega arith) (omega arith)) ∙ none-from t (i + 1) m (λ j a b. h j (omega arith) (omega arith))
+
+-- where the test holds nowhere further on
+pub search-none : (t : ℕ → Bool) (n i : ℕ) → ((j : ℕ) → i ≤ j → j < n → t j ≡ false) → firstOf t i (n - i) ≡ 0
+search-none t n i h = none-from t i (n - i) (λ j a b. h j a (omega arith))
 
 search-from : (t : ℕ → Bool) (n i m : ℕ) → i + m ≡ n → ((j : ℕ) → j < i → t j ≡ false) → First t n (firstOf t i m)
 unfolding firstOf

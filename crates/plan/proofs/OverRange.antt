@@ -19,7 +19,7 @@ use Rattle.message.specs.Promises.{fieldsOf, RightAt, RightLength, outOfRange}
 use Rattle.message.proofs.ReadSo.{parts-read-so}
 use Rattle.record.specs.Record.{empty, ready, octetAt, kOf, Within}
 use Rattle.checks.specs.Standing.{standingOf}
-use Rattle.plan.specs.Reporting.{reportTimesOf, reportPlanOf}
+use Rattle.plan.specs.Reporting.{timesInfo, planInfo, reportTimesOf, reportPlanOf}
 use Rattle.plan.specs.Promises.{NoReport, NoReportOver48}
 use Rattle.plan.proofs.Reports.{times-none, times-told, plan-none, plan-other, plan-told}
 use Rattle.checks.proofs.Fields.{right-length}
@@ -41,24 +41,25 @@ first-out {c} {place} t info hc e k m w =
 
 module _ (rec : List ℕ) (p : ℕ) (hp : 48 < p) where
   times-over : Dec (standingOf rec ≡ empty) → NoReport (reportTimesOf rec p)
-  unfolding numberOf firstOf rowsAt layoutRows layoutAt layouts
-  times-over (yes z) = sym (times-none rec p refl z refl) ∙ no-report
+  unfolding timesInfo numberOf firstOf rowsAt layoutRows layoutAt layouts
+  times-over (yes z) = times-none rec p z ∙ no-report
   times-over (no n) =
       let r = times-body rec 0 (omega arith) n in
-      sym (times-told rec p refl n refl refl refl refl) ∙ first-out report-times (0x5F ∷ 0xC4 ∷ timesBody rec p) refl (r .long) (r .count) (omega arith) (λ w. omega arith)
+      times-told rec p n ∙ first-out report-times (0x5F ∷ 0xC4 ∷ timesBody rec p) refl (r .long) (r .count) (omega arith) (λ w. omega arith)
 
   plan-over : {code : ℕ} → PlanReport code → standingOf rec ≡ ready → NoReport (reportPlanOf rec p code)
+  unfolding planInfo
   plan-over {code} t h =
       let r = plan-body rec 0 (omega arith) (λ z. absurd (omega arith)) h t in
       let e = t .rows (kOf rec) in
-      sym (plan-told rec p refl code h refl (t .reports) refl refl refl refl refl refl refl refl)
+      plan-told rec p code h (t .reports)
       ∙ first-out (t .counted) (highOf code ∷ lowOf code ∷ planBody rec p) (word-back code) (r .long) (r .count) (rw e (omega arith)) (rw e (λ w. omega arith))
 
   plan-by : (code : ℕ) → Dec (standingOf rec ≡ ready) → Dec (code ≡ 0x5FC5) → Dec (code ≡ 0x5FC8) → NoReport (reportPlanOf rec p code)
-  plan-by code (no n) d d′ = sym (plan-none rec p refl code n refl) ∙ no-report
+  plan-by code (no n) d d′ = plan-none rec p code n ∙ no-report
   plan-by code (yes h) (yes e) d′ = plan-over (plan-report (inl e)) h
   plan-by code (yes h) (no a) (yes e) = plan-over (plan-report (inr e)) h
-  plan-by code (yes h) (no a) (no b) = sym (plan-other rec p refl code h (rw (ne-eqb code 0x5FC5 a, ne-eqb code 0x5FC8 b)) refl refl) ∙ no-report
+  plan-by code (yes h) (no a) (no b) = plan-other rec p code h (rw (ne-eqb code 0x5FC5 a, ne-eqb code 0x5FC8 b)) ∙ no-report
 
 pub no-report-over-48 : NoReportOver48
 no-report-over-48 rec p code hp =

@@ -81,8 +81,7 @@ module _ (rec : List ℕ) (p : ℕ) (hp : p ≤ plansMost) (n : standingOf rec �
   times-as = ranges-as report-times (timesInfo rec p) refl times-body
 
   pub times-read : (readOf (timesInfo rec p) .refusal ≡ refusal.none) × (reportTimesOf rec p ≡ readOf (timesInfo rec p) .message)
-  unfolding timesInfo
-  times-read = (ap (λ (r : Read). r .refusal) times-as, sym (times-told rec p refl n refl refl refl refl))
+  times-read = (ap (λ (r : Read). r .refusal) times-as, times-told rec p n)
 
   pub times-part : reportTimesOf rec p ≡ partOf (numberOf 0x5FC4) (octetAt (timesBody rec p) 1) (timesBody rec p)
   times-part = times-read .1 ∙ ap (λ (r : Read). r .message) times-as
@@ -105,8 +104,7 @@ module _ (rec : List ℕ) (p : ℕ) (hp : p ≤ plansMost) (n : standingOf rec �
     plan-as = ranges-as (t .counted) (planInfo rec p code) (word-back code) plan-body
 
     pub plan-read : (readOf (planInfo rec p code) .refusal ≡ refusal.none) × (reportPlanOf rec p code ≡ readOf (planInfo rec p code) .message)
-    unfolding planInfo
-    plan-read = (ap (λ (r : Read). r .refusal) plan-as, sym (plan-told rec p refl code h refl (t .reports) refl refl refl refl refl refl refl refl))
+    plan-read = (ap (λ (r : Read). r .refusal) plan-as, plan-told rec p code h (t .reports))
 
     pub plan-part : reportPlanOf rec p code ≡ partOf (numberOf code) (kOf rec) (planBody rec p)
     plan-part = plan-read .1 ∙ ap (λ (r : Read). r .message) plan-as
@@ -120,14 +118,14 @@ reports-read rec p hp =
     record {
       times = times-read rec p hp;
       plan = λ code h w. plan-read rec p hp (λ z. absurd (omega arith)) h (plan-report w);
-      noTimes = λ z. sym (times-none rec p refl z refl) ∙ no-report;
-      noPlan = λ code n. sym (plan-none rec p refl code n refl) ∙ no-report;
+      noTimes = λ z. times-none rec p z ∙ no-report;
+      noPlan = λ code n. plan-none rec p code n ∙ no-report;
       otherCode = λ code a b. none code (rw (ne-eqb code reportPlanCode a, ne-eqb code reportRunningCode b)) (ℕ-discrete (standingOf rec) ready);
     }
   where
-    none : (code : ℕ) → false ≡ reportsPlan code → Dec (standingOf rec ≡ ready) → NoReport (reportPlanOf rec p code)
-    none code t (yes h) = sym (plan-other rec p refl code h t refl refl) ∙ no-report
-    none code t (no n) = sym (plan-none rec p refl code n refl) ∙ no-report
+    none : (code : ℕ) → reportsPlan code ≡ false → Dec (standingOf rec ≡ ready) → NoReport (reportPlanOf rec p code)
+    none code t (yes h) = plan-other rec p code h t ∙ no-report
+    none code t (no n) = plan-none rec p code n ∙ no-report
 
 -- What was read is written
 

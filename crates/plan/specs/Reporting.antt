@@ -1,5 +1,5 @@
 -- 01, "Messages": what the reports 5F C4, 5F C5 and 5F C8 hold, worked out from a record.
-use Prim.Native.Nat.{ℕ, _+_}
+use Prim.Native.Nat.{ℕ}
 use mathlib.Core.Bool.{Bool, _||_}
 use mathlib.Core.List.{List, _∷_}
 use lib.Dec.{eqb}
@@ -7,12 +7,8 @@ use Rattle.octets.specs.Choice.{pick, both}
 use Rattle.octets.specs.Word.{highOf, lowOf}
 use Rattle.message.specs.declared.Message.{Message}
 use Rattle.message.specs.Reader.{noMessage, readOf}
-use Rattle.record.specs.Record.{recordLen, empty, ready, kOf, timesEnd, greensAt, readyEnd, directOf, orderOf}
+use Rattle.record.specs.Record.{empty, ready, kOf, timesEnd, greensAt, readyEnd, directOf, orderOf}
 use Rattle.checks.specs.Standing.{between, standingOf}
-
--- the octets of a report are no more
-abbrev pub reportMost : ℕ
-reportMost = recordLen + 6
 
 abbrev pub reportTimesCode : ℕ
 reportTimesCode = 0x5FC4

@@ -13,8 +13,6 @@ use Rattle.record.specs.Record.{recordLen, bookLen, plansMost}
 use Rattle.plan.specs.Reading.{recordStart, readRefusal}
 use Rattle.plan_calls.proofs.book.built_in.Reads as built-in
 use Rattle.plan_calls.proofs.book.is_built_in.Reads as is-built-in
-use Rattle.plan_calls.proofs.reporting.report_times.Reads as report-times
-use Rattle.plan_calls.proofs.reporting.report_plan.Reads as report-plan
 use Rattle.plan_calls.proofs.setting.set_times.Reads as set-times
 use Rattle.plan_calls.proofs.setting.set_plan.Reads as set-plan
 use Rattle.plan_calls.proofs.book.read_plan.Reads as read-plan
@@ -25,12 +23,6 @@ only-built-in κs a r s x y p q = p ∙ sym q
 
 only-is-built-in : (κs : _) (a : _) (r s : _) (x y : _) → is-built-in.Post κs a r x → is-built-in.Post κs a s y → r ≡ s
 only-is-built-in κs a r s x y p q = p ∙ sym q
-
-only-report-times : (κs : _) (a : _) (r s : _) (x y : _) → report-times.Post κs a r x → report-times.Post κs a s y → r ≡ s
-only-report-times κs a r s x y p q = p ∙ sym q
-
-only-report-plan : (κs : _) (a : _) (r s : _) (x y : _) → report-plan.Post κs a r x → report-plan.Post κs a s y → r ≡ s
-only-report-plan κs a r s x y p q = p ∙ sym q
 
 only-set-times : (κs : _) (a : _) (r s : _) (x y : _) → set-times.Post κs a r x → set-times.Post κs a s y → (r ≡ s) × (now (x .0) ≡ now (y .0))
 only-set-times κs a r s x y p q = (p .answer ∙ sym (q .answer), p .book ∙ sym (q .book))

@@ -1,4 +1,3 @@
-// 01, "Plan book": what is stored and what is read and reported.
+// 01, "Plan book": what is stored and what is read.
 pub mod book;
-pub mod reporting;
 pub mod setting;

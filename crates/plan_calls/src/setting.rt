@@ -9,7 +9,7 @@ ghost use Rattle.message.specs.Reader.{notRead};
 ghost use Rattle.plan.specs.Setting.{Times14, Plan15, countIn, timesRecord, readyRecord, notMade, timesField, timesMade, readyMade, answered, SetLeaves, keptAs, otherCode, setTimesOf, setPlanOf};
 ghost use Rattle.plan_calls.specs.Setting.{setRead};
 use crate::book;
-use crate::reporting;
+use message::Message;
 use message::Read;
 use message_calls::reader;
 use octets::refusal;
@@ -96,7 +96,11 @@ fn not_read(n: u8) -> Read
     Read {
         refusal: n,
         field: 0,
-        message: reporting::no_message(),
+        message: Message {
+            code: message::NO_MESSAGE,
+            fields: 0,
+            values: [0u16; message::FIELDS_MOST],
+        },
     }
 }
 

@@ -22,19 +22,18 @@ use Rattle.message.specs.Layouts.{layouts, layoutAt, known, numberOf, rowsAt}
 use Rattle.message.specs.Layouts as message
 use Rattle.message.specs.Values.{zeros, placed, firstOut}
 use Rattle.message.specs.Reader.{noMessage, notRead, partOf, rangedOf, readPartOf, readOf}
-use Rattle.message.specs.Writer.{infoAs}
 use Rattle.record.specs.Record.{bookLen, orderOf}
 use Rattle.checks.specs.Standing.{timesDisagree, planDisagree, ranged, timesStand, planStands, readyStands, allZero, standingOf}
 use Rattle.plan.specs.declared.Which.the-variants.{Old}
 use Rattle.plan.specs.BuiltIn.{padded, builtIn}
 use Rattle.plan.specs.Reading.{same}
-use Rattle.plan.specs.Reporting.{planInfo, reportPlanOf}
+use Rattle.plan.specs.Reporting.{planInfo}
 use Rattle.lamps.specs.Rows.{phaseTable, secondsOf, rowAt}
 use Rattle.lamps.specs.Rows as lamps
 use Rattle.lamps.specs.declared.Row.{Row}
 use Rattle.lamps.proofs.Second.{lamps-of-step, dark-past}
 use Rattle.controller.specs.State.{State, freshOf, runningSound, soundOf}
-use Rattle.controller.specs.Handling.{queryRunningAs, handlingOf}
+use Rattle.controller.specs.Handling.{replyInfo, handlingOf}
 use Rattle.controller.specs.Replies.{repliedOf, messageOf, doneOf, octetOf}
 use Rattle.controller.specs.Seconds.{Shown, movedOn, noSecond, secondOf}
 use Rattle.text.specs.Text.{digits, placesWithin, places, decimal, blankHex2, spaced, octetsHex}
@@ -143,5 +142,5 @@ unfolding firstOf diagram.find table.directory diagram.diagramOf table.lampRows 
 two-seconds = (refl, refl)
 
 pub reply-and-bad : ReplyAndBad
-unfolding xor exclusiveOr firstOf diagram.find table.directory diagram.diagramOf table.lampRows diagram.rowNumber diagram.lampRowOf frontOf bodyOf sentOf cksOf twice doubled written freshHead possibleOf frontIn cksIn stepOf takenOf layouts layoutAt known numberOf rowsAt message.layoutRows zeros placed firstOut noMessage notRead partOf rangedOf readPartOf readOf infoAs timesDisagree planDisagree ranged timesStand planStands readyStands allZero standingOf padded builtIn same planInfo reportPlanOf phaseTable secondsOf freshOf runningSound soundOf queryRunningAs handlingOf repliedOf messageOf doneOf octetOf digits line.hexOf line.lineOctet line.endOf founds lineAfter foundIn header placesWithin places decimal blankHex2 spaced octetsHex replyLine badLine octetMade badSaid lineMade listingFrom listingOf
+unfolding xor exclusiveOr firstOf diagram.find table.directory diagram.diagramOf table.lampRows diagram.rowNumber diagram.lampRowOf frontOf bodyOf sentOf cksOf twice doubled written freshHead possibleOf frontIn cksIn stepOf takenOf layouts layoutAt known numberOf rowsAt message.layoutRows zeros placed firstOut noMessage notRead partOf rangedOf readPartOf readOf timesDisagree planDisagree ranged timesStand planStands readyStands allZero standingOf padded builtIn same planInfo phaseTable secondsOf freshOf runningSound soundOf replyInfo handlingOf repliedOf messageOf doneOf octetOf digits line.hexOf line.lineOctet line.endOf founds lineAfter foundIn header placesWithin places decimal blankHex2 spaced octetsHex replyLine badLine octetMade badSaid lineMade listingFrom listingOf
 reply-and-bad = (refl, refl)

@@ -74,7 +74,7 @@ returns-5 c kept =
     let d = r .before .before .before in
     let a = d .args in
     let n = m .match .rest in
-    asked-running (joined (a .s) kept) (a .book .now) (a .info .now) (d .pre .1) (r .read .ensures) (i .if1 .left) (coded l (asks-running (d .pre .2 .one) (n .0 .0 .1) (n .0 .1) (n .1))) (c .query-running .ensures)
+    asked-running (joined (a .s) kept) (a .book .now) (a .info .now) (d .pre .1) (r .read .ensures) (i .if1 .left) (coded l (asks-running (d .pre .2 .one) (n .0 .0 .1) (n .0 .1) (n .1))) (c .accepted .ensures)
 
 pub asked-spec : {M : Type 1} → statement M
 asked-spec = tie.close (tie.spec (λ c κs. search needs) (λ c κs. search needs) returns (λ c. search needs) (λ c κs. search needs) (λ c κs. (search needs, planned (c .before .before) (coded (c .before .before) (c .match .keys1)) (field-numbers .run) .1)) (λ c κs. (search needs, planned (c .before .before) (coded (c .before .before) (c .match .keys2)) (field-numbers .queryTimes) .1)) (λ c κs. (search needs, planned (c .before .before) (coded (c .before .before) (c .match .keys3)) (field-numbers .queryPlan) .1)) (λ c κs. search needs) returns-2 returns-3 returns-4 returns-5)

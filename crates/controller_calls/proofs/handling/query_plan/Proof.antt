@@ -7,17 +7,17 @@ use Rattle.controller_calls.proofs.handling.query_plan.Tie as tie
 
 returns : tie.Need-returns
 returns c =
-    let s = c .before .before .before in
+    let s = c .before .before in
     let d = s .before in
     let a = d .before .before .before .before in
-    c .refused .ensures ∙ plan-13 (a .args .which) (a .args .code) (a .args .requested) _ _ _ (a .args .plan) (d .before .before .built-in .ensures) (a .pre .0) (a .pre .1) (d .plan-part .ensures) (s .report-plan .ensures) (c .before .if1 .taken)
+    c .refused .ensures ∙ plan-13 (a .args .which) _ _ _ (a .args .plan) (d .before .before .built-in .ensures) (a .pre .0) (a .pre .1) (d .plan-part .ensures) (a .args .code) (a .args .requested) (s .standing .ensures) (c .before .if1 .taken)
 
 returns-2 : tie.Need-returns-2
 returns-2 c =
-    let s = c .before .before .before in
+    let s = c .before .before in
     let d = s .before in
     let a = d .before .before .before .before in
-    c .accepted .ensures ∙ plan-done (a .args .which) (a .args .code) (a .args .requested) _ _ _ (a .args .plan) (d .before .before .built-in .ensures) (a .pre .0) (a .pre .1) (d .plan-part .ensures) (s .report-plan .ensures) (c .before .if1 .left)
+    c .accepted .ensures ∙ plan-done (a .args .which) _ _ _ (a .args .plan) (d .before .before .built-in .ensures) (a .pre .0) (a .pre .1) (d .plan-part .ensures) (a .args .code) (a .args .requested) (s .standing .ensures) (c .before .if1 .left)
 
 pub query-plan-spec : {M : Type 1} → statement M
 query-plan-spec = tie.close (tie.spec (λ c κs. search needs) (λ c. search needs) (λ c κs. search needs) (λ c κs. search needs) (λ c κs. search needs) returns (λ c κs. search needs) returns-2)

@@ -10,16 +10,14 @@ returns c =
     let s = c .before .before in
     let d = s .before in
     let a = d .before .before .before .before in
-    c .refused .ensures ∙ run-13 (a .args .which) (a .args .code) (a .args .requested) _ _ _ (a .args .plan) (d .before .before .built-in .ensures) (a .pre .0) (a .pre .1) (d .plan-part .ensures) (s .standing .ensures) (c .before .if1 .taken)
+    c .refused .ensures ∙ run-13 (a .args .which) _ _ _ (a .args .plan) (d .before .before .built-in .ensures) (a .pre .0) (a .pre .1) (d .plan-part .ensures) (a .args .code) (a .args .requested) (s .standing .ensures) (c .before .if1 .taken)
 
 returns-2 : tie.Need-returns-2
 returns-2 c =
-    let s = c .before .before .before in
+    let s = c .before .before in
     let d = s .before in
     let a = d .before .before .before .before in
-    c .accepted .ensures
-    ∙ run-done (a .args .which) (a .args .code) (a .args .requested) _ _ _ (a .args .plan) (d .before .before .built-in .ensures) (a .pre .0) (a .pre .1) (d .plan-part .ensures) (s .standing .ensures) (c .before .before .if1 .left)
-    (c .before .carried-out-reply .ensures)
+    c .accepted .ensures ∙ run-done (a .args .which) _ _ _ (a .args .plan) (d .before .before .built-in .ensures) (a .pre .0) (a .pre .1) (d .plan-part .ensures) (a .args .code) (a .args .requested) (s .standing .ensures) (c .before .if1 .left)
 
 pub run-spec : {M : Type 1} → statement M
-run-spec = tie.close (tie.spec (λ c κs. search needs) (λ c. search needs) (λ c κs. search needs) (λ c κs. search needs) (λ c κs. search needs) returns (λ c κs. search needs) (λ c κs. search needs) returns-2)
+run-spec = tie.close (tie.spec (λ c κs. search needs) (λ c. search needs) (λ c κs. search needs) (λ c κs. search needs) (λ c κs. search needs) returns (λ c κs. search needs) returns-2)

@@ -1,5 +1,4 @@
 -- `controller_calls::handling::set` meets its contract: what the set answered decides.
-use mathlib.Core.Path.{_∙_}
 use borrow.Author.Needs.{needs}
 use borrow.Author.Tests.{eq-eqb, ne-eqb}
 use Rattle.controller.specs.Handling.{setAs}
@@ -12,7 +11,7 @@ returns c = rw (ne-eqb _ _ (c .before .if1 .taken)) (c .refused .ensures)
 
 returns-2 : tie.Need-returns-2
 unfolding setAs
-returns-2 c = rw (eq-eqb _ _ (c .before .before .if1 .left)) (c .accepted .ensures ∙ rw (c .before .carried-out-reply .ensures))
+returns-2 c = rw (eq-eqb _ _ (c .before .if1 .left)) (c .accepted .ensures)
 
 pub set-spec : {M : Type 1} → statement M
-set-spec = tie.close (tie.spec (λ c κs. search needs) returns (λ c κs. search needs) (λ c κs. search needs) returns-2)
+set-spec = tie.close (tie.spec (λ c κs. search needs) returns (λ c κs. search needs) returns-2)

@@ -1,8 +1,7 @@
 -- `controller_calls::replies::by_found` meets its contract: what the decoder found decides.
 use mathlib.Core.Path.{refl, sym, _∙_}
 use native.Mathlib.Omega.{arith}
-use Rattle.controller_calls.proofs.Written.{stored-tells}
-use Rattle.controller_calls.proofs.Writable.{info-found}
+use Rattle.controller_calls.proofs.Written.{info-found, stored-tells}
 use borrow.Author.Needs.{needs}
 use Rattle.controller_calls.proofs.replies.by_found.Statement.{statement}
 use Rattle.controller_calls.proofs.replies.by_found.Tie as tie

@@ -2,13 +2,11 @@
 -- other message carried out and replied to.
 use mathlib.Core.Path.{refl, sym, ap, _∙_}
 use mathlib.Core.List.{[]}
-use native.Mathlib.Omega.{arith}
 use borrow.Author.Tests.{not-true, not-false}
 use Rattle.controller.specs.State.{joined}
 use Rattle.controller.specs.Replies.{isAnswer}
 use Rattle.controller.proofs.Laws.{message-other, message-answer, message-handled}
-use Rattle.controller_calls.proofs.Written.{stored-tells, handled-brings}
-use Rattle.controller_calls.proofs.Writable.{reply-writable}
+use Rattle.controller_calls.proofs.Written.{stored-tells, handled-there, handled-brings}
 use borrow.Author.Needs.{needs}
 use Rattle.controller_calls.proofs.replies.message_taken.Statement.{statement}
 use Rattle.controller_calls.proofs.replies.message_taken.Tie as tie
@@ -34,16 +32,15 @@ returns-2 c kept =
 
 replied-requires : tie.Need-replied-requires
 replied-requires c κs =
-    let h = c .before .before .before in
-    let w = h .before .before .before .before in
-    let z = w .before .before .before .before .before .before .before .before in
-    let e = h .carry-out .ensures [] .handled in
-    (rw e (reply-writable (joined (z .args .s) []) (z .args .book .now) _ (z .pre .1) (z .pre .2) (z .pre .3) (omega (arith, w .before .shared-slice-known3 .given 0, w .before .shared-slice-known3 .given 1))), z .pre .4)
+    let h = c .before .before .before .before in
+    let z = h .before .before .before .before .before .before .before .before .before .before .before .before in
+    let a = z .args in
+    (search needs, handled-there (a .s) (a .book .now) (a .info .now) [] (z .pre .1) (h .carry-out .ensures []), z .pre .4)
 
 returns-3 : tie.Need-returns-3
 returns-3 c kept =
     let r = c .before .before in
-    let h = r .before .before .before .before in
+    let h = r .before .before .before .before .before in
     let i = h .before .before in
     let w = i .before .before in
     let j = w .before .before .before in
@@ -51,7 +48,7 @@ returns-3 c kept =
     let a = f .before .before .before .before .args in
     rw (message-handled (joined (a .s) kept) (a .seq) (a .addr) (a .info .now) (a .book .now) (sym (f .for-us .ensures) ∙ not-false _ (j .if1 .left))
     (ap isAnswer (sym (w .word .ensures)) ∙ (sym (i .before .is-answer .ensures) ∙ i .if2 .left)))
-    (handled-brings (a .s) (a .seq) (a .addr) _ (r .replied .ensures) (h .carry-out .ensures kept) kept)
+    (handled-brings (a .s) (a .book .now) (a .info .now) kept (a .seq) (a .addr) (r .replied .ensures) (h .carry-out .ensures kept))
 
 pub message-taken-spec : {M : Type 1} → statement M
 message-taken-spec =

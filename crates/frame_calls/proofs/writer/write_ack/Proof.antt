@@ -8,9 +8,11 @@ use Rattle.frame_calls.proofs.writer.write_ack.Tie as tie
 
 returns : tie.Need-returns
 returns c =
-    let a = c .before .before .before .before .before .before .before .before .before .before .before .args in
-    write-as (ack (a .seq) (a .addr)) (a .out .now) (a .at) refl
-    (ack-parts (a .seq) (a .addr) (c .before .before .before .before .before .before .before .before .before .front .ensures) (c .before .before .before .before .before .before .before .exclusive-or .ensures)) (c .before .before .write-parts .ensures)
+    let w = c .before .before in
+    let x = w .before .before .before .before in
+    let f = x .before .before in
+    let a = f .before .before .args in
+    write-as (ack (a .seq) (a .addr)) (a .out .now) (a .at) refl (ack-parts (a .seq) (a .addr) (f .front .ensures) (x .exclusive-or .ensures)) (w .write-plain .ensures)
 
 pub write-ack-spec : {M : Type 1} → statement M
 write-ack-spec =
@@ -19,7 +21,6 @@ write-ack-spec =
     (λ c κs. search needs)
     (λ c. search needs)
     (λ c κs. search needs)
-    (λ c. search needs)
     (λ c. search needs)
     (λ c. search needs)
     (λ c κs. search needs)

@@ -8,9 +8,13 @@ use Rattle.frame_calls.proofs.writer.write_nak.Tie as tie
 
 returns : tie.Need-returns
 returns c =
-    let a = c .before .before .before .before .before .before .before .before .before .before .before .before .before .args in
+    let w = c .before .before in
+    let y = w .before .before .before .before in
+    let x = y .before .before in
+    let f = x .before .before in
+    let a = f .before .before .args in
     write-as (nak (a .seq) (a .addr) (a .err)) (a .out .now) (a .at) refl
-    (nak-parts (a .seq) (a .addr) (a .err) (c .before .before .before .before .before .before .before .before .before .before .before .front .ensures) (rw (← c .before .before .before .before .before .before .before .before .before .exclusive-or .ensures) (c .before .before .before .before .before .before .before .exclusive-or2 .ensures))) (c .before .before .write-parts .ensures)
+    (nak-parts (a .seq) (a .addr) (a .err) (f .front .ensures) (rw (← x .exclusive-or .ensures) (y .exclusive-or2 .ensures))) (w .write-plain .ensures)
 
 pub write-nak-spec : {M : Type 1} → statement M
 write-nak-spec =
@@ -21,7 +25,6 @@ write-nak-spec =
     (λ c κs. search needs)
     (λ c. search needs)
     (λ c κs. search needs)
-    (λ c. search needs)
     (λ c. search needs)
     (λ c. search needs)
     (λ c κs. search needs)

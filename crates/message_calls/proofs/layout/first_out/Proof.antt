@@ -1,11 +1,12 @@
 -- `message_calls::layout::first_out` meets its contract: what is left of the search yields what the whole does.
-use Prim.Native.Nat.{_-_}
+use Prim.Native.Nat.{ℕ, _-_, _≤_, _<_}
 use mathlib.Core.Path.{_≡_, refl, sym, ap, _∙_}
-use mathlib.Core.Bool.{not}
+use mathlib.Core.Bool.{not, false}
+use native.Mathlib.Omega.{arith}
 use borrow.Author.Needs.{needs}
 use lib.ListN.{getD}
 use Rattle.octets.specs.First.{firstOf}
-use Rattle.octets.proofs.Search.{search-ends, search-stops, search-goes}
+use Rattle.octets.proofs.Search.{search-none, search-stops, search-goes}
 use Rattle.message.specs.declared.layout.Field.{Field}
 use Rattle.message.specs.Fields.{passes}
 use Rattle.message.specs.Layouts.{rowsAt}
@@ -16,10 +17,10 @@ use Rattle.message_calls.proofs.layout.first_out.Statement.{statement}
 use Rattle.message_calls.proofs.layout.first_out.Tie as tie
 
 abbrev Inv-loop : tie.InvT-loop
-Inv-loop l k values w₀ i₀ w i = (firstOf (outAt (rowsAt l k) values) i (fieldsMost - i) ≡ firstOut (rowsAt l k) values) × AtPlace (rowsAt l k) i w
+Inv-loop l k end values w₀ i₀ w i = (firstOf (outAt (rowsAt l k) values) i (fieldsMost - i) ≡ firstOut (rowsAt l k) values) × AtPlace (rowsAt l k) i w
 
 abbrev μ-loop : tie.MeasureT-loop
-μ-loop l k values w₀ i₀ w i = fieldsMost - i
+μ-loop l k end values w₀ i₀ w i = end - i
 
 -- the test of the turn is the search's
 judged : (c : tie.After-passes Inv-loop μ-loop)
@@ -41,8 +42,10 @@ loop-again c =
 
 returns : tie.Need-returns Inv-loop μ-loop
 returns c =
-    let a = c .before .before .before .before .args in
-    sym (search-ends (outAt (rowsAt (a .l) (a .k)) (a .values .now)) fieldsMost (c .before .loop .i) (c .if1 .taken)) ∙ c .before .loop .inv .0
+    let z = c .before .before .before .before in
+    let a = z .args in
+    let none : (j : ℕ) → c .before .loop .i ≤ j → j < fieldsMost → outAt (rowsAt (a .l) (a .k)) (a .values .now) j ≡ false = λ j l. z .pre .2 .none j (omega (arith, c .if1 .taken, l)) in
+    sym (search-none (outAt (rowsAt (a .l) (a .k)) (a .values .now)) fieldsMost (c .before .loop .i) none) ∙ c .before .loop .inv .0
 
 returns-2 : tie.Need-returns-2 Inv-loop μ-loop
 returns-2 c =

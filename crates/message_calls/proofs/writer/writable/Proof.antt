@@ -1,5 +1,6 @@
 -- `message_calls::writer::writable` meets its contract: the tests are those of the definition, in its order.
 use mathlib.Core.Path.{sym, _∙_}
+use native.Mathlib.Omega.{arith}
 use borrow.Author.Needs.{needs}
 use borrow.Author.Tests.{eq-eqb, ne-eqb, not-true, not-false}
 use Rattle.message.specs.Writer.{writableAs}
@@ -24,7 +25,7 @@ returns-3 c =
     (rw (ne-eqb _ _ (λ e. c .if3 .taken (e ∙ sym (c .before .fields .ensures .0)))))
 
 first-out-requires : tie.Need-first-out-requires
-first-out-requires c κs = (sym (c .before .before .before .before .k-fits .ensures) ∙ not-false _ (c .before .before .before .if2 .left), search needs)
+first-out-requires c κs = (sym (c .before .before .before .before .k-fits .ensures) ∙ not-false _ (c .before .before .before .if2 .left), search needs, record { most = omega arith; none = λ j l m. absurd (omega arith) })
 
 returns-4 : tie.Need-returns-4
 unfolding writableAs
