@@ -103,7 +103,7 @@ def of_stack():
     program = stack.Program(PROGRAM)
     for call, function in stack.CALLS.items():
         octets_in_all, way = program.deepest(function)
-        yield call, stack.LIMIT, octets_in_all, " > ".join(way)
+        yield call, stack.limit(call), octets_in_all, " > ".join(way)
 
 
 def table(head, rows):

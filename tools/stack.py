@@ -6,14 +6,15 @@ import subprocess
 
 from programs import ROOT, Failed
 
-# The board has 4 KiB of stack; 512 octets of them are the host's own.
-BOARD, HOST = 4096, 512
-LIMIT = BOARD - HOST
+# What a public function may take of the board's 4 KiB of stack, the red zone counted; the second call less.
+LIMIT, LIMIT_OF = 2048, {"second": 1200}
 # The controller's calls, and of each the function of the program `cost` that it is; the small ones are put into their caller.
 PROGRAM = "cost"
 CALLS = {
     "octet": "controller_calls::octet", "second": "controller_calls::second",
     "line_idle": "cost::small", "fresh": "cost::small", "fresh_old": "cost::small"}
+# The programs that between them make the public calls.
+PROGRAMS = (PROGRAM, "cases", "listing")
 RETURN_ADDRESS, REGISTER, RED_ZONE = 8, 8, 128
 WORD = 1 << 64
 
@@ -60,6 +61,11 @@ def moved(name, operands):
         # below zero: an addition that lowers it, or the places that it is rounded down by
         return WORD - number if number > WORD // 2 else 0
     raise Failed("what this does to the stack is not known: %s %s" % (name, operands))
+
+
+def limit(call):
+    """The limit of one of the controller's calls."""
+    return LIMIT_OF.get(call, LIMIT)
 
 
 class Program:

@@ -96,8 +96,8 @@ fn write_parts(
     requires { ⌜ (length (now front) ≤ infoMost) × (length (now head) ≤ infoMost) × (length (now rest) ≤ infoMost) × (length (now end) ≤ infoMost) ⌝ }
     ensures { λ r. ⌜ WriterLeaves (writtenAs (now (front .entry) ++ (doubled (now (head .entry)) ++ (doubled (now (rest .entry)) ++ now (end .entry)))) at (now (out .entry))) r (now (out .exit)) ⌝ }
 {
-    let n = front.len() + doubled_len(head) + doubled_len(rest) + end.len();
-    if !octets::room(out.len(), at, n) {
+    let need = front.len() + doubled_len(head) + doubled_len(rest) + end.len();
+    if !octets::room(out.len(), at, need) {
         return Written {
             refusal: refusal::OUTPUT_SHORT,
             count: 0,
@@ -109,7 +109,7 @@ fn write_parts(
     octets::put(end, &mut *out, q);
     Written {
         refusal: refusal::NONE,
-        count: n,
+        count: need,
     }
 }
 
