@@ -6,11 +6,14 @@ use Rattle.frame.proofs.Laws.{info-over, info-within}
 use Rattle.frame_calls.proofs.writer.info_fits.Statement.{statement}
 use Rattle.frame_calls.proofs.writer.info_fits.Tie as tie
 
+returns : tie.Need-returns
+returns c = let a = c .before .args in info-over (a .head + a .rest) (omega arith)
+
+returns-2 : tie.Need-returns-2
+returns-2 c = let a = c .before .before .args in info-over (a .head + a .rest) (omega arith)
+
+returns-3 : tie.Need-returns-3
+returns-3 c = let a = c .before .before .args in info-within (a .head + a .rest) (omega arith)
+
 pub info-fits-spec : {M : Type 1} → statement M
-info-fits-spec =
-    tie.close
-    (tie.spec
-    (λ c. let a = c .before .args in info-over (a .head + a .rest) (omega arith))
-    (λ c. let a = c .before .before .args in info-over (a .head + a .rest) (omega arith))
-    (λ c. search needs)
-    (λ c. let a = c .before .before .args in info-within (a .head + a .rest) (omega arith)))
+info-fits-spec = tie.close (tie.spec returns returns-2 (λ c. search needs) returns-3)

@@ -1,14 +1,12 @@
 -- `frame_calls::writer::write_message_from` meets its contract: INFO is judged first, and the parts are those of a message frame.
 use Prim.Native.Nat.{_+_, _≤_}
-use mathlib.Core.Path.{_≡_, refl, sym, ap, _∙_}
-use mathlib.Core.Bool.{Bool, true}
+use mathlib.Core.Path.{_≡_, refl, sym, _∙_}
+use mathlib.Core.Bool.{true}
 use mathlib.Core.List.{_++_}
 use native.Mathlib.Omega.{arith}
 use borrow.Author.Tests.{not-true, not-false}
-use lib.Dec.{leb}
 use lib.ListN.{length, length-append}
-use Rattle.octets.specs.Choice.{both}
-use Rattle.frame.specs.Frame.{message, infoLeast, infoMost, infoFits}
+use Rattle.frame.specs.Frame.{message, infoMost, infoFits}
 use Rattle.frame.proofs.Laws.{info-most, message-parts, write-4, write-as}
 use borrow.Author.Needs.{needs}
 use Rattle.frame_calls.proofs.writer.write_message_from.Statement.{statement}

@@ -1,5 +1,5 @@
 -- `frame_calls::writer::write_plain` meets its contract: the need is counted before the first octet is stored, and the end is stored behind the front.
-use mathlib.Core.Path.{_≡_, refl, sym, _∙_}
+use mathlib.Core.Path.{refl, sym, _∙_}
 use mathlib.Core.List.{_++_}
 use native.Mathlib.Omega.{arith}
 use borrow.Author.Needs.{needs}
