@@ -64,7 +64,8 @@ pub struct HeldShown {
     pub row: Row,
 }
 
-// Which reply a message gets, 01, "Messages". A report is named by its plan: what it reports is read from the plan's record as it is written.
+// Which reply a message gets, 01, "Messages". A report is named by its plan alone: its octets are read from the plan's record while they are
+// written.
 pub enum Reply {
     // 0F 80, of a message with this code
     CarriedOut(u16),
