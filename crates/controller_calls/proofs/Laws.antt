@@ -104,10 +104,13 @@ module _ (book copy r : RefT (List ℕ)) (p : ℕ) (f : PartRead book copy p r) 
 
 -- Messages
 
--- the octets of a plan's record
-part-is : (book copy r : RefT (List ℕ)) (p : ℕ) → length (now book) ≡ bookLen → p ≤ plansMost
-    → pick (both (eqb (length (now book)) bookLen) (leb p plansMost)) (pick (eqb p 0) (PartOf copy 0 (length (now copy)) r) (PartOf book (recordStart p) recordLen r)) (PartOf copy 0 0 r)
-    → now r ≡ recordWith (now copy) (now book) p
+-- what the contract of `book::plan_part` says of the part r
+abbrev PartFor : RefT (List ℕ) → RefT (List ℕ) → ℕ → RefT (List ℕ) → Type 0
+PartFor book copy p r =
+    pick (both (eqb (length (now book)) bookLen) (leb p plansMost)) (pick (eqb p 0) (PartOf copy 0 (length (now copy)) r) (PartOf book (recordStart p) recordLen r)) (PartOf copy 0 0 r)
+
+-- it is the octets of the plan's record
+part-is : (book copy r : RefT (List ℕ)) (p : ℕ) → length (now book) ≡ bookLen → p ≤ plansMost → PartFor book copy p r → now r ≡ recordWith (now copy) (now book) p
 part-is book copy r p hb hp f = by (eqb p 0) (rw (eq-eqb (length (now book)) bookLen hb, le-leb p plansMost hp) at f)
   where
     by : (t : Bool) → pick t (PartOf copy 0 (length (now copy)) r) (PartOf book (recordStart p) recordLen r) → now r ≡ pick t (now copy) (recordAt (now book) p)
@@ -115,7 +118,7 @@ part-is book copy r p hb hp f = by (eqb p 0) (rw (eq-eqb (length (now book)) boo
     by false q = q .octets
 
 module _ (which : Which) (book copy r : RefT (List ℕ)) (p : ℕ) (ez : now copy ≡ builtIn which) (hb : length (now book) ≡ bookLen) (hp : p ≤ plansMost)
-    (f : pick (both (eqb (length (now book)) bookLen) (leb p plansMost)) (pick (eqb p 0) (PartOf copy 0 (length (now copy)) r) (PartOf book (recordStart p) recordLen r)) (PartOf copy 0 0 r)) where
+    (f : PartFor book copy p r) where
   rec-is : now r ≡ planRecord which (now book) p
   rec-is = part-is book copy r p hb hp f ∙ rw ez
 
@@ -149,14 +152,10 @@ module _ (which : Which) (book copy r : RefT (List ℕ)) (p : ℕ) (ez : now cop
 
 -- the record of a plan that does not stand empty, and of one that stands ready, is the part that was found for it
 module _ (which : Which) (book copy r : RefT (List ℕ)) (p : ℕ) (ez : now copy ≡ builtIn which) (hb : length (now book) ≡ bookLen) where
-  pub there-is : (standingOf (planRecord which (now book) p) ≡ empty → ⊥)
-      → pick (both (eqb (length (now book)) bookLen) (leb p plansMost)) (pick (eqb p 0) (PartOf copy 0 (length (now copy)) r) (PartOf book (recordStart p) recordLen r)) (PartOf copy 0 0 r)
-      → now r ≡ planRecord which (now book) p
+  pub there-is : (standingOf (planRecord which (now book) p) ≡ empty → ⊥) → PartFor book copy p r → now r ≡ planRecord which (now book) p
   there-is n f = rec-is which book copy r p ez hb (plan-in-book which (now book) p hb n) f
 
-  pub ready-is : standingOf (planRecord which (now book) p) ≡ ready
-      → pick (both (eqb (length (now book)) bookLen) (leb p plansMost)) (pick (eqb p 0) (PartOf copy 0 (length (now copy)) r) (PartOf book (recordStart p) recordLen r)) (PartOf copy 0 0 r)
-      → now r ≡ planRecord which (now book) p
+  pub ready-is : standingOf (planRecord which (now book) p) ≡ ready → PartFor book copy p r → now r ≡ planRecord which (now book) p
   ready-is e f = there-is (λ n. absurd (omega (arith, e, n))) f
 
 -- one that leaves the book
