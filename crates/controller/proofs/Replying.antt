@@ -24,6 +24,7 @@ use Rattle.plan.specs.Reporting.{reportPlanCode, reportRunningCode}
 use Rattle.plan.proofs.Reports.{times-most, plan-most}
 use Rattle.plan.proofs.Reportable.{standing-past}
 use Rattle.controller.specs.declared.Handled.{Handled}
+use Rattle.controller.specs.declared.Reply.{Reply}
 use Rattle.controller.specs.declared.Reply.the-variants as reply
 use Rattle.controller.specs.State.{State, outputLen, planRecord, readyIn}
 use Rattle.controller.specs.Handling.{Handling, replyInfo, accepted, reads, asks, setHandled, runCode, queryTimesCode, queryPlanCode, queryRunningCode, refusedWith, setAs, unlessUnread, runAs, queryTimesAs, queryPlanAs, queryRunningAs, handlingOf}
@@ -120,17 +121,23 @@ module _ (s : State) (book info : List ℕ) where
       by-reply (λ h. length (replyInfo s book (h .reply)) ≤ infoMost) (λ q. omega arith) (λ n m. omega arith) (λ n. omega (arith, times-most named n p))
       (λ e. omega (arith, plan-most named e p reportPlanCode)) (omega (arith, plan-most (s .running .copy) r (s .running .plan) reportRunningCode))
 
-  -- what a set leaves in the book is no part of its reply
-  set-as-came : (w : Setting) → replyInfo s (w .book) (setAs code (s .requested) (w .answer) .reply) ≡ replyInfo s book (setAs code (s .requested) (w .answer) .reply)
-  unfolding setAs replyInfo
-  set-as-came w =
-      pick-by (λ (h : Handled). replyInfo s (w .book) (h .reply) ≡ replyInfo s book (h .reply)) (eqb (w .answer .refusal) refusal.none) (λ _. refl) (λ _. refl)
+  -- A report is of the book as it came, since a message that has one leaves the book: what holds of the reply and that book, and of every 0F 80
+  -- and 0F 81 and any book, holds of the reply and the book that is left
+  module _ (P : List ℕ → Reply → Type 0) (carried : (b : List ℕ) → P b (reply.CarriedOut code)) (refused : (b : List ℕ) (n m : ℕ) → P b (reply.Refused code n m)) where
+    set-left : (w : Setting) → P (w .book) (setAs code (s .requested) (w .answer) .reply)
+    unfolding setAs
+    set-left w =
+        pick-by (λ (h : Handled). P (w .book) (h .reply)) (eqb (w .answer .refusal) refusal.none) (λ _. carried (w .book))
+        (λ _. refused (w .book) (w .answer .refusal) (w .answer .field))
 
-  -- a report is of the book as it came: a message that has one leaves the book
+    pub by-left : P book (handlingOf s book info .handled .reply) → P (handlingOf s book info .book) (handlingOf s book info .handled .reply)
+    by-left =
+        handling-by (λ h. P book (h .handled .reply) → P (h .book) (h .handled .reply)) s book info (λ _ _. set-left (setTimesOf book info)) (λ _ _. set-left (setPlanOf book info))
+        (λ w. w) (λ w. w) (λ w. w) (λ w. w) (λ w. w)
+
   pub reply-as-came : replyInfo s (handlingOf s book info .book) (handlingOf s book info .handled .reply) ≡ replyInfo s book (handlingOf s book info .handled .reply)
-  reply-as-came =
-      handling-by (λ h. replyInfo s (h .book) (h .handled .reply) ≡ replyInfo s book (h .handled .reply)) s book info
-      (λ _. set-as-came (setTimesOf book info)) (λ _. set-as-came (setPlanOf book info)) refl refl refl refl refl
+  unfolding replyInfo
+  reply-as-came = by-left (λ b r. replyInfo s b r ≡ replyInfo s book r) (λ b. refl) (λ b n m. refl) refl
 
 -- The frames fit
 

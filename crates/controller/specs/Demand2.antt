@@ -191,8 +191,8 @@ Handles =
     → outcomeOf (takenOf (s .decoder) b) ≡ sound (message seq addr info) → (addr ≡ s .own) ⊎ (addr ≡ 0xFFFF) → (IsAnswer info → ⊥)
     → HandledSo s seq addr book info (octetOf s book out b)
 
--- 02, E3: "Write the octets straight into the output. Every octet and refusal stays the same." No message is made of a reply any more; its
--- INFO is still what the message writer would have written.
+-- 02, E3: "Write the octets straight into the output. Every octet and refusal stays the same." No message value is made of a reply, and yet
+-- its INFO is what the message writer would have written.
 
 -- the reader reads INFO, nothing refused, and wherever there is room the writer writes what was read as the same octets
 pub record AsWritten (info : List ℕ) : Type 0 where

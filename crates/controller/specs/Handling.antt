@@ -39,17 +39,14 @@ queryPlanCode = 0x5F45
 abbrev pub queryRunningCode : ℕ
 queryRunningCode = 0x5F48
 
--- "0F 80 | code(2)", "0F 81 | code(2), error number, parameter number"
-abbrev pub carriedOutInfo : ℕ → List ℕ
-carriedOutInfo code = highOf carriedOutCode ∷ lowOf carriedOutCode ∷ highOf code ∷ lowOf code ∷ []
-
-abbrev pub refusedInfo : ℕ → ℕ → ℕ → List ℕ
-refusedInfo code n parameter = highOf refusedCode ∷ lowOf refusedCode ∷ highOf code ∷ lowOf code ∷ n ∷ parameter ∷ []
+-- "0F 80 | code(2)", "0F 81 | code(2), error number, parameter number": its own code, the code that it answers, and the numbers
+abbrev pub answerInfo : ℕ → ℕ → List ℕ → List ℕ
+answerInfo answer code numbers = highOf answer ∷ lowOf answer ∷ highOf code ∷ lowOf code ∷ numbers
 
 -- The INFO octets that each reply stands for. A report is of its plan's record in the book as it came, and 5F C8 of the copy that runs.
 unfoldable pub replyInfo : State → List ℕ → Reply → List ℕ
-replyInfo s book (reply.CarriedOut code) = carriedOutInfo code
-replyInfo s book (reply.Refused code n parameter) = refusedInfo code n parameter
+replyInfo s book (reply.CarriedOut code) = answerInfo carriedOutCode code []
+replyInfo s book (reply.Refused code n parameter) = answerInfo refusedCode code (n ∷ parameter ∷ [])
 replyInfo s book (reply.Times p) = timesInfo (planRecord (s .running .which) book p) p
 replyInfo s book (reply.Plan p) = planInfo (planRecord (s .running .which) book p) p reportPlanCode
 replyInfo s book reply.Running = planInfo (s .running .copy) (s .running .plan) reportRunningCode

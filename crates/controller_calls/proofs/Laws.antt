@@ -17,7 +17,6 @@ use Rattle.octets.specs.Put.{Put}
 use Rattle.octets.specs.Refusal as refusal
 use Rattle.octets.proofs.Laws.{put-stored}
 use Rattle.message.specs.declared.Read.{Read}
-use Rattle.message.specs.Names.{planAt}
 use Rattle.message.specs.Reader.{codeIn, bodyIn, readOf}
 use Rattle.plan.specs.declared.setting.Answered.{Answered}
 use Rattle.record.specs.Record.{recordLen, plansMost, bookLen, empty, ready, cycleOf}
@@ -33,9 +32,8 @@ use Rattle.plan.proofs.Reportable.{standing-none, standing-past}
 use Rattle.plan.proofs.Cases.{built-in-stands}
 use Rattle.controller.specs.declared.Running.{Running}
 use Rattle.controller.specs.declared.Handled.{Handled}
-use Rattle.controller.specs.declared.Reply.the-variants as reply
 use Rattle.controller.specs.State.{State, runningSound, recordWith, planRecord, startedAt}
-use Rattle.controller.specs.Handling.{runCode, queryTimesCode, queryPlanCode, queryRunningCode, accepted, refusedWith, setAs, runAs, queryTimesAs, queryPlanAs, queryRunningAs, handlingOf}
+use Rattle.controller.specs.Handling.{runCode, queryTimesCode, queryPlanCode, queryRunningCode, refusedWith, setAs, runAs, queryTimesAs, queryPlanAs, queryRunningAs, handlingOf}
 use Rattle.controller.specs.Seconds.{pickedOf}
 use Rattle.controller.proofs.Laws.{picked-ready, picked-stays}
 use Rattle.controller.proofs.Replying.{plan-in-book}
@@ -119,36 +117,8 @@ part-is book copy r p hb hp f = by (eqb p 0) (rw (eq-eqb (length (now book)) boo
 
 module _ (which : Which) (book copy r : RefT (List ℕ)) (p : ℕ) (ez : now copy ≡ builtIn which) (hb : length (now book) ≡ bookLen) (hp : p ≤ plansMost)
     (f : PartFor book copy p r) where
-  rec-is : now r ≡ planRecord which (now book) p
+  pub rec-is : now r ≡ planRecord which (now book) p
   rec-is = part-is book copy r p hb hp f ∙ rw ez
-
-  module _ (code requested : ℕ) {n : ℕ} (en : n ≡ standingOf (now r)) where
-    stands : n ≡ standingOf (planRecord which (now book) p)
-    stands = en ∙ ap standingOf rec-is
-
-    pub run-13 : (n ≡ ready → ⊥) → refusedWith code requested refusal.notReady planAt ≡ runAs which code requested (now book) p
-    unfolding runAs
-    run-13 g = rw (← stands, ne-eqb n ready g)
-
-    pub run-done : n ≡ ready → accepted p (reply.CarriedOut code) ≡ runAs which code requested (now book) p
-    unfolding runAs
-    run-done g = rw (← stands, eq-eqb n ready g)
-
-    pub times-13 : n ≡ empty → refusedWith code requested refusal.notReady planAt ≡ queryTimesAs which code requested (now book) p
-    unfolding queryTimesAs
-    times-13 g = rw (← stands, eq-eqb n empty g)
-
-    pub times-done : (n ≡ empty → ⊥) → accepted requested (reply.Times p) ≡ queryTimesAs which code requested (now book) p
-    unfolding queryTimesAs
-    times-done g = rw (← stands, ne-eqb n empty g)
-
-    pub plan-13 : (n ≡ ready → ⊥) → refusedWith code requested refusal.notReady planAt ≡ queryPlanAs which code requested (now book) p
-    unfolding queryPlanAs
-    plan-13 g = rw (← stands, ne-eqb n ready g)
-
-    pub plan-done : n ≡ ready → accepted requested (reply.Plan p) ≡ queryPlanAs which code requested (now book) p
-    unfolding queryPlanAs
-    plan-done g = rw (← stands, eq-eqb n ready g)
 
 -- the record of a plan that does not stand empty, and of one that stands ready, is the part that was found for it
 module _ (which : Which) (book copy r : RefT (List ℕ)) (p : ℕ) (ez : now copy ≡ builtIn which) (hb : length (now book) ≡ bookLen) where

@@ -4,7 +4,7 @@ use mathlib.Core.Path.{_≡_, refl, sym, ap, subst, _∙_}
 use mathlib.Core.Bool.{true, false}
 use mathlib.Core.List.{List, [], _∷_, append-nil}
 use native.Mathlib.Omega.{arith}
-use borrow.Author.Tests.{eq-eqb, ne-eqb, eqb-true, eqb-false, le-leb}
+use borrow.Author.Tests.{eq-eqb, ne-eqb, le-leb}
 use lib.Dec.{eqb}
 use lib.ListN.{length, take, length-append}
 use lib.Seq.{sets, length-sets, length-take-le}
@@ -13,7 +13,7 @@ use Rattle.octets.specs.Put.{Stored}
 use Rattle.octets.specs.Refusal as refusal
 use Rattle.octets.specs.declared.Written.{Written}
 use Rattle.octets.specs.Writing.{Writing, WriterLeaves, writtenAs}
-use Rattle.octets.proofs.Laws.{pick-by, stored-then}
+use Rattle.octets.proofs.Laws.{stored-then}
 use Rattle.frame.specs.declared.Kind.{Kind}
 use Rattle.frame.specs.declared.Kind.the-variants.{Message, Ack, Nak}
 use Rattle.frame.specs.Frame.{Frame, message, ack, nak, infoFits, infoLeast, infoMost, written}
@@ -24,10 +24,8 @@ use Rattle.frame.specs.declared.decoder.HeadTaken.{HeadTaken}
 use Rattle.frame.specs.Run.{foundMeans, outcomeOf}
 use Rattle.frame.specs.Writer as frame
 use Rattle.frame.specs.Decoder.{Decoder, Taken, TakenLeaves}
-use Rattle.message.specs.Reader.{codeIn, bodyIn, readOf}
-use Rattle.record.specs.Record.{empty, ready}
+use Rattle.record.specs.Record.{ready}
 use Rattle.checks.specs.Standing.{standingOf}
-use Rattle.plan.specs.Setting.{Setting, planIn, setTimesOf, setPlanOf}
 use Rattle.plan.specs.Reporting.{reportPlanCode, reportRunningCode, timesInfo, planInfo}
 use Rattle.plan.proofs.Reports.{times-most, plan-most}
 use Rattle.controller.specs.declared.Event.{Event}
@@ -38,9 +36,9 @@ use Rattle.controller.specs.declared.HeldAnswer.{HeldAnswer}
 use Rattle.controller.specs.declared.Reply.{Reply}
 use Rattle.controller.specs.declared.Reply.the-variants as reply
 use Rattle.controller.specs.State.{State, joined, outputLen, planRecord}
-use Rattle.controller.specs.Handling.{Handling, replyInfo, setAs, unlessUnread, runAs, queryTimesAs, queryPlanAs, handlingOf}
+use Rattle.controller.specs.Handling.{Handling, replyInfo, handlingOf}
 use Rattle.controller.specs.Replies.{Answer, CallLeaves, CanFind, sent, naks, acks, errOf, repliesOf, unchanged, repliedOf, handledOf, doneOf}
-use Rattle.controller.proofs.Replying.{handling-by, reply-as-came, ack-fits, nak-fits, sent-most}
+use Rattle.controller.proofs.Replying.{by-reply, by-left, reply-as-came, ack-fits, nak-fits, sent-most}
 use Rattle.controller_calls.specs.declared.replies.ResultCounted.{ResultCounted}
 use Rattle.controller_calls.specs.Handling.{HandlingLeaves, Reportable}
 use Rattle.controller_calls.specs.Replies.{ResultWritten, ResultAndBookLeft, unchangedAs, ReplyWritten, ReplyStored, RepliedWith, BroughtWith}
@@ -208,32 +206,12 @@ module _ (s : Held) (book info kept : List ℕ) where
   abbrev due : Handling
   due = handlingOf (joined s kept) book info
 
-  -- what is left in the book is that which its reply reports, and is as it came
-  module _ (r : standingOf (s .running .copy) ≡ ready) where
-    abbrev There : List ℕ → Handled → Type 0
-    There b h = Reportable s b (h .reply)
-
-    set-there : (w : Setting) → There (w .book) (setAs (codeIn info) (s .requested) (w .answer))
-    unfolding setAs
-    set-there w = pick-by (There (w .book)) (eqb (w .answer .refusal) refusal.none) (λ _. tt) (λ _. tt)
-
-    read-there : (h : Handled) → There book h → There book (unlessUnread (codeIn info) (s .requested) info h)
-    read-there h w = pick-by (There book) (eqb (readOf info .refusal) refusal.none) (λ _. w) (λ _. tt)
-
-    due-there : There (due .book) (due .handled)
-    unfolding runAs queryTimesAs queryPlanAs
-    due-there =
-        let plan = planIn (bodyIn info) in
-        let rec = planRecord (s .running .which) book plan in
-        handling-by (λ h. There (h .book) (h .handled)) (joined s kept) book info (λ _. set-there (setTimesOf book info)) (λ _. set-there (setPlanOf book info))
-        (read-there _ (pick-by (There book) (eqb (standingOf rec) ready) (λ _. tt) (λ _. tt)))
-        (read-there _ (pick-by (There book) (eqb (standingOf rec) empty) (λ _. tt) (λ e. eqb-false (standingOf rec) empty e)))
-        (read-there _ (pick-by (There book) (eqb (standingOf rec) ready) (λ e. eqb-true (standingOf rec) ready e) (λ _. tt)))
-        (read-there _ r)
-        tt
-
-    pub handled-there : {h : Handled} {b : List ℕ} → HandlingLeaves due h b → Reportable s b (h .reply)
-    handled-there e = rw (e .handled, e .book) due-there
+  -- what its reply reports is there, in the book that is left
+  pub handled-there : standingOf (s .running .copy) ≡ ready → {h : Handled} {b : List ℕ} → HandlingLeaves due h b → Reportable s b (h .reply)
+  handled-there r e =
+      rw (e .handled, e .book)
+      (by-left (joined s kept) book info (Reportable s) (λ b. tt) (λ b n m. tt)
+      (by-reply (joined s kept) book info (λ h. Reportable s book (h .reply)) (λ q. tt) (λ n m. tt) (λ n. n) (λ e. e) r))
 
   pub handled-brings : (seq addr : ℕ) {h : Handled} {out : List ℕ} {r : ResultCounted} {b o : List ℕ} → RepliedWith s b seq addr h out r o → HandlingLeaves due h b
       → ResultAndBookLeft (handledOf (joined s kept) book seq addr due) out r b o

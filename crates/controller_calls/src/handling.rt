@@ -5,6 +5,8 @@ ghost use lib.ListN.{length};
 ghost use Rattle.octets.specs.Part.{codeLen};
 ghost use Rattle.message.specs.Reader.{codeIn};
 ghost use Rattle.record.specs.Record.{plansMost, bookLen};
+ghost use Rattle.checks.specs.Standing.{standingOf};
+ghost use Rattle.controller.specs.State.{planRecord};
 ghost use Rattle.controller.specs.Handling.{accepted, refusedWith, setAs, runAs, queryTimesAs, queryPlanAs};
 ghost use Rattle.controller_calls.specs.Handling.{HandledWith, Asks};
 use controller::Handled;
@@ -105,14 +107,22 @@ fn set(code: u16, requested: u8, a: Answered) -> Handled
     accepted(requested, Reply::CarriedOut(code))
 }
 
+// How the record of a plan stands, plan 0's too.
+fn standing(which: Which, book: &[u8], plan: u8) -> u8
+    requires { ⌜ (length (now book) ≡ bookLen) × (plan ≤ plansMost) ⌝ }
+    ensures { λ r. ⌜ r ≡ standingOf (planRecord which (now (book .entry)) plan) ⌝ }
+{
+    let lent = book::built_in(which);
+    let rec = book::plan_part(book, &lent, plan);
+    checks::standing(rec)
+}
+
 // "5F 18 notes the requested plan."
 fn run(which: Which, code: u16, requested: u8, book: &[u8], plan: u8) -> Handled
     requires { ⌜ (length (now book) ≡ bookLen) × (plan ≤ plansMost) ⌝ }
     ensures { λ r. ⌜ r ≡ runAs which code requested (now (book .entry)) plan ⌝ }
 {
-    let lent = book::built_in(which);
-    let rec = book::plan_part(book, &lent, plan);
-    if checks::standing(rec) != record::READY {
+    if standing(which, book, plan) != record::READY {
         return refused(code, requested, refusal::NOT_READY, message::PLAN);
     }
     accepted(plan, Reply::CarriedOut(code))
@@ -122,9 +132,7 @@ fn query_times(which: Which, code: u16, requested: u8, book: &[u8], plan: u8) ->
     requires { ⌜ (length (now book) ≡ bookLen) × (plan ≤ plansMost) ⌝ }
     ensures { λ r. ⌜ r ≡ queryTimesAs which code requested (now (book .entry)) plan ⌝ }
 {
-    let lent = book::built_in(which);
-    let rec = book::plan_part(book, &lent, plan);
-    if checks::standing(rec) == record::EMPTY {
+    if standing(which, book, plan) == record::EMPTY {
         return refused(code, requested, refusal::NOT_READY, message::PLAN);
     }
     accepted(requested, Reply::Times(plan))
@@ -134,9 +142,7 @@ fn query_plan(which: Which, code: u16, requested: u8, book: &[u8], plan: u8) -> 
     requires { ⌜ (length (now book) ≡ bookLen) × (plan ≤ plansMost) ⌝ }
     ensures { λ r. ⌜ r ≡ queryPlanAs which code requested (now (book .entry)) plan ⌝ }
 {
-    let lent = book::built_in(which);
-    let rec = book::plan_part(book, &lent, plan);
-    if checks::standing(rec) != record::READY {
+    if standing(which, book, plan) != record::READY {
         return refused(code, requested, refusal::NOT_READY, message::PLAN);
     }
     accepted(requested, Reply::Plan(plan))

@@ -8,7 +8,7 @@ ghost use Rattle.frame.specs.Writer.{writeFrame};
 ghost use Rattle.record.specs.Record.{bookLen, empty, ready};
 ghost use Rattle.checks.specs.Standing.{standingOf};
 ghost use Rattle.plan.specs.Reporting.{timesInfo, planInfo};
-ghost use Rattle.controller.specs.Handling.{carriedOutInfo, refusedInfo};
+ghost use Rattle.controller.specs.Handling.{answerInfo};
 ghost use Rattle.controller_calls.specs.Handling.{Reportable};
 ghost use Rattle.controller_calls.specs.Replies.{ReplyWritten};
 use controller::Held;
@@ -27,8 +27,12 @@ pub(crate) fn write(s: Held, reply: Reply, book: &[u8], out: &mut [u8], at: usiz
     let u = s.running;
     let which = u.which;
     match reply {
-        Reply::CarriedOut(code) => write_carried_out(seq, own, code, out, at),
-        Reply::Refused(code, n, parameter) => write_refused(seq, own, code, n, parameter, out, at),
+        Reply::CarriedOut(code) => {
+            write_answer(seq, own, message::CARRIED_OUT, code, &[0u8; 0], out, at)
+        }
+        Reply::Refused(code, n, parameter) => {
+            write_answer(seq, own, message::REFUSED, code, &[n, parameter], out, at)
+        }
         Reply::Times(plan) => {
             let lent = book::built_in(which);
             let rec = book::plan_part(book, &lent, plan);
@@ -43,40 +47,25 @@ pub(crate) fn write(s: Held, reply: Reply, book: &[u8], out: &mut [u8], at: usiz
     }
 }
 
-// "0F 80 | code(2)"
-fn write_carried_out(seq: u8, own: u16, code: u16, out: &mut [u8], at: usize) -> Written
-    ensures { λ r. ⌜ WriterLeaves (writeFrame (message seq own (carriedOutInfo code)) at (now (out .entry))) r (now (out .exit)) ⌝ }
-{
-    let info = [
-        octets::high(message::CARRIED_OUT),
-        octets::low(message::CARRIED_OUT),
-        octets::high(code),
-        octets::low(code),
-    ];
-    writer::write_message(seq, own, &info, out, at)
-}
-
-// "0F 81 | code(2), error number, parameter number"
-fn write_refused(
+// 0F 80 and 0F 81, by their own code: "code(2)", and behind it the numbers of a refusal.
+fn write_answer(
     seq: u8,
     own: u16,
+    answer: u16,
     code: u16,
-    n: u8,
-    parameter: u8,
+    numbers: &[u8],
     out: &mut [u8],
     at: usize,
 ) -> Written
-    ensures { λ r. ⌜ WriterLeaves (writeFrame (message seq own (refusedInfo code n parameter)) at (now (out .entry))) r (now (out .exit)) ⌝ }
+    ensures { λ r. ⌜ WriterLeaves (writeFrame (message seq own (answerInfo answer code (now (numbers .entry)))) at (now (out .entry))) r (now (out .exit)) ⌝ }
 {
-    let info = [
-        octets::high(message::REFUSED),
-        octets::low(message::REFUSED),
+    let head = [
+        octets::high(answer),
+        octets::low(answer),
         octets::high(code),
         octets::low(code),
-        n,
-        parameter,
     ];
-    writer::write_message(seq, own, &info, out, at)
+    writer::write_message_from(seq, own, &head, numbers, out, at)
 }
 
 // 5F C4: "plan, count k, then k times ..". From the count on it is the record's own octets.

@@ -1,23 +1,18 @@
 -- `controller_calls::handling::query_plan` meets its contract: a plan that is reported stands ready.
 use mathlib.Core.Path.{_∙_}
 use borrow.Author.Needs.{needs}
-use Rattle.controller_calls.proofs.Laws.{plan-13, plan-done}
+use borrow.Author.Tests.{eq-eqb, ne-eqb}
+use Rattle.controller.specs.Handling.{queryPlanAs}
 use Rattle.controller_calls.proofs.handling.query_plan.Statement.{statement}
 use Rattle.controller_calls.proofs.handling.query_plan.Tie as tie
 
 returns : tie.Need-returns
-returns c =
-    let s = c .before .before in
-    let d = s .before in
-    let a = d .before .before .before .before in
-    c .refused .ensures ∙ plan-13 (a .args .which) _ _ _ (a .args .plan) (d .before .before .built-in .ensures) (a .pre .0) (a .pre .1) (d .plan-part .ensures) (a .args .code) (a .args .requested) (s .standing .ensures) (c .before .if1 .taken)
+unfolding queryPlanAs
+returns c = c .refused .ensures ∙ rw (← c .before .before .standing .ensures, ne-eqb _ _ (c .before .if1 .taken))
 
 returns-2 : tie.Need-returns-2
-returns-2 c =
-    let s = c .before .before in
-    let d = s .before in
-    let a = d .before .before .before .before in
-    c .accepted .ensures ∙ plan-done (a .args .which) _ _ _ (a .args .plan) (d .before .before .built-in .ensures) (a .pre .0) (a .pre .1) (d .plan-part .ensures) (a .args .code) (a .args .requested) (s .standing .ensures) (c .before .if1 .left)
+unfolding queryPlanAs
+returns-2 c = c .accepted .ensures ∙ rw (← c .before .before .standing .ensures, eq-eqb _ _ (c .before .if1 .left))
 
 pub query-plan-spec : {M : Type 1} → statement M
-query-plan-spec = tie.close (tie.spec (λ c κs. search needs) (λ c. search needs) (λ c κs. search needs) (λ c κs. search needs) (λ c κs. search needs) returns (λ c κs. search needs) returns-2)
+query-plan-spec = tie.close (tie.spec (λ c κs. search needs) (λ c κs. search needs) returns (λ c κs. search needs) returns-2)

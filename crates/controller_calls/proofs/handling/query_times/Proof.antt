@@ -1,23 +1,18 @@
 -- `controller_calls::handling::query_times` meets its contract: a plan that does not stand empty has its times reported.
 use mathlib.Core.Path.{_∙_}
 use borrow.Author.Needs.{needs}
-use Rattle.controller_calls.proofs.Laws.{times-13, times-done}
+use borrow.Author.Tests.{eq-eqb, ne-eqb}
+use Rattle.controller.specs.Handling.{queryTimesAs}
 use Rattle.controller_calls.proofs.handling.query_times.Statement.{statement}
 use Rattle.controller_calls.proofs.handling.query_times.Tie as tie
 
 returns : tie.Need-returns
-returns c =
-    let s = c .before .before in
-    let d = s .before in
-    let a = d .before .before .before .before in
-    c .refused .ensures ∙ times-13 (a .args .which) _ _ _ (a .args .plan) (d .before .before .built-in .ensures) (a .pre .0) (a .pre .1) (d .plan-part .ensures) (a .args .code) (a .args .requested) (s .standing .ensures) (c .before .if1 .taken)
+unfolding queryTimesAs
+returns c = c .refused .ensures ∙ rw (← c .before .before .standing .ensures, eq-eqb _ _ (c .before .if1 .taken))
 
 returns-2 : tie.Need-returns-2
-returns-2 c =
-    let s = c .before .before in
-    let d = s .before in
-    let a = d .before .before .before .before in
-    c .accepted .ensures ∙ times-done (a .args .which) _ _ _ (a .args .plan) (d .before .before .built-in .ensures) (a .pre .0) (a .pre .1) (d .plan-part .ensures) (a .args .code) (a .args .requested) (s .standing .ensures) (c .before .if1 .left)
+unfolding queryTimesAs
+returns-2 c = c .accepted .ensures ∙ rw (← c .before .before .standing .ensures, ne-eqb _ _ (c .before .if1 .left))
 
 pub query-times-spec : {M : Type 1} → statement M
-query-times-spec = tie.close (tie.spec (λ c κs. search needs) (λ c. search needs) (λ c κs. search needs) (λ c κs. search needs) (λ c κs. search needs) returns (λ c κs. search needs) returns-2)
+query-times-spec = tie.close (tie.spec (λ c κs. search needs) (λ c κs. search needs) returns (λ c κs. search needs) returns-2)

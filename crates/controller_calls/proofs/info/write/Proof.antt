@@ -30,11 +30,11 @@ write-plan-requires-2 c κs =
 
 returns : tie.Need-returns
 unfolding replyInfo
-returns c kept = let w = c .before .before in rw (w .before .before .before .reply .given .1) (w .write-carried-out .ensures)
+returns c kept = let w = c .before .before in rw (w .before .before .before .before .reply .given .1) (w .write-answer .ensures)
 
 returns-2 : tie.Need-returns-2
 unfolding replyInfo
-returns-2 c kept = let w = c .before .before in rw (w .before .before .before .reply2 .given .1) (w .write-refused .ensures)
+returns-2 c kept = let w = c .before .before in rw (w .before .before .before .before .reply2 .given .1) (w .write-answer2 .ensures)
 
 returns-3 : tie.Need-returns-3
 unfolding replyInfo
@@ -68,7 +68,9 @@ write-spec =
     tie.close
     (tie.spec
     (λ c. search needs)
+    (λ c. search needs)
     (λ c κs. search needs)
+    (λ c. search needs)
     (λ c. search needs)
     (λ c κs. search needs)
     (λ c. search needs)
