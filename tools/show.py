@@ -5,7 +5,8 @@ with anything else. A line that it cannot read comes out as it is.
 
 A line for a step is told in its first second: a new one where plan, step or lamps change, where `left` is not one less than
 in the second before, and where a second is missing. An approach is told once a lamp of it has been lit, and then always, so
-that one that goes dark is seen to. A reply is told frame by frame; if not all of it is sound, the reply follows as it is.
+that one that goes dark is seen to. A reply is told frame by frame, with the noise before it; if not all of it is sound, the
+reply follows as it is.
 
 A cycle is drawn when it is over, the first time for each plan and then only where its lamps are others than those last
 drawn for the plan. It begins with second 0, or with a step number lower than the one before, and is over when the next
@@ -30,7 +31,7 @@ Second = collections.namedtuple("Second", "second plan step left steady flashing
 HEADER = "\t".join(Second._fields)
 NUMBER = "(0|[1-9][0-9]{0,19})"  # as many digits as 64 bits can have
 SECOND = re.compile("\t".join([NUMBER] * 4 + ["([0-9A-Fa-f]{16})"] * 2))
-REPLY = re.compile("reply\t([0-9A-Fa-f]{2}(?: [0-9A-Fa-f]{2})*)")
+REPLY = re.compile("reply\t([0-9A-Fa-f]{2}(?: [0-9A-Fa-f]{2})*)\t" + NUMBER)
 BAD = re.compile("bad\t" + NUMBER)
 COLUMNS = "%11s %4s  %-13s %5s %5s  %s  %s"
 VEHICLES_WIDTH = 43  # "A green: straight, right; B yellow; C D red"
@@ -115,7 +116,16 @@ def other_words(line, before):
         return [line]
     frames, sound = reply_words([int(octet, 16) for octet in reply.group(1).split()])
     told = [text for head, texts in frames for text in folded("%s: %s" % (when(before), head), texts)]
-    return told if sound else told + [line]
+    return noise_words(int(reply.group(2)), before) + (told if sound else told + [line])
+
+
+def noise_words(octets, before):
+    """What a reply's third field says: octets that belong to no sound frame, since the last one or the start."""
+    return ["%s: noise on the line, %s" % (when(before), counted(octets, "octet"))] if octets else []
+
+
+def counted(number, thing):
+    return "%d %s" % (number, thing if number == 1 else thing + "s")
 
 
 def drawn(state, cycle, ending, colour, columns):

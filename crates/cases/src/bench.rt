@@ -5,37 +5,31 @@ use crate::script;
 use crate::words::FrameWord;
 use crate::writing;
 use frame::Kind;
-use frame::decoder::Head;
-use frame_calls::decoder;
+use frame::decoder::Receiver;
+use frame_calls::receiver;
 
-// The decoder's head, where the next frame is written, and how long the last one was.
+// The decoder, where the next frame is written, and how long the last one was.
 pub(crate) struct Bench {
-    head: Head,
+    receiver: Receiver,
     at: usize,
     written: usize,
 }
 
 pub(crate) fn start() -> Bench {
     Bench {
-        head: decoder::fresh(),
+        receiver: receiver::fresh(),
         at: 0,
         written: 0,
     }
 }
 
 pub(crate) fn done(c: Bench, w: FrameWord, o: &[u8], kept: &mut [u8], out: &mut [u8]) -> Bench {
-    let h = c.head;
     match w {
         FrameWord::Read => read(c, o, kept, out),
-        FrameWord::Idle => Bench {
-            head: reading::idle(h, kept),
-            ..c
-        },
-        FrameWord::Unsound => Bench {
-            head: reading::unsound(),
-            ..c
-        },
-        FrameWord::Place => place(c, octets::word(script::at(o, 0), script::at(o, 1))),
+        FrameWord::Idle => with(c, reading::idle(c.receiver, kept)),
+        FrameWord::Unsound => with(c, reading::unsound()),
+        FrameWord::Dropped => with(c, reading::counted(c.receiver, first_word(o))),
+        FrameWord::Place => place(c, first_word(o)),
         FrameWord::Message => write(c, Kind::Message, o, out),
         FrameWord::Ack => write(c, Kind::Ack, o, out),
         FrameWord::Nak => write(c, Kind::Nak, o, out),
@@ -47,17 +41,25 @@ pub(crate) fn done(c: Bench, w: FrameWord, o: &[u8], kept: &mut [u8], out: &mut 
     }
 }
 
+fn with(c: Bench, receiver: Receiver) -> Bench {
+    Bench { receiver, ..c }
+}
+
+fn first_word(o: &[u8]) -> u16 {
+    octets::word(script::at(o, 0), script::at(o, 1))
+}
+
 fn read(c: Bench, o: &[u8], kept: &mut [u8], out: &[u8]) -> Bench {
-    let h = c.head;
-    let head = if o.len() == 0 {
+    let r = c.receiver;
+    let receiver = if o.len() == 0 {
         say::text(b"\tread back");
-        reading::read(h, kept, script::first(script::rest(out, c.at), c.written))
+        reading::read(r, kept, script::first(script::rest(out, c.at), c.written))
     } else {
         say::text(b"\tread ");
         say::octets(o);
-        reading::read(h, kept, o)
+        reading::read(r, kept, o)
     };
-    Bench { head, ..c }
+    Bench { receiver, ..c }
 }
 
 fn place(c: Bench, at: u16) -> Bench {

@@ -128,7 +128,15 @@ fn take(s: Held, o: &[u8], kept: &mut [u8], book: &mut [u8], out: &mut [u8]) -> 
     let mut t = s;
     for i in 0..o.len() {
         let b = o[i];
-        t = octet(t, b, i + 1, &mut *kept, &mut *book, &mut *out);
+        t = octet(
+            t,
+            b,
+            i + 1,
+            i + 1 == o.len(),
+            &mut *kept,
+            &mut *book,
+            &mut *out,
+        );
     }
     t
 }
@@ -166,14 +174,27 @@ fn keep(s: Held, o: &[u8], kept: &mut [u8], book: &mut [u8], out: &mut [u8]) -> 
 fn swallow(s: Held, o: &[u8], kept: &mut [u8], book: &mut [u8], out: &mut [u8]) -> Held {
     let mut t = s;
     for i in 0..o.len() {
-        let a = controller_calls::octet(t, &mut *kept, &mut *book, &mut *out, o[i]);
-        t = a.state;
+        let b = o[i];
+        t = unheard(t, b, &mut *kept, &mut *book, &mut *out);
     }
     t
 }
 
-// The octet call with octet b, which is number n of those given.
-fn octet(s: Held, b: u8, n: usize, kept: &mut [u8], book: &mut [u8], out: &mut [u8]) -> Held {
+// The octet call, whatever it tells.
+fn unheard(s: Held, b: u8, kept: &mut [u8], book: &mut [u8], out: &mut [u8]) -> Held {
+    controller_calls::octet(s, kept, book, out, b).state
+}
+
+// The octet call with octet b, which is number n of those given; what the last of them tells of octets dropped is said.
+fn octet(
+    s: Held,
+    b: u8,
+    n: usize,
+    last: bool,
+    kept: &mut [u8],
+    book: &mut [u8],
+    out: &mut [u8],
+) -> Held {
     let a = controller_calls::octet(s, kept, book, &mut *out, b);
     let told = a.told;
     if told.refusal != refusal::NONE {
@@ -184,6 +205,9 @@ fn octet(s: Held, b: u8, n: usize, kept: &mut [u8], book: &mut [u8], out: &mut [
     if told.count != 0 {
         say::text(b"\treply ");
         say::octets(script::first(out, told.count));
+    }
+    if last {
+        say::dropped(told.dropped);
     }
     a.state
 }
@@ -219,6 +243,7 @@ fn line_idle(s: Held, kept: &[u8]) -> Held {
     if a.told.refusal != refusal::NONE {
         say::call_refused(a.told.refusal);
     }
+    say::dropped(a.told.dropped);
     a.state
 }
 

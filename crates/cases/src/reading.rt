@@ -5,38 +5,45 @@ use frame::Kind;
 use frame::decoder::Found;
 use frame::decoder::Head;
 use frame::decoder::Place;
-use frame_calls::decoder;
+use frame::decoder::Receiver;
+use frame_calls::receiver;
 use octets::refusal;
 
-pub(crate) fn read(h: Head, kept: &mut [u8], s: &[u8]) -> Head {
-    let mut e = h;
+pub(crate) fn read(r: Receiver, kept: &mut [u8], s: &[u8]) -> Receiver {
+    let mut e = r;
     for i in 0..s.len() {
         let b = s[i];
-        e = take(e, &mut *kept, b, i + 1);
+        e = take(e, &mut *kept, b, i + 1, i + 1 == s.len());
     }
-    say_place(e);
+    let h = e.head;
+    say_place(h);
     e
 }
 
-// Takes octet b, which is number n of those given.
-fn take(h: Head, kept: &mut [u8], b: u8, n: usize) -> Head {
-    let t = decoder::octet(h, &mut *kept, b);
+// Takes octet b, which is number n of those given; what the last of them tells of octets dropped is said.
+fn take(r: Receiver, kept: &mut [u8], b: u8, n: usize, last: bool) -> Receiver {
+    let t = receiver::octet(r, &mut *kept, b);
     let f = t.found;
     if t.refusal != refusal::NONE {
         say::call_refused(t.refusal);
     }
     say_found(f, kept, n);
-    t.head
+    if last {
+        say::dropped(t.dropped);
+    }
+    t.receiver
 }
 
-pub(crate) fn idle(h: Head, kept: &[u8]) -> Head {
+pub(crate) fn idle(r: Receiver, kept: &[u8]) -> Receiver {
     say::text(b"\tline idle");
-    let t = decoder::line_idle(h, kept);
-    let e = t.head;
+    let t = receiver::line_idle(r, kept);
+    let e = t.receiver;
     if t.refusal != refusal::NONE {
         say::call_refused(t.refusal);
     }
-    say_place(e);
+    say::dropped(t.dropped);
+    let h = e.head;
+    say_place(h);
     e
 }
 
@@ -85,11 +92,21 @@ fn say_place(h: Head) {
 }
 
 // An impossible decoder: an ACK has no INFO.
-pub(crate) fn unsound() -> Head {
+pub(crate) fn unsound() -> Receiver {
     say::text(b"\tdecoder at INFO of an ACK");
-    Head {
+    let r = receiver::fresh();
+    let h = r.head;
+    let head = Head {
         place: Place::Info,
         kind: Kind::Ack,
-        ..decoder::fresh()
-    }
+        ..h
+    };
+    Receiver { head, ..r }
+}
+
+// So many octets dropped so far.
+pub(crate) fn counted(r: Receiver, n: u16) -> Receiver {
+    say::text(b"\tso far");
+    say::dropped(n);
+    Receiver { dropped: n, ..r }
 }

@@ -88,6 +88,14 @@ pub(crate) fn head(k: Kind, seq: u8, addr: u16) {
     octets(&[seq, octets::high(addr), octets::low(addr)]);
 }
 
+// How many octets were dropped, if any.
+pub(crate) fn dropped(n: u16) {
+    if n != 0 {
+        text(b"\tdropped ");
+        decimal(n as usize);
+    }
+}
+
 pub(crate) fn call_refused(n: u8) {
     text(b"\tcall refused ");
     decimal(n as usize);

@@ -5,6 +5,7 @@ pub(crate) enum FrameWord {
     Read,
     Idle,
     Unsound,
+    Dropped,
     Place,
     Message,
     Ack,
@@ -41,6 +42,9 @@ pub(crate) fn find(s: &[u8]) -> Word {
     }
     if same(s, b"unsound") {
         return Word::Frame(FrameWord::Unsound);
+    }
+    if same(s, b"dropped") {
+        return Word::Frame(FrameWord::Dropped);
     }
     if same(s, b"place") {
         return Word::Frame(FrameWord::Place);

@@ -49,7 +49,7 @@ use Rattle.controller.specs.Handling.{replyInfo, setAs, unlessUnread, ru
 use Rattle.controller.specs.Replies.{Answer, Call, answerWith, sent, refusedCall, errOf, naks, acks, forUs, isAnswer, repliesOf, CanFind, ResultAndBook, unchanged, leaves, repliedOf, messageOf, eventFor, broughtOf, madeOf, octetOf}
 use Rattle.controller.specs.Seconds.{Shown, shownWith, startedOf, secondOf, noSecond}
 use Rattle.controller.specs.Demand1.{Sound, SoundAsItIs, OctetRefused, CallRefused, InDone, OctetsAnswered, SecondRefused, ShownRefused, SecondsAnswered, IdlesAnswered, StartAnswered, StartsAnswered, RefusedLeavesBook, OutputsLeft, NumbersAsSaid, JoinedSo, CallsLeaveSo, RefusedAsCame, FewerRefused}
-use Rattle.controller.proofs.Laws.{octet-7, octet-8, octet-9, octet-brings, idle-7, idle-done, second-7, second-8, second-done}
+use Rattle.controller.proofs.Laws.{takes, octet-7, octet-8, octet-9, octet-brings, idle-7, idle-done, second-7, second-8, second-done}
 use Rattle.controller.proofs.Judging.{RunningParts, SoundParts, sound-parts, parts-sound}
 use Rattle.controller.proofs.Keeping.{fresh-sound}
 use Rattle.controller.proofs.Replying.{can-find, handling-by, reply-fits, nak-fits, ack-fits, sent-most}
@@ -309,7 +309,7 @@ octets-answered s book out b =
 
 -- what holds of every refused call, and of every call that is done with what is right, holds of every octet call
 octet-by : (P : Call → Type 0) (s : State) (book out : List ℕ) (b : ℕ) → ((n : ℕ) → P (refusedCall s n book out))
-    → (outputLen ≤ length out → (w : ResultAndBook) → Right book w → P (madeOf s (takenOf (s .decoder) b .decoder) w out)) → P (octetOf s book out b)
+    → (outputLen ≤ length out → (w : ResultAndBook) → Right book w → P (madeOf s (takes s b) w out)) → P (octetOf s book out b)
 octet-by P s book out b r d = by (octets-answered s book out b .either)
   where
     by : ((n : ℕ) × OctetRefused s book out n) ⊎ ((soundOf s ≡ true) × (length book ≡ bookLen) × (outputLen ≤ length out)) → P (octetOf s book out b)
@@ -346,7 +346,7 @@ outputs-left s book out b =
     none : {n : ℕ} → Leaves out (refusedCall s n book out)
     none = record { beyond = refl; long = refl; within = omega arith; most = omega arith }
 
-    some : outputLen ≤ length out → (w : ResultAndBook) → FramesFit (w .result .frames) → Leaves out (madeOf s (takenOf (s .decoder) b .decoder) w out)
+    some : outputLen ≤ length out → (w : ResultAndBook) → FramesFit (w .result .frames) → Leaves out (madeOf s (takes s b) w out)
     some ho w f =
         let vs = sent (w .result .frames) in
         let h : length vs ≤ length out = omega arith in
@@ -376,6 +376,7 @@ calls-leave-so w lent r k b o l =
       seq = ap (λ (a : Answer). a .state .seq) e;
       requested = ap (λ (a : Answer). a .state .requested) e;
       head = ap (λ (a : Answer). a .state .decoder .head) e;
+      dropped = ap (λ (a : Answer). a .state .dropped) e;
       running = ap (λ (a : Answer). a .state .running) e;
       told = ap (λ (a : Answer). a .told) e;
       info = sym (take-append-drop infoMost k) ∙ (λ i. e i .state .decoder .info ++ l .beyond i);
@@ -385,7 +386,7 @@ calls-leave-so w lent r k b o l =
 
 -- the struct in a state: that of `joined s kept` is s
 abbrev held : State → Held
-held s = record { own = s .own; seq = s .seq; requested = s .requested; head = s .decoder .head; running = s .running }
+held s = record { own = s .own; seq = s .seq; requested = s .requested; receiver = record { head = s .decoder .head; dropped = s .dropped }; running = s .running }
 
 pub one-to-one : (s t : Held) (k l : List ℕ) → joined s k ≡ joined t l → drop infoMost k ≡ drop infoMost l → (s ≡ t) × (k ≡ l)
 one-to-one s t k l e d = (ap held e, parted infoMost k l (ap (λ (s : State). s .decoder .info) e) d)
@@ -406,7 +407,7 @@ pub fewer-refused : FewerRefused
 unfolding soundOf
 fewer-refused s kept l = by (not (eqb (s .own) all)) (leb (s .requested) plansMost)
   where
-    by : (a b : Bool) → both a (both b (both (eqb (length (take infoMost kept)) infoMost) (both (possibleOf (s .head)) (runningSound (s .running))))) ≡ false
+    by : (a b : Bool) → both a (both b (both (eqb (length (take infoMost kept)) infoMost) (both (possibleOf (s .receiver .head)) (runningSound (s .running))))) ≡ false
     by false b = refl
     by true false = refl
-    by true true = rw (lent.short (s .head) kept l)
+    by true true = rw (lent.short (s .receiver .head) kept l)

@@ -12,7 +12,8 @@ use Rattle.octets.specs.Choice.{pick, both}
 use Rattle.octets.specs.Refusal as refusal
 use Rattle.octets.proofs.Laws.{pick-by, clash}
 use Rattle.frame.specs.Frame.{message, ack, nak, infoMost}
-use Rattle.frame.specs.Decoder.{Decoder, Taken, takenOf, idledOf}
+use Rattle.frame.specs.Decoder.{Decoder, takenOf, idledOf}
+use Rattle.frame.specs.Dropped.{Counted}
 use Rattle.frame.specs.Run.{Outcome, nothing, refused, sound, outcomeOf}
 use Rattle.frame.proofs.Possible.{possible-kept}
 use Rattle.frame.proofs.Lent.{taken-long, idled-long}
@@ -36,7 +37,7 @@ use Rattle.controller.specs.Seconds.{Shown, pickedOf, movedOn, secondSho
 use Rattle.controller.specs.Demand1.{SoundKept}
 use Rattle.controller.specs.Demand3.{mayRun, runIn, latestAfter}
 use Rattle.controller.proofs.Judging.{four, RunningParts, sound-parts, parts-sound}
-use Rattle.controller.proofs.Laws.{idle-done, moved-within, moved-ends, second-8, second-done}
+use Rattle.controller.proofs.Laws.{takes, counted-takes, idles, idle-done, moved-within, moved-ends, second-8, second-done}
 
 -- The octet call
 
@@ -134,36 +135,36 @@ module _ (s : State) (book : List ℕ) where
   brought-asks (sound (nak seq addr err)) = refl
 
 -- a call that is done: the decoder has taken the octet, and the latest run message carried out is requested
-pub done-left : (s : State) (t : Taken) (book out : List ℕ)
-    → Left (s .own) (s .running) (t .decoder) (latestAfter (s .own) book (s .requested) (outcomeOf t)) (doneOf s t book out .answer .state)
+pub done-left : (s : State) (c : Counted) (book out : List ℕ)
+    → Left (s .own) (s .running) (c .taken .decoder) (latestAfter (s .own) book (s .requested) (outcomeOf (c .taken))) (doneOf s c book out .answer .state)
 unfolding doneOf
-done-left s t book out =
-    record { own = refl; running = refl; decoder = refl; requested = brought-asks s book (outcomeOf t) }
+done-left s c book out =
+    record { own = refl; running = refl; decoder = refl; requested = brought-asks s book (outcomeOf (c .taken)) }
 
 module _ (s : State) (book out : List ℕ) (b : ℕ) where
   -- was the octet taken? Where not, the state is as it was
-  abbrev takes : Bool
-  takes = both (soundOf s) (both (eqb (length book) bookLen) (leb outputLen (length out)))
+  abbrev isTaken : Bool
+  isTaken = both (soundOf s) (both (eqb (length book) bookLen) (leb outputLen (length out)))
 
   pub by-octet : (P : Bool → State → Type 0) → P false s
-      → (soundOf s ≡ true → length book ≡ bookLen → outputLen ≤ length out → P true (doneOf s (takenOf (s .decoder) b) book out .answer .state))
-      → P takes (octetOf s book out b .answer .state)
+      → (soundOf s ≡ true → length book ≡ bookLen → outputLen ≤ length out → P true (doneOf s (takes s b) book out .answer .state))
+      → P isTaken (octetOf s book out b .answer .state)
   unfolding octetOf
-  by-octet P same done = by (soundOf s) refl (eqb (length book) bookLen) refl (leb outputLen (length out)) refl
+  by-octet P same done = rw (counted-takes s b) (by (soundOf s) refl (eqb (length book) bookLen) refl (leb outputLen (length out)) refl)
     where
       by : (h : Bool) → soundOf s ≡ h → (n : Bool) → eqb (length book) bookLen ≡ n → (l : Bool) → leb outputLen (length out) ≡ l
           → P (both h (both n l)) (pick (not h) (refusedCall s refusal.stateUnsound book out) (pick (not n) (refusedCall s refusal.bookWrong book out)
-          (pick (not l) (refusedCall s refusal.outputShort book out) (doneOf s (takenOf (s .decoder) b) book out))) .answer .state)
+          (pick (not l) (refusedCall s refusal.outputShort book out) (doneOf s (takes s b) book out))) .answer .state)
       by true h true n true l = done h (eqb-true (length book) bookLen n) (leb-true outputLen (length out) l)
       by true h true n false l = same
       by true h false n l _ = same
       by false h n _ l _ = same
 
   pub octet-own : octetOf s book out b .answer .state .own ≡ s .own
-  octet-own = by-octet (λ _ t. t .own ≡ s .own) refl (λ _ _ _. done-left s (takenOf (s .decoder) b) book out .own)
+  octet-own = by-octet (λ _ t. t .own ≡ s .own) refl (λ _ _ _. done-left s (takes s b) book out .own)
 
   pub octet-running : octetOf s book out b .answer .state .running ≡ s .running
-  octet-running = by-octet (λ _ t. t .running ≡ s .running) refl (λ _ _ _. done-left s (takenOf (s .decoder) b) book out .running)
+  octet-running = by-octet (λ _ t. t .running ≡ s .running) refl (λ _ _ _. done-left s (takes s b) book out .running)
 
 -- a plan that may run is plan 0 or one of the book's
 may-run-most : (book : List ℕ) (p : ℕ) → length book ≡ bookLen → mayRun book p ≡ true → p ≤ plansMost
@@ -189,9 +190,9 @@ octet-sound : (s : State) (book out : List ℕ) (b : ℕ) → b < 256 → soundO
 octet-sound s book out b l h =
     let g = sound-parts s h in
     let t = takenOf (s .decoder) b in
-    let w = doneOf s t book out .answer .state in
+    let w = doneOf s (takes s b) book out .answer .state in
     by-octet s book out b (λ _ t. soundOf t ≡ true) h (λ _ n _.
-    let k = done-left s t book out in
+    let k = done-left s (takes s b) book out in
     parts-sound w (record {
       own = rw (k .own) (g .own);
       requested = rw (k .requested) (latest-most (s .own) book (s .requested) (outcomeOf t) n (g .requested));
@@ -203,16 +204,16 @@ octet-sound s book out b l h =
 -- The line-idle call
 
 module _ (s : State) where
-  -- all but the decoder is as it was
-  pub idle-left : lineIdleOf s .state ≡ withDecoder s (lineIdleOf s .state .decoder)
+  -- all but the decoder and the number of octets dropped is as it was
+  pub idle-left : lineIdleOf s .state ≡ withDecoder s (lineIdleOf s .state .decoder) (lineIdleOf s .state .dropped)
   unfolding lineIdleOf
-  idle-left = pick-by (λ (a : Answer). a .state ≡ withDecoder s (a .state .decoder)) (not (soundOf s)) (λ _. refl) (λ _. refl)
+  idle-left = pick-by (λ (a : Answer). a .state ≡ withDecoder s (a .state .decoder) (a .state .dropped)) (not (soundOf s)) (λ _. refl) (λ _. refl)
 
   idle-sound : soundOf s ≡ true → soundOf (lineIdleOf s .state) ≡ true
   idle-sound h =
       let g = sound-parts s h in
       rw (idle-done s h)
-      (parts-sound (withDecoder s (idledOf (s .decoder) .decoder)) (record {
+      (parts-sound (withDecoder s (idledOf (s .decoder) .decoder) (idles s .kept)) (record {
         own = g .own;
         requested = g .requested;
         info = idled-long (s .decoder) (g .info);

@@ -18,7 +18,7 @@ use Rattle.controller.specs.State.{State, all, freshOf, soundOf}
 use Rattle.controller.specs.Seconds.{startedOf, movedOn, pickedOf, noSecond}
 use Rattle.controller.specs.Demand3.{HostCall, octet, lineIdle, second, next, goesOn, run, Heard, hearsOctet, hears, hearsOn, LatestKept}
 use Rattle.controller.specs.Replies.{Answer}
-use Rattle.controller.proofs.Laws.{idle-done, moved-within, moved-ends}
+use Rattle.controller.proofs.Laws.{takes, idle-done, moved-within, moved-ends}
 use Rattle.controller.proofs.Judging.{record-octets}
 use Rattle.controller.proofs.Keeping.{done-left, by-octet, octet-own, octet-running, idle-left, by-picked, second-left, by-second, sound-kept, fresh-sound}
 
@@ -48,7 +48,7 @@ pub record Kept (address : ℕ) (s : State) (h : Heard) : Type 0 where
 pub kept-next : (own : ℕ) (s : State) (h : Heard) (e : HostCall) → Kept own s h → Kept own (next s e) (hears own h e)
 unfolding noSecond
 kept-next own s h (octet b l book out o) k =
-    let d = done-left s (takenOf (s .decoder) b) book out in
+    let d = done-left s (takes s b) book out in
     let heard = hearsOctet own book h (takenOf (h .decoder) b) in
     record {
       own = octet-own s book out b ∙ k .own;

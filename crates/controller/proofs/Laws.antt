@@ -1,23 +1,43 @@
 -- What follows from the definitions of specs/: one law for each way through.
 use Prim.Native.Nat.{ℕ, _+_, _≤_, _<_}
-use mathlib.Core.Path.{_≡_, _∙_}
+use mathlib.Core.Path.{_≡_, ap, _∙_}
 use mathlib.Core.Bool.{true, false}
 use mathlib.Core.List.{List, []}
 use borrow.Author.Tests.{eq-eqb, ne-eqb, lt-ltb, le-ltb, le-leb, lt-leb}
 use lib.ListN.{length}
 use Rattle.octets.specs.Refusal as refusal
-use Rattle.frame.specs.Decoder.{takenOf, idledOf}
+use Rattle.frame.specs.Decoder.{Taken, takenOf, idledOf}
+use Rattle.frame.specs.Dropped.{Counted, countedOf, idleCounted}
 use Rattle.frame.specs.Run.{Outcome, outcomeOf}
 use Rattle.message.specs.Reader.{codeIn}
 use Rattle.record.specs.Record.{bookLen, cycleOf}
 use Rattle.controller.specs.declared.Running.{Running}
 use Rattle.controller.specs.declared.Event.the-variants as event
-use Rattle.controller.specs.State.{State, outputLen, soundOf, readyIn, planRecord, startedAt, withDecoder}
+use Rattle.controller.specs.State.{State, outputLen, soundOf, readyIn, planRecord, startedAt}
 use Rattle.controller.specs.Handling.{handlingOf}
-use Rattle.controller.specs.Replies.{refusedCall, quiet, acks, forUs, isAnswer, unchanged, leaves, handledOf, messageOf, broughtOf, madeOf, doneOf, octetOf, lineIdleOf}
+use Rattle.controller.specs.Replies.{refusedCall, quiet, acks, forUs, isAnswer, unchanged, leaves, handledOf, messageOf, broughtOf, madeOf, doneOf, octetOf, idledAs, lineIdleOf}
+use Rattle.frame.proofs.Counting.{counted-taken, idle-taken}
 use Rattle.controller.specs.Seconds.{pickedOf, movedOn, noSecond, secondShown, secondOf}
 
 -- The octet call
+
+-- what an octet does to the decoder, by the decoder's own definition, and to the number of octets dropped
+abbrev pub takes : State → ℕ → Counted
+takes s b = let c = countedOf (s .decoder) (s .dropped) b in record { taken = takenOf (s .decoder) b; told = c .told; kept = c .kept }
+
+pub counted-takes : (s : State) (b : ℕ) → countedOf (s .decoder) (s .dropped) b ≡ takes s b
+counted-takes s b =
+    let c = countedOf (s .decoder) (s .dropped) b in
+    ap (λ (t : Taken). record { taken = t; told = c .told; kept = c .kept }) (counted-taken (s .decoder) (s .dropped) b)
+
+-- and a line-idle call
+abbrev pub idles : State → Counted
+idles s = let c = idleCounted (s .decoder) (s .dropped) in record { taken = idledOf (s .decoder); told = c .told; kept = c .kept }
+
+pub counted-idles : (s : State) → idleCounted (s .decoder) (s .dropped) ≡ idles s
+counted-idles s =
+    let c = idleCounted (s .decoder) (s .dropped) in
+    ap (λ (t : Taken). record { taken = t; told = c .told; kept = c .kept }) (idle-taken (s .decoder) (s .dropped))
 
 module _ (s : State) (book out : List ℕ) (b : ℕ) where
   pub octet-7 : soundOf s ≡ false → octetOf s book out b ≡ refusedCall s refusal.stateUnsound book out
@@ -32,13 +52,16 @@ module _ (s : State) (book out : List ℕ) (b : ℕ) where
   unfolding octetOf
   octet-9 h n l = rw (h, eq-eqb (length book) bookLen n, lt-leb outputLen (length out) l)
 
-  pub octet-done : soundOf s ≡ true → length book ≡ bookLen → outputLen ≤ length out → octetOf s book out b ≡ doneOf s (takenOf (s .decoder) b) book out
+  pub octet-counted : soundOf s ≡ true → length book ≡ bookLen → outputLen ≤ length out → octetOf s book out b ≡ doneOf s (countedOf (s .decoder) (s .dropped) b) book out
   unfolding octetOf
-  octet-done h n l = rw (h, eq-eqb (length book) bookLen n, le-leb outputLen (length out) l)
+  octet-counted h n l = rw (h, eq-eqb (length book) bookLen n, le-leb outputLen (length out) l)
+
+  pub octet-done : soundOf s ≡ true → length book ≡ bookLen → outputLen ≤ length out → octetOf s book out b ≡ doneOf s (takes s b) book out
+  octet-done h n l = octet-counted h n l ∙ rw (counted-takes s b)
 
   -- what the octet ended decides what the call makes of the state
   pub octet-brings : soundOf s ≡ true → length book ≡ bookLen → outputLen ≤ length out → {o : Outcome} → outcomeOf (takenOf (s .decoder) b) ≡ o
-      → octetOf s book out b ≡ madeOf s (takenOf (s .decoder) b .decoder) (broughtOf o s book) out
+      → octetOf s book out b ≡ madeOf s (takes s b) (broughtOf o s book) out
   unfolding doneOf
   octet-brings h n l e = octet-done h n l ∙ rw e
 
@@ -63,13 +86,13 @@ module _ (s : State) (seq addr : ℕ) (info book : List ℕ) where
 -- The line-idle call
 
 module _ (s : State) where
-  pub idle-7 : soundOf s ≡ false → lineIdleOf s ≡ quiet s refusal.stateUnsound
+  pub idle-7 : soundOf s ≡ false → lineIdleOf s ≡ quiet s refusal.stateUnsound 0
   unfolding lineIdleOf
   idle-7 h = rw h
 
-  pub idle-done : soundOf s ≡ true → lineIdleOf s ≡ quiet (withDecoder s (idledOf (s .decoder) .decoder)) refusal.none
+  pub idle-done : soundOf s ≡ true → lineIdleOf s ≡ idledAs s (idles s)
   unfolding lineIdleOf
-  idle-done h = rw h
+  idle-done h = rw (h, counted-idles s)
 
 -- The second call
 

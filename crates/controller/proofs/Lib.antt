@@ -8,4 +8,5 @@ pub mod AsWritten
 pub mod Latest
 pub mod Run
 pub mod OurSeq
+pub mod Dropped
 pub mod Table

@@ -31,7 +31,7 @@ use Rattle.controller.specs.Demand1.{OctetRefused}
 use Rattle.controller.specs.Demand2.{onLine}
 use Rattle.controller.specs.Demand3.{HostCall, octet, lineIdle, second, next, Heard, hears}
 use Rattle.controller.specs.OurSeq.{writes, writesOn, framesHeard, CountsFrom, OurSeqCounts}
-use Rattle.controller.proofs.Laws.{octet-brings, idle-done}
+use Rattle.controller.proofs.Laws.{takes, octet-brings, idle-done}
 use Rattle.controller.proofs.Judging.{RunningParts, sound-parts}
 use Rattle.controller.proofs.Replying.{can-find}
 use Rattle.controller.proofs.AsWritten.{GoodInfo, reply-good}
@@ -186,7 +186,7 @@ module _ (own : ℕ) (hw : own < 65535) where
   holds-next : (n : ℕ) (s : State) (e : HostCall) → Able n s → HoldsOctets (next s e .decoder)
   holds-next n s (octet b l book out o) a =
       by-octet s book out b (λ _ t. HoldsOctets (t .decoder)) (a .octets)
-      (λ _ _ _. rw (done-left s (takenOf (s .decoder) b) book out .decoder) (taken-octets (s .decoder) b l (a .octets) .0))
+      (λ _ _ _. rw (done-left s (takes s b) book out .decoder) (taken-octets (s .decoder) b l (a .octets) .0))
   holds-next n s lineIdle a = subst HoldsOctets (sym (ap (λ (w : Answer). w .state .decoder) (idle-done s (a .kept .sound)))) (idled-octets (s .decoder) (a .octets))
   holds-next n s (second book o) a = rw (ap (λ (t : State). t .decoder) (second-left s book)) (a .octets)
 

@@ -133,6 +133,7 @@ seconds-leave s book h hb o =
       seq = ap (λ (t : State). t .seq) e;
       requested = ap (λ (t : State). t .requested) e;
       decoder = ap (λ (t : State). t .decoder) e;
+      dropped = ap (λ (t : State). t .dropped) e;
       which = second-which s book;
       onward = λ l. m ∙ moved-within u (s .requested) book l;
       over = λ l. (

@@ -16,7 +16,8 @@ use Rattle.octets.proofs.Laws.{pick-by}
 use Rattle.frame.specs.declared.Kind.{Kind}
 use Rattle.frame.specs.declared.Kind.the-variants.{Message, Ack, Nak}
 use Rattle.frame.specs.Frame.{Frame, message, ack, nak, infoMost}
-use Rattle.frame.specs.Decoder.{Decoder, takenOf}
+use Rattle.frame.specs.Decoder.{takenOf}
+use Rattle.frame.specs.Dropped.{Counted}
 use Rattle.frame.specs.Run.{Outcome, sound, outcomeOf}
 use Rattle.message.specs.Names.{planAt}
 use Rattle.message.specs.Reader.{codeIn, bodyIn, readOf}
@@ -41,7 +42,7 @@ use Rattle.controller.specs.Replies.{Call, sent, errOf, naks, forUs, isA
 use Rattle.controller.specs.Demand2.{Wrote, Err, IsAnswer, RecordOfPlan, RepliesSo, Replies, Answers, CarriedOut, Reported, Refused, HandledSo, Handles, SecondsShow}
 use Rattle.controller.proofs.Judging.{sound-parts, record-octets}
 use Rattle.controller.proofs.Keeping.{second-left}
-use Rattle.controller.proofs.Laws.{octet-brings, message-other, message-answer, message-handled, second-done}
+use Rattle.controller.proofs.Laws.{takes, octet-brings, message-other, message-answer, message-handled, second-done}
 use Rattle.controller.proofs.Replying.{reply-fits, nak-fits, ack-fits, sent-most}
 use Rattle.controller.proofs.Answering.{written-take}
 
@@ -94,9 +95,9 @@ pub record Served (s : State) (before : List ℕ) (seq addr : ℕ) (h : Handling
   pub reply : addr ≡ s .own → Wrote w (repliesOf seq (s .seq) (s .own) (replyInfo s before (h .handled .reply))) × (w .answer .state .seq ≡ (s .seq + 1) % 256)
   pub silent : (addr ≡ s .own → ⊥) → Wrote w [] × (w .answer .state .seq ≡ s .seq)
 
-module _ (s : State) (d : Decoder) (before : List ℕ) (seq addr : ℕ) (h : Handling) (out : List ℕ) (ho : outputLen ≤ length out) where
+module _ (s : State) (c : Counted) (before : List ℕ) (seq addr : ℕ) (h : Handling) (out : List ℕ) (ho : outputLen ≤ length out) where
   abbrev made : Call
-  made = madeOf s d (handledOf s before seq addr h) out
+  made = madeOf s c (handledOf s before seq addr h) out
 
   served : length (replyInfo s before (h .handled .reply)) ≤ infoMost → Served s before seq addr h made
   unfolding repliedOf
@@ -118,13 +119,13 @@ module _ (s : State) (book out : List ℕ) (b : ℕ) (h : soundOf s ≡ true) (h
   abbrev w : Call
   w = octetOf s book out b
 
-  abbrev d : Decoder
-  d = takenOf (s .decoder) b .decoder
+  abbrev t : Counted
+  t = takes s b
 
   abbrev Ends : Outcome → Type 0
   Ends o = outcomeOf (takenOf (s .decoder) b) ≡ o
 
-  brings : {o : Outcome} → Ends o → w ≡ madeOf s d (broughtOf o s book) out
+  brings : {o : Outcome} → Ends o → w ≡ madeOf s t (broughtOf o s book) out
   brings e = octet-brings s book out b h hb ho e
 
   other : all ≡ s .own → ⊥
@@ -134,7 +135,7 @@ module _ (s : State) (book out : List ℕ) (b : ℕ) (h : soundOf s ≡ true) (h
       → isAnswer (codeIn info) ≡ false → Served s book seq addr (handlingOf s book info) w
   message-served seq addr info e a n =
       rw (brings e, message-handled s seq addr info book (for-us (s .own) addr a) n)
-      (served s d book seq addr (handlingOf s book info) out ho (reply-fits s book info (sound-parts s h .running .checks)))
+      (served s t book seq addr (handlingOf s book info) out ho (reply-fits s book info (sound-parts s h .running .checks)))
 
   no-naks : (n : ℕ) (k : Kind) (seq addr : ℕ) → (k ≡ Message → ⊥) ⊎ (addr ≡ s .own → ⊥) → naks k (s .own) n seq addr ≡ []
   no-naks n Message seq addr (inl g) = absurd (g refl)

@@ -26,14 +26,14 @@ use Rattle.controller.specs.State.{State, outputLen, freshOf, soundOf}
 use Rattle.controller.specs.Handling.{replyInfo, runAs, handlingOf}
 use Rattle.controller.specs.Replies.{repliedOf, messageOf, doneOf, octetOf}
 use Rattle.controller.specs.Table.{emptyOut, writtenBy, cameOut, stateAfter, p1, p4, stepRow, rows, due, OneTable}
-use Rattle.controller.proofs.Laws.{octet-done}
+use Rattle.controller.proofs.Laws.{takes, octet-done}
 use Rattle.controller.proofs.Keeping.{sound-kept, fresh-sound}
 
 -- what calls that are not refused make of octets: what they write, and the state then
 unfoldable doneWith : State → List ℕ → List ℕ × State
 doneWith s [] = ([], s)
 doneWith s (b ∷ bs) =
-    let w = doneOf s (takenOf (s .decoder) b) emptyBook emptyOut in
+    let w = doneOf s (takes s b) emptyBook emptyOut in
     let rest = doneWith (w .answer .state) bs in
     (writtenBy w ++ rest .0, rest .1)
 

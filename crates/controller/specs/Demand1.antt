@@ -61,9 +61,9 @@ pub data OctetRefused (s : State) (book out : List ℕ) : ℕ → Type 0 where
   -- "output too short: 544 for an octet call"
   output : soundOf s ≡ true → length book ≡ 3840 → length out < 544 → OctetRefused s book out 9
 
--- "same state, nothing written"; "Other numbers in a refused call's result are 0": no parameter, no count, and no event
+-- "same state, nothing written"; "Other numbers in a refused call's result are 0": no parameter, no count, no octets dropped, and no event
 abbrev pub AnswerRefused : State → ℕ → Answer → Type 0
-AnswerRefused s n a = a ≡ record { state = s; told = record { refusal = n; parameter = 0; event = event.Nothing; count = 0 } }
+AnswerRefused s n a = a ≡ record { state = s; told = record { refusal = n; parameter = 0; event = event.Nothing; count = 0; dropped = 0 } }
 
 -- "leaves book and output as they came"
 pub record CallRefused (s : State) (lent output : List ℕ) (n : ℕ) (w : Call) : Type 0 where
@@ -96,7 +96,7 @@ abbrev pub ShownRefused : State → ℕ → Shown → Type 0
 ShownRefused s n w =
     w ≡ record {
       state = s;
-      told = record { refusal = n; parameter = 0; event = event.Nothing; count = 0 };
+      told = record { refusal = n; parameter = 0; event = event.Nothing; count = 0; dropped = 0 };
       plan = 0;
       row = record { step = 0; left = 0; steady = 0; flashing = 0 };
     }
@@ -111,7 +111,8 @@ SecondsAnswered = (s : State) (book : List ℕ) → SecondAnswered s book
 
 -- Line-idle calls
 
--- "A line-idle call .. returns the decoder to idle and changes nothing else", in the decoder too
+-- "A line-idle call .. returns the decoder to idle and changes nothing else", in the decoder too; 02, E5: but for the octets that are counted, on which
+-- `Dropped` has its own word
 abbrev pub AtIdle : State → State → Type 0
 AtIdle s t =
     let h = s .decoder .head in
@@ -123,12 +124,13 @@ AtIdle s t =
         head = record { place = Idle; kind = h .kind; seq = h .seq; err = h .err; addr = h .addr; len = h .len; filled = h .filled };
         info = s .decoder .info;
       };
+      dropped = t .dropped;
       running = s .running;
     }
 
 pub record IdleDone (s : State) (a : Answer) : Type 0 where
   pub state : AtIdle s (a .state)
-  pub others : a ≡ record { state = a .state; told = record { refusal = 0; parameter = 0; event = event.Nothing; count = 0 } }
+  pub others : a ≡ record { state = a .state; told = record { refusal = 0; parameter = 0; event = event.Nothing; count = 0; dropped = a .told .dropped } }
 
 -- refusal 7 of it
 pub record IdleAnswered (s : State) : Type 0 where
@@ -140,8 +142,8 @@ IdlesAnswered = (s : State) → IdleAnswered s
 
 -- The fresh start
 
--- "A fresh start runs and requests plan 0 at position 0"; "Our SEQ starts at 0"; its decoder is idle, whatever its octets of INFO hold;
--- 02, E1: "The state keeps which one", and plan 0 is that one
+-- "A fresh start runs and requests plan 0 at position 0"; "Our SEQ starts at 0"; its decoder is idle, whatever its octets of INFO hold, and no octet
+-- is dropped; 02, E1: "The state keeps which one", and plan 0 is that one
 abbrev pub FreshAt : Which → ℕ → List ℕ → State → Type 0
 FreshAt which own kept t =
     t ≡ record {
@@ -149,6 +151,7 @@ FreshAt which own kept t =
       seq = 0;
       requested = 0;
       decoder = record { head = record { place = Idle; kind = Message; seq = 0; err = 0; addr = 0; len = 0; filled = 0 }; info = kept };
+      dropped = 0;
       running = record { which = which; plan = 0; position = 0; copy = builtIn which };
     }
 
@@ -156,7 +159,7 @@ FreshAt which own kept t =
 -- there too
 pub record StartAnswered (which : Which) (own : ℕ) (kept : List ℕ) (a : Answer) : Type 0 where
   pub state : FreshAt which own kept (a .state)
-  pub others : a ≡ record { state = a .state; told = record { refusal = a .told .refusal; parameter = 0; event = event.Nothing; count = 0 } }
+  pub others : a ≡ record { state = a .state; told = record { refusal = a .told .refusal; parameter = 0; event = event.Nothing; count = 0; dropped = 0 } }
   pub refused : own ≡ 0xFFFF → (a .told .refusal ≡ 6) × (soundOf (a .state) ≡ false)
   pub done : (own ≡ 0xFFFF → ⊥) → (a .told .refusal ≡ 0) × (length kept ≡ 256 → soundOf (a .state) ≡ true)
   -- and what runs and listings begin with
@@ -201,7 +204,8 @@ pub record ByParts : Type 0 where
     own = s .own;
     seq = s .seq;
     requested = s .requested;
-    decoder = record { head = s .head; info = take 256 kept };
+    decoder = record { head = s .receiver .head; info = take 256 kept };
+    dropped = s .receiver .dropped;
     running = s .running;
   }
   pub answer : (r : HeldAnswer) (kept : List ℕ) → answerWith r kept ≡ record { state = joined (r .state) kept; told = r .told }
@@ -222,7 +226,8 @@ pub record LeavesSo (w : Call) (lent : List ℕ) (r : HeldAnswer) (k b o : List 
   pub own : r .state .own ≡ w .answer .state .own
   pub seq : r .state .seq ≡ w .answer .state .seq
   pub requested : r .state .requested ≡ w .answer .state .requested
-  pub head : r .state .head ≡ w .answer .state .decoder .head
+  pub head : r .state .receiver .head ≡ w .answer .state .decoder .head
+  pub dropped : r .state .receiver .dropped ≡ w .answer .state .dropped
   pub running : r .state .running ≡ w .answer .state .running
   pub told : r .told ≡ w .answer .told
   pub info : k ≡ w .answer .state .decoder .info ++ drop 256 lent

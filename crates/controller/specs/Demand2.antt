@@ -53,10 +53,10 @@ pub data Err : ℕ → ℕ → Type 0 where
 abbrev pub IsAnswer : List ℕ → Type 0
 IsAnswer info = (codeIn info ≡ 0x0F80) ⊎ (codeIn info ≡ 0x0F81)
 
--- nothing but the decoder has changed: the book is as it came, and no parameter is named
+-- nothing but the decoder, and the octets that are counted, has changed: the book is as it came, and no parameter is named
 pub record OnlyTaken (s : State) (before : List ℕ) (b : ℕ) (w : Call) : Type 0 where
   pub state : w .answer .state
-      ≡ record { own = s .own; seq = s .seq; requested = s .requested; decoder = takenOf (s .decoder) b .decoder; running = s .running }
+      ≡ record { own = s .own; seq = s .seq; requested = s .requested; decoder = takenOf (s .decoder) b .decoder; dropped = w .answer .state .dropped; running = s .running }
   pub book : w .book ≡ before
   pub parameter : w .answer .told .parameter ≡ 0
 
@@ -104,7 +104,7 @@ pub record RepliesSo (s : State) (book : List ℕ) (b : ℕ) (o : Outcome) (w : 
   pub nakOther : (seq addr err : ℕ) → o ≡ sound (nak seq addr err) → (addr ≡ s .own → ⊥) → Hands s [] w
   -- whatever it brought: the octet is taken, and own address and running plan stay
   pub rest : w .answer .state
-      ≡ record { own = s .own; seq = w .answer .state .seq; requested = w .answer .state .requested; decoder = takenOf (s .decoder) b .decoder; running = s .running }
+      ≡ record { own = s .own; seq = w .answer .state .seq; requested = w .answer .state .requested; decoder = takenOf (s .decoder) b .decoder; dropped = w .answer .state .dropped; running = s .running }
 
 abbrev pub Replies : Type 0
 Replies =
@@ -216,7 +216,7 @@ pub record ShowsStep (s : State) (book : List ℕ) : Type 0 where
   pub plan : secondOf s book .plan ≡ s .running .plan
   pub row : Due (secondsOf (s .running .copy)) (orderOf (s .running .copy)) (stepsOfPlan (s .running .copy)) (s .running .position) (secondOf s book .row)
   pub rest : secondOf s book .state
-      ≡ record { own = s .own; seq = s .seq; requested = s .requested; decoder = s .decoder; running = secondOf s book .state .running }
+      ≡ record { own = s .own; seq = s .seq; requested = s .requested; decoder = s .decoder; dropped = s .dropped; running = secondOf s book .state .running }
 
 abbrev pub SecondsShow : Type 0
 SecondsShow = (s : State) (book : List ℕ) → soundOf s ≡ true → length book ≡ 3840 → Octets (s .running .copy) → ShowsStep s book

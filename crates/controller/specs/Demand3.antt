@@ -174,6 +174,7 @@ pub record SecondLeft (s : State) (book : List ℕ) (t : State) : Type 0 where
   pub seq : t .seq ≡ s .seq
   pub requested : t .requested ≡ s .requested
   pub decoder : t .decoder ≡ s .decoder
+  pub dropped : t .dropped ≡ s .dropped
   pub which : t .running .which ≡ s .running .which
   pub onward : s .running .position + 1 < cycleOf (s .running .copy)
       → t .running ≡ record { which = s .running .which; plan = s .running .plan; position = s .running .position + 1; copy = s .running .copy }

@@ -6,4 +6,5 @@ pub mod Demand1
 pub mod Demand2
 pub mod Demand3
 pub mod OurSeq
+pub mod Dropped
 pub mod Table

@@ -14,7 +14,7 @@ use Rattle.frame.specs.declared.Kind.the-variants.{Message, Ack, Nak}
 use Rattle.frame.specs.declared.decoder.Found.{Found}
 use Rattle.frame.specs.declared.decoder.Found.the-variants as found
 use Rattle.frame.specs.Frame.{Frame, message, ack, nak, infoMost, written}
-use Rattle.frame.specs.Decoder.{Decoder, Taken, takenOf, idledOf}
+use Rattle.frame.specs.Dropped.{Counted, countedOf, idleCounted}
 use Rattle.frame.specs.Run.{Outcome, nothing, refused, sound, outcomeOf}
 use Rattle.message.specs.Reader.{codeIn}
 use Rattle.record.specs.Record.{bookLen}
@@ -56,19 +56,19 @@ abbrev pub sent : List Frame → List ℕ
 sent [] = []
 sent (f ∷ fs) = written f ++ sent fs
 
--- the answer of a call that leaves the state s, names refusal n and its parameter, hands e to the host and writes the frames fs
-abbrev pub answerOf : State → ℕ → ℕ → Event → List Frame → Answer
-answerOf s n parameter e fs = record { state = s; told = record { refusal = n; parameter = parameter; event = e; count = length (sent fs) } }
+-- the answer of a call that leaves the state s, names refusal n and its parameter, hands e to the host, writes the frames fs and tells `dropped` octets
+abbrev pub answerOf : State → ℕ → ℕ → Event → List Frame → ℕ → Answer
+answerOf s n parameter e fs dropped = record { state = s; told = record { refusal = n; parameter = parameter; event = e; count = length (sent fs); dropped = dropped } }
 
-abbrev pub callOf : State → ℕ → ℕ → Event → List Frame → List ℕ → List ℕ → Call
-callOf s n parameter e fs book out = record { answer = answerOf s n parameter e fs; book = book; out = sets out 0 (sent fs) }
+abbrev pub callOf : State → ℕ → ℕ → Event → List Frame → ℕ → List ℕ → List ℕ → Call
+callOf s n parameter e fs dropped book out = record { answer = answerOf s n parameter e fs dropped; book = book; out = sets out 0 (sent fs) }
 
--- "same state, nothing written"; "Other numbers in a refused call's result are 0."
-abbrev pub quiet : State → ℕ → Answer
-quiet s n = answerOf s n 0 event.Nothing []
+-- a call that writes nothing: "same state, nothing written", "Other numbers in a refused call's result are 0."; or one that has only counted
+abbrev pub quiet : State → ℕ → ℕ → Answer
+quiet s n dropped = answerOf s n 0 event.Nothing [] dropped
 
 abbrev pub refusedCall : State → ℕ → List ℕ → List ℕ → Call
-refusedCall s n book out = callOf s n 0 event.Nothing [] book out
+refusedCall s n book out = callOf s n 0 event.Nothing [] 0 book out
 
 -- "NAK, ERR 01", "NAK, ERR 02", "NAK, ERR 04"
 abbrev pub errOf : ℕ → ℕ
@@ -163,15 +163,15 @@ broughtOf (sound (message seq addr info)) s book = messageOf s seq addr info boo
 broughtOf (sound (ack seq addr)) s book = leaves book (unchanged s refusal.none (eventFor (s .own) addr (event.Ack seq)) [])
 broughtOf (sound (nak seq addr err)) s book = leaves book (unchanged s refusal.none (eventFor (s .own) addr (event.Nak seq err)) [])
 
--- the call that the state s makes of it, whose decoder is then d
-abbrev pub madeOf : State → Decoder → ResultAndBook → List ℕ → Call
-madeOf s d w out =
+-- the call that the state s makes of it, c being what the octet does to the decoder and to the number of octets dropped
+abbrev pub madeOf : State → Counted → ResultAndBook → List ℕ → Call
+madeOf s c w out =
     let r = w .result in
-    let t : State = record { own = s .own; seq = r .seq; requested = r .requested; decoder = d; running = s .running } in
-    callOf t (r .refusal) (r .parameter) (r .event) (r .frames) (w .book) out
+    let t : State = record { own = s .own; seq = r .seq; requested = r .requested; decoder = c .taken .decoder; dropped = c .kept; running = s .running } in
+    callOf t (r .refusal) (r .parameter) (r .event) (r .frames) (c .told) (w .book) out
 
-unfoldable pub doneOf : State → Taken → List ℕ → List ℕ → Call
-doneOf s t book out = madeOf s (t .decoder) (broughtOf (outcomeOf t) s book) out
+unfoldable pub doneOf : State → Counted → List ℕ → List ℕ → Call
+doneOf s c book out = madeOf s c (broughtOf (outcomeOf (c .taken)) s book) out
 
 -- "Order: 7, 8, 9 in a call"
 unfoldable pub octetOf : State → List ℕ → List ℕ → ℕ → Call
@@ -179,11 +179,12 @@ octetOf s book out b =
     pick (not (soundOf s)) (refusedCall s refusal.stateUnsound book out)
     (pick (not (eqb (length book) bookLen)) (refusedCall s refusal.bookWrong book out)
     (pick (not (leb outputLen (length out))) (refusedCall s refusal.outputShort book out)
-    (doneOf s (takenOf (s .decoder) b) book out)))
+    (doneOf s (countedOf (s .decoder) (s .dropped) b) book out)))
 
--- The line-idle call: "returns the decoder to idle and changes nothing else"
+-- The line-idle call: "returns the decoder to idle and changes nothing else"; 02, E5: "Line-idle counts the frame or AA it abandons."
+
+abbrev pub idledAs : State → Counted → Answer
+idledAs s c = quiet (withDecoder s (c .taken .decoder) (c .kept)) refusal.none (c .told)
 
 unfoldable pub lineIdleOf : State → Answer
-lineIdleOf s =
-    pick (not (soundOf s)) (quiet s refusal.stateUnsound)
-    (quiet (withDecoder s (idledOf (s .decoder) .decoder)) refusal.none)
+lineIdleOf s = pick (not (soundOf s)) (quiet s refusal.stateUnsound 0) (idledAs s (idleCounted (s .decoder) (s .dropped)))

@@ -25,7 +25,7 @@ use Rattle.controller.specs.State.{State, joined, keptLen, all, freshOf,
 
 -- a call that tells its refusal alone
 abbrev pub tells : ℕ → Told
-tells n = record { refusal = n; parameter = 0; event = event.Nothing; count = 0 }
+tells n = record { refusal = n; parameter = 0; event = event.Nothing; count = 0; dropped = 0 }
 
 unfoldable pub startedOf : Which → ℕ → List ℕ → Answer
 startedOf which own info = record { state = freshOf which own info; told = tells (pick (eqb own all) refusal.startWrong refusal.none) }

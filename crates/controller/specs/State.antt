@@ -15,12 +15,13 @@ use Rattle.plan.specs.Reading.{recordAt, same}
 use Rattle.controller.specs.declared.Running.{Running}
 use Rattle.controller.specs.declared.Held.{Held}
 
--- own address, our SEQ, the requested plan, the decoder with the octets that it keeps for INFO, the running plan
+-- own address, our SEQ, the requested plan, the decoder with the octets that it keeps for INFO, the octets dropped, the running plan
 pub record State : Type 0 where
   pub own : ℕ
   pub seq : ℕ
   pub requested : ℕ
   pub decoder : Decoder
+  pub dropped : ℕ
   pub running : Running
 
 -- In the code the state is a struct and octets that the host lends. So many of these are wanted: the 256 that the decoder keeps for INFO.
@@ -29,7 +30,9 @@ keptLen = infoMost
 
 -- the state that the struct and the octets lent are; where more are lent, those beyond are no part of it
 abbrev pub joined : Held → List ℕ → State
-joined s kept = record { own = s .own; seq = s .seq; requested = s .requested; decoder = joinedDecoder (s .head) kept; running = s .running }
+joined s kept =
+    let r = s .receiver in
+    record { own = s .own; seq = s .seq; requested = s .requested; decoder = joinedDecoder (r .head) kept; dropped = r .dropped; running = s .running }
 
 -- "FFFF is for all"
 abbrev pub all : ℕ
@@ -44,16 +47,16 @@ abbrev pub startedAt : Which → ℕ → List ℕ → Running
 startedAt which plan rec = record { which = which; plan = plan; position = 0; copy = rec }
 
 -- "A fresh start runs and requests plan 0 at position 0"; "Our SEQ starts at 0"; 02, E1: "A start call that names the old built-in plan
--- stays .. the plain start takes the new one. The state keeps which one"; what the octets of INFO hold does not matter
+-- stays .. the plain start takes the new one. The state keeps which one"; what the octets of INFO hold does not matter; E5: no octet is dropped
 unfoldable pub freshOf : Which → ℕ → List ℕ → State
-freshOf which own info = record { own = own; seq = 0; requested = 0; decoder = freshDecoder info; running = startedAt which 0 (builtIn which) }
+freshOf which own info = record { own = own; seq = 0; requested = 0; decoder = freshDecoder info; dropped = 0; running = startedAt which 0 (builtIn which) }
 
--- the state with another decoder, another running plan
-abbrev pub withDecoder : State → Decoder → State
-withDecoder s d = record { own = s .own; seq = s .seq; requested = s .requested; decoder = d; running = s .running }
+-- the state with another decoder and number of octets dropped, another running plan
+abbrev pub withDecoder : State → Decoder → ℕ → State
+withDecoder s d n = record { own = s .own; seq = s .seq; requested = s .requested; decoder = d; dropped = n; running = s .running }
 
 abbrev pub withRunning : State → Running → State
-withRunning s u = record { own = s .own; seq = s .seq; requested = s .requested; decoder = s .decoder; running = u }
+withRunning s u = record { own = s .own; seq = s .seq; requested = s .requested; decoder = s .decoder; dropped = s .dropped; running = u }
 
 -- the record of plan p: "Plan 0 is built in", all others stand in the book; "plan 0 means that one throughout"
 abbrev pub recordWith : List ℕ → List ℕ → ℕ → List ℕ

@@ -2,7 +2,7 @@
 // call makes of state, book and output is defined in specs/, and demands 1 to 3 are proved of it in proofs/. The functions that
 // are proved to do so are the crate `controller_calls`.
 use frame::INFO_MOST;
-use frame::decoder::Head;
+use frame::decoder::Receiver;
 use lamps::Row;
 use plan::Which;
 use record::RECORD_LEN;
@@ -30,7 +30,7 @@ pub struct Held {
     pub own: u16,
     pub seq: u8,
     pub requested: u8,
-    pub head: Head,
+    pub receiver: Receiver,
     pub running: Running,
 }
 
@@ -42,12 +42,14 @@ pub enum Event {
 }
 
 // What every call tells. The refusal is that of the call, or of the frame or message that the octet ended; the parameter is the
-// field that a refused message's reply names; the count is of octets written.
+// field that a refused message's reply names; the count is of octets written. 02, E5: the octets dropped since the last sound frame or the start, as
+// the decoder tells them; a start and a second tell 0.
 pub struct Told {
     pub refusal: u8,
     pub parameter: u8,
     pub event: Event,
     pub count: usize,
+    pub dropped: u16,
 }
 
 // What a fresh start, an octet call or a line-idle call answers.

@@ -9,23 +9,24 @@ use borrow.Author.Tests.{eq-eqb, ne-eqb, le-leb, lt-leb}
 use lib.Dec.{eqb, leb}
 use lib.ListN.{length, set, replicate, length-replicate}
 use lib.Seq.{take-set-lt, drop-set-lt}
-use Rattle.octets.specs.Refusal as refusal
 use Rattle.frame.specs.Frame.{infoMost}
 use Rattle.frame.specs.declared.decoder.Head.{Head}
-use Rattle.frame.specs.declared.decoder.HeadTaken.{HeadTaken}
-use Rattle.frame.specs.Decoder.{Taken, idleDrops, infoGoesOn, possibleOf, takenOf, joinedDecoder, octetLent, idleLent, takenWith, TakenLeaves}
-use Rattle.frame.proofs.Laws.{taken-dropped, room-info}
-use Rattle.frame.proofs.Lent.{take-short, taken-long, enough, short, octets-lent, info-goes-on}
+use Rattle.frame.specs.declared.decoder.Received.{Received}
+use Rattle.frame.specs.Decoder.{Decoder, Taken, idleDrops, infoGoesOn, possibleOf, takenOf, joinedDecoder}
+use Rattle.frame.specs.Dropped.{Counted, countedOf, octetLent, idleLent, receivedWith, ReceivedLeaves}
+use Rattle.frame.proofs.Laws.{room-info}
+use Rattle.frame.proofs.Counting.{counted-dropped, counted-taken}
+use Rattle.frame.proofs.Lent.{take-short, taken-long, enough, short, octets-lent, info-goes-on, counted-goes}
 use Rattle.record.specs.Record.{plansMost}
 use Rattle.checks.proofs.Stands.{plan-fits, ready-plan}
 use Rattle.controller.specs.declared.Held.{Held}
 use Rattle.controller.specs.declared.HeldAnswer.{HeldAnswer}
-use Rattle.controller.specs.State.{joined, all, runningSound, soundOf, withDecoder}
-use Rattle.controller.specs.Replies.{CanFind, CallLeaves, answerWith, quiet, refusedCall, doneOf, lineIdleOf}
+use Rattle.controller.specs.State.{joined, all, runningSound, soundOf}
+use Rattle.controller.specs.Replies.{CanFind, CallLeaves, answerWith, refusedCall, doneOf, idledAs, lineIdleOf}
 use Rattle.controller.proofs.Judging.{sound-parts}
-use Rattle.controller.proofs.Laws.{idle-done}
+use Rattle.controller.proofs.Laws.{counted-idles, idle-done}
 use Rattle.controller.proofs.Replying.{can-find}
-use Rattle.controller_calls.specs.Held.{heldSound, heldQuiet}
+use Rattle.controller_calls.specs.Held.{heldSound, heldQuiet, heldCounted, withReceiver, heldDropped}
 use Rattle.controller_calls.specs.Replies.{KeptWith}
 
 -- Soundness, way by way
@@ -45,7 +46,7 @@ module _ (s : Held) (lent : ℕ) where
       unfolding heldSound
       too-few h = rw (ne-eqb (s .own) all ho, le-leb (s .requested) plansMost hr, lt-leb infoMost lent h)
 
-      module _ (hl : infoMost ≤ lent) {p : Bool} (ep : p ≡ possibleOf (s .head)) where
+      module _ (hl : infoMost ≤ lent) {p : Bool} (ep : p ≡ possibleOf (s .receiver .head)) where
         pub impossible : p ≡ false → false ≡ heldSound s lent
         unfolding heldSound
         impossible h = rw (ne-eqb (s .own) all ho, le-leb (s .requested) plansMost hr, le-leb infoMost lent hl, ← ep, h)
@@ -56,11 +57,11 @@ module _ (s : Held) (lent : ℕ) where
 
 -- It is the state's
 
-enough-lent : (s : Held) (kept : List ℕ) → leb infoMost (length kept) ≡ eqb (length (joinedDecoder (s .head) kept .info)) infoMost
+enough-lent : (s : Held) (kept : List ℕ) → leb infoMost (length kept) ≡ eqb (length (joinedDecoder (s .receiver .head) kept .info)) infoMost
 enough-lent s kept =
     elim (decLt (length kept) infoMost) [
-      | yes l ↦ lt-leb infoMost (length kept) l ∙ sym (short (s .head) kept l)
-      | no l ↦ le-leb infoMost (length kept) (omega arith) ∙ sym (enough (s .head) kept (omega arith))
+      | yes l ↦ lt-leb infoMost (length kept) l ∙ sym (short (s .receiver .head) kept l)
+      | no l ↦ le-leb infoMost (length kept) (omega arith) ∙ sym (enough (s .receiver .head) kept (omega arith))
     ]
 
 module _ (s : Held) (kept : List ℕ) where
@@ -70,7 +71,7 @@ module _ (s : Held) (kept : List ℕ) where
 
   pub sound-lent : infoMost ≤ length kept → heldSound s infoMost ≡ soundOf (joined s kept)
   unfolding heldSound soundOf
-  sound-lent l = rw (enough (s .head) kept l)
+  sound-lent l = rw (enough (s .receiver .head) kept l)
 
   pub lent-enough : soundOf (joined s kept) ≡ true → infoMost ≤ length kept
   lent-enough h = omega (arith, sound-parts (joined s kept) h .info, take-short infoMost kept)
@@ -85,53 +86,61 @@ module _ (s : Held) (lent book out : List ℕ) where
   pub leaves-quiet : (n : ℕ) {r : HeldAnswer} → r ≡ heldQuiet s n → CallLeaves (refusedCall (joined s lent) n book out) lent r lent book out
   leaves-quiet n e = rw e (record { answer = refl; beyond = refl; book = refl; out = refl })
 
-  -- an octet that is dropped leaves everything as it is
-  pub octet-dropped : (b : ℕ) → idleDrops (s .head .place) b ≡ true
-      → doneOf (joined s lent) (takenOf (joinedDecoder (s .head) lent) b) book out ≡ refusedCall (joined s lent) refusal.none book out
-  unfolding doneOf
-  octet-dropped b h = ap (λ (t : Taken). doneOf (joined s lent) t book out) (taken-dropped (joinedDecoder (s .head) lent) b h)
+  -- an octet that is dropped is counted, and else leaves everything as it is
+  pub leaves-dropped : (b : ℕ) → idleDrops (s .receiver .head .place) b ≡ true → {r : HeldAnswer} → r ≡ heldDropped s
+      → CallLeaves (doneOf (joined s lent) (countedOf (joinedDecoder (s .receiver .head) lent) (s .receiver .dropped) b) book out) lent r lent book out
+  unfolding doneOf heldDropped
+  leaves-dropped b h e = rw (e, counted-dropped (joinedDecoder (s .receiver .head) lent) (s .receiver .dropped) b h) (record { answer = refl; beyond = refl; book = refl; out = refl })
 
 module _ (s : Held) (lent : List ℕ) where
-  pub taken-lent : soundOf (joined s lent) ≡ true → (b : ℕ) → octetLent (joinedDecoder (s .head) lent) b ≡ takenOf (joinedDecoder (s .head) lent) b
-  taken-lent h b = octets-lent .0 (s .head) lent .octetEnough b (lent-enough s lent h)
+  abbrev h₀ : Head
+  h₀ = s .receiver .head
+
+  abbrev n : ℕ
+  n = s .receiver .dropped
+
+  abbrev d : Decoder
+  d = joinedDecoder (s .receiver .head) lent
+
+  pub taken-lent : soundOf (joined s lent) ≡ true → (b : ℕ) → octetLent d n b ≡ countedOf d n b
+  taken-lent h b = octets-lent .0 h₀ lent .octetEnough n b (lent-enough s lent h)
 
   -- the decoder's call leaves as many octets as the state wants, and finds what it can find
-  module _ (b : ℕ) {t : HeadTaken} {k : List ℕ} (h : soundOf (joined s lent) ≡ true) (l : TakenLeaves (octetLent (joinedDecoder (s .head) lent) b) lent t k) where
-    taken-so : takenWith t k ≡ takenOf (joinedDecoder (s .head) lent) b
-    taken-so = l .answer ∙ taken-lent h b
+  module _ (b : ℕ) {t : Received} {k : List ℕ} (h : soundOf (joined s lent) ≡ true) (l : ReceivedLeaves (octetLent d n b) lent t k) where
+    taken-so : receivedWith t k .taken ≡ takenOf d b
+    taken-so = ap (λ (c : Counted). c .taken) (l .answer ∙ taken-lent h b) ∙ counted-taken d n b
 
     pub left-enough : infoMost ≤ length k
     left-enough =
-        let i = taken-long (joinedDecoder (s .head) lent) (sound-parts (joined s lent) h .info) b in
+        let i = taken-long d (sound-parts (joined s lent) h .info) b in
         omega (arith, take-short infoMost k, ap (λ (w : Taken). length (w .decoder .info)) taken-so, i)
 
     pub found-fits : CanFind (t .found)
-    found-fits = subst (λ (w : Taken). CanFind (w .found)) (sym taken-so) (can-find (joinedDecoder (s .head) lent) b (sound-parts (joined s lent) h .decoder))
+    found-fits = subst (λ (w : Taken). CanFind (w .found)) (sym taken-so) (can-find d b (sound-parts (joined s lent) h .decoder))
 
   -- an octet of INFO behind which others come has its place in the octets lent, and is kept there
-  module _ (b : ℕ) (h : soundOf (joined s lent) ≡ true) (g : infoGoesOn (s .head .place) (s .head .len) (s .head .filled) b ≡ true) where
-    pub kept-room : s .head .filled < infoMost
-    kept-room = room-info (s .head) (info-goes-on (joinedDecoder (s .head) lent) b .saidOnly g .0) (sound-parts (joined s lent) h .decoder)
+  module _ (b : ℕ) (h : soundOf (joined s lent) ≡ true) (g : infoGoesOn (h₀ .place) (h₀ .len) (h₀ .filled) b ≡ true) where
+    pub kept-room : h₀ .filled < infoMost
+    kept-room = room-info h₀ (info-goes-on d b .saidOnly g .0) (sound-parts (joined s lent) h .decoder)
 
-    pub kept-with : {r : HeldAnswer}
-        → r ≡ heldQuiet (record { own = s .own; seq = s .seq; requested = s .requested; head = filledHead (s .head); running = s .running }) refusal.none
-        → KeptWith s b lent r (set lent (s .head .filled) b)
+    pub kept-with : b < 256 → n < 65536 → {r : HeldAnswer} → r ≡ heldCounted (withReceiver s (record { head = filledHead h₀; dropped = n })) n
+        → KeptWith s b lent r (set lent (h₀ .filled) b)
     unfolding doneOf
-    kept-with e book out =
-        let d = joinedDecoder (s .head) lent in
-        rw (info-goes-on d b .kept (sound-parts (joined s lent) h .decoder) g, e)
+    kept-with o l e book out =
+        let p = sound-parts (joined s lent) h in
+        rw (counted-goes d n b o l (p .info) (p .decoder) g, info-goes-on d b .kept (p .decoder) g, e)
         (record {
-          answer = rw (take-set-lt infoMost lent (s .head .filled) b kept-room);
-          beyond = drop-set-lt infoMost lent (s .head .filled) b kept-room;
+          answer = rw (take-set-lt infoMost lent (h₀ .filled) b kept-room);
+          beyond = drop-set-lt infoMost lent (h₀ .filled) b kept-room;
           book = refl;
           out = refl;
         })
 
-pub idle-answered : (s : Held) (kept : List ℕ) {t : HeadTaken} → soundOf (joined s kept) ≡ true → takenWith t kept ≡ idleLent (joinedDecoder (s .head) kept)
-    → answerWith (heldQuiet (record { own = s .own; seq = s .seq; requested = s .requested; head = t .head; running = s .running }) refusal.none) kept ≡ lineIdleOf (joined s kept)
-idle-answered s kept h e =
-    let f = e ∙ octets-lent .0 (s .head) kept .idleEnough (lent-enough s kept h) in
-    ap (λ (t : Taken). quiet (withDecoder (joined s kept) (t .decoder)) refusal.none) f ∙ sym (idle-done (joined s kept) h)
+  pub idle-answered : {t : Received} → soundOf (joined s lent) ≡ true → receivedWith t lent ≡ idleLent d n
+      → answerWith (heldCounted (withReceiver s (t .receiver)) (t .dropped)) lent ≡ lineIdleOf (joined s lent)
+  idle-answered h e =
+      let f = e ∙ octets-lent .0 h₀ lent .idleEnough n (lent-enough s lent h) ∙ counted-idles (joined s lent) in
+      ap (idledAs (joined s lent)) f ∙ sym (idle-done (joined s lent) h)
 
 -- The next second
 

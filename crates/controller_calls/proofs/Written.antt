@@ -19,11 +19,10 @@ use Rattle.frame.specs.declared.Kind.the-variants.{Message, Ack, Nak}
 use Rattle.frame.specs.Frame.{Frame, message, ack, nak, infoFits, infoLeast, infoMost, written}
 use Rattle.frame.specs.declared.decoder.Found.{Found}
 use Rattle.frame.specs.declared.decoder.Found.the-variants as found
-use Rattle.frame.specs.declared.decoder.Head.{Head}
-use Rattle.frame.specs.declared.decoder.HeadTaken.{HeadTaken}
+use Rattle.frame.specs.declared.decoder.Received.{Received}
 use Rattle.frame.specs.Run.{foundMeans, outcomeOf}
 use Rattle.frame.specs.Writer as frame
-use Rattle.frame.specs.Decoder.{Decoder, Taken, TakenLeaves}
+use Rattle.frame.specs.Dropped.{Counted, ReceivedLeaves}
 use Rattle.record.specs.Record.{ready}
 use Rattle.checks.specs.Standing.{standingOf}
 use Rattle.plan.specs.Reporting.{reportPlanCode, reportRunningCode, timesInfo, planInfo}
@@ -91,23 +90,31 @@ module _ (s : Held) (n : ℕ) (e : Event) (fs : List Frame) {out o : List ℕ} {
   pub stored-tells : Stored (sent fs) 0 out count o → r ≡ unchangedAs s n e count → (kept : List ℕ) → ResultWritten (unchanged (joined s kept) n e fs) out r o
   stored-tells p h kept = record { told = h ∙ stored-count p (λ k. unchangedAs s n e k); out = p .holds }
 
--- what the call answers of it, whose decoder then has this head
-abbrev heldBy : Held → Head → ResultCounted → HeldAnswer
-heldBy s h r = record { state = record { own = s .own; seq = r .seq; requested = r .requested; head = h; running = s .running }; told = r .told }
+-- what the call answers of it, t being what the decoder's own call answered
+abbrev heldBy : Held → Received → ResultCounted → HeldAnswer
+heldBy s t r =
+    record {
+      state = record { own = s .own; seq = r .seq; requested = r .requested; receiver = t .receiver; running = s .running };
+      told = record { refusal = r .refusal; parameter = r .parameter; event = r .event; count = r .count; dropped = t .dropped };
+    }
 
-abbrev answeredBy : State → Decoder → ResultCounted → Answer
-answeredBy s d r = record { state = record { own = s .own; seq = r .seq; requested = r .requested; decoder = d; running = s .running }; told = r .told }
+abbrev answeredBy : State → Counted → ResultCounted → Answer
+answeredBy s c r =
+    record {
+      state = record { own = s .own; seq = r .seq; requested = r .requested; decoder = c .taken .decoder; dropped = c .kept; running = s .running };
+      told = record { refusal = r .refusal; parameter = r .parameter; event = r .event; count = r .count; dropped = c .told };
+    }
 
 -- a call tells of the state what was brought; t is what the decoder took, k the octets that it left
-pub done-did : (s : Held) (lent book out : List ℕ) {w : Taken} {t : HeadTaken} {k : List ℕ} {r : ResultCounted} {b o : List ℕ}
-    → TakenLeaves w lent t k → BroughtWith (foundMeans (t .found) (take infoMost k)) s book out r b o
-    → CallLeaves (doneOf (joined s lent) w book out) lent (heldBy s (t .head) r) k b o
+pub done-did : (s : Held) (lent book out : List ℕ) {w : Counted} {t : Received} {k : List ℕ} {r : ResultCounted} {b o : List ℕ}
+    → ReceivedLeaves w lent t k → BroughtWith (foundMeans (t .found) (take infoMost k)) s book out r b o
+    → CallLeaves (doneOf (joined s lent) w book out) lent (heldBy s t r) k b o
 unfolding doneOf
 done-did s lent book out {w} {t} {k} h f =
-    let e : outcomeOf w ≡ foundMeans (t .found) (take infoMost k) = ap outcomeOf (sym (h .answer)) in
+    let e : outcomeOf (w .taken) ≡ foundMeans (t .found) (take infoMost k) = ap (λ (c : Counted). outcomeOf (c .taken)) (sym (h .answer)) in
     let g = rw (← e) at (f lent) in
     record {
-      answer = (λ i. answeredBy (joined s lent) (h .answer i .decoder) (g .tells .told i));
+      answer = (λ i. answeredBy (joined s lent) (h .answer i) (g .tells .told i));
       beyond = h .beyond;
       book = g .book;
       out = g .tells .out;
@@ -189,7 +196,7 @@ module _ (s : Held) (seq : ℕ) (book : List ℕ) (which : Reply) (out : List �
 
 module _ (s : Held) (book : List ℕ) (seq addr : ℕ) (h : Handled) (out : List ℕ) where
   abbrev replyAs : ℕ → ℕ → ResultCounted
-  replyAs count q = record { told = record { refusal = h .refusal; parameter = h .parameter; event = event.Nothing; count = count }; seq = q; requested = h .requested }
+  replyAs count q = record { refusal = h .refusal; parameter = h .parameter; event = event.Nothing; count = count; seq = q; requested = h .requested }
 
   pub replied-ours : eqb addr (s .own) ≡ true → {count q : ℕ} {o : List ℕ} → ReplyStored s seq book (h .reply) out count o → q ≡ (s .seq + 1) % 256
       → RepliedWith s book seq addr h out (replyAs count q) o

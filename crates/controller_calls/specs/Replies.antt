@@ -7,7 +7,8 @@ use lib.Seq.{sets}
 use Rattle.octets.specs.Put.{Stored}
 use Rattle.octets.specs.declared.Written.{Written}
 use Rattle.octets.specs.Writing.{WriterLeaves}
-use Rattle.frame.specs.Decoder.{takenOf, joinedDecoder}
+use Rattle.frame.specs.Decoder.{joinedDecoder}
+use Rattle.frame.specs.Dropped.{countedOf}
 use Rattle.frame.specs.Frame.{message}
 use Rattle.frame.specs.Run.{Outcome}
 use Rattle.frame.specs.Writer.{writeFrame}
@@ -22,17 +23,20 @@ use Rattle.controller.specs.Replies.{sent, repliesOf, CallLeaves, Result, Resul
 use Rattle.controller_calls.specs.declared.replies.ResultCounted.{ResultCounted}
 
 -- what is told of it: its frames are counted
-abbrev pub countedOf : Result → ResultCounted
-countedOf w =
+abbrev pub resultCounted : Result → ResultCounted
+resultCounted w =
     record {
-      told = record { refusal = w .refusal; parameter = w .parameter; event = w .event; count = length (sent (w .frames)) };
+      refusal = w .refusal;
+      parameter = w .parameter;
+      event = w .event;
+      count = length (sent (w .frames));
       seq = w .seq;
       requested = w .requested;
     }
 
 -- r tells the result w, and the output is so before and after
 pub record ResultWritten (w : Result) (before : List ℕ) (r : ResultCounted) (after : List ℕ) : Type 0 where
-  pub told : r ≡ countedOf w
+  pub told : r ≡ resultCounted w
   pub out : after ≡ sets before 0 (sent (w .frames))
 
 -- and b is left in the book, as it should
@@ -42,7 +46,7 @@ pub record ResultAndBookLeft (w : ResultAndBook) (before : List ℕ) (r : Result
 
 -- where no message is handled there is no parameter; SEQ and request stay
 abbrev pub unchangedAs : Held → ℕ → Event → ℕ → ResultCounted
-unchangedAs s n e count = record { told = record { refusal = n; parameter = 0; event = e; count = count }; seq = s .seq; requested = s .requested }
+unchangedAs s n e count = record { refusal = n; parameter = 0; event = e; count = count; seq = s .seq; requested = s .requested }
 
 -- What a frame brings is the same whatever octets are kept for INFO: its own have been handed on.
 abbrev pub RepliedWith : Held → List ℕ → ℕ → ℕ → Handled → List ℕ → ResultCounted → List ℕ → Type 0
@@ -66,4 +70,4 @@ BroughtWith o s book before r b after = (kept : List ℕ) → ResultAndBookLeft 
 -- An octet of INFO that is only kept: whatever book and output are lent, they stay.
 abbrev pub KeptWith : Held → ℕ → List ℕ → HeldAnswer → List ℕ → Type 0
 KeptWith s b lent r k =
-    (book out : List ℕ) → CallLeaves (doneOf (joined s lent) (takenOf (joinedDecoder (s .head) lent) b) book out) lent r k book out
+    (book out : List ℕ) → CallLeaves (doneOf (joined s lent) (countedOf (joinedDecoder (s .receiver .head) lent) (s .receiver .dropped) b) book out) lent r k book out

@@ -10,7 +10,7 @@ ghost use mathlib.Core.Path.{_≡_};
 ghost use Rattle.controller.specs.State.{joined};
 ghost use Rattle.controller.specs.Replies.{answerWith, CallLeaves, octetOf, lineIdleOf};
 ghost use Rattle.controller.specs.Seconds.{startedOf, plainStartOf, oldStartOf, StartsWith, ShowsWith, tells};
-ghost use Rattle.controller_calls.specs.Held.{heldQuiet, heldDark};
+ghost use Rattle.controller_calls.specs.Held.{heldQuiet, heldCounted, heldDark};
 use controller::ALL;
 use controller::Event;
 use controller::Held;
@@ -20,6 +20,7 @@ use controller::KEPT_LEN;
 use controller::OUTPUT_LEN;
 use controller::Told;
 use frame_calls::decoder;
+use frame_calls::receiver;
 use lamps::NO_ROW;
 use octets::refusal;
 use plan::Which;
@@ -48,7 +49,7 @@ fn fresh_with(which: Which, own: u16) -> HeldAnswer
         own,
         seq: 0,
         requested: 0,
-        head: decoder::fresh(),
+        receiver: receiver::fresh(),
         running,
     };
     if own == ALL {
@@ -71,9 +72,9 @@ pub fn octet(s: Held, kept: &mut [u8], book: &mut [u8], out: &mut [u8], b: u8) -
     if out.len() < OUTPUT_LEN {
         return quiet(s, refusal::OUTPUT_SHORT);
     }
-    let h = s.head;
+    let h = s.receiver.head;
     if decoder::idle_drops(h, b) {
-        return quiet(s, refusal::NONE);
+        return replies::one_dropped(s);
     }
     if decoder::info_goes_on(h, b) {
         return replies::info_kept(s, kept, b);
@@ -81,17 +82,17 @@ pub fn octet(s: Held, kept: &mut [u8], book: &mut [u8], out: &mut [u8], b: u8) -
     replies::taken(s, kept, book, out, b)
 }
 
-// "A line-idle call, made by the host, returns the decoder to idle and changes nothing else."
+// "A line-idle call, made by the host, returns the decoder to idle and changes nothing else."; 02, E5: it counts what it abandons, and tells the number.
 pub fn line_idle(s: Held, kept: &[u8]) -> HeldAnswer
     ensures { λ r. ⌜ answerWith r (now (kept .entry)) ≡ lineIdleOf (joined s (now (kept .entry))) ⌝ }
 {
     if !soundness::stands(s, kept.len()) {
         return quiet(s, refusal::STATE_UNSOUND);
     }
-    let h = s.head;
-    let t = decoder::line_idle(h, kept);
-    let head = t.head;
-    quiet(Held { head, ..s }, refusal::NONE)
+    let r = s.receiver;
+    let t = receiver::line_idle(r, kept);
+    let receiver = t.receiver;
+    counted(Held { receiver, ..s }, t.dropped)
 }
 
 // What this second shows; then it moves on, and at a cycle's last second picks the next plan from the book. It is lent no octets of
@@ -125,11 +126,28 @@ fn tells(n: u8) -> Told
         parameter: 0,
         event: Event::Nothing,
         count: 0,
+        dropped: 0,
+    }
+}
+
+// Nothing written, and so many octets dropped.
+pub(crate) fn counted(s: Held, dropped: u16) -> HeldAnswer
+    ensures { λ r. ⌜ r ≡ heldCounted s dropped ⌝ }
+{
+    HeldAnswer {
+        state: s,
+        told: Told {
+            refusal: refusal::NONE,
+            parameter: 0,
+            event: Event::Nothing,
+            count: 0,
+            dropped,
+        },
     }
 }
 
 // "same state, nothing written"
-pub(crate) fn quiet(s: Held, n: u8) -> HeldAnswer
+fn quiet(s: Held, n: u8) -> HeldAnswer
     ensures { λ r. ⌜ r ≡ heldQuiet s n ⌝ }
 {
     HeldAnswer {

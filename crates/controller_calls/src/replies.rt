@@ -6,13 +6,15 @@ ghost use lib.ListN.{length};
 ghost use Rattle.octets.specs.Part.{codeLen};
 ghost use Rattle.octets.specs.Put.{Stored};
 ghost use Rattle.frame.specs.Frame.{infoMost};
-ghost use Rattle.frame.specs.Decoder.{infoGoesOn, takenOf, joinedDecoder};
+ghost use Rattle.frame.specs.Decoder.{infoGoesOn, joinedDecoder};
+ghost use Rattle.frame.specs.Dropped.{countedOf};
 ghost use Rattle.frame.specs.Run.{foundMeans};
 ghost use Rattle.record.specs.Record.{plansMost, bookLen, ready};
 ghost use Rattle.checks.specs.Standing.{standingOf};
 ghost use Rattle.controller.specs.State.{joined, outputLen, soundOf};
 ghost use Rattle.controller.specs.Replies.{CallLeaves, sent, errOf, naks, acks, forUs, isAnswer, eventFor, CanFind, doneOf};
 ghost use Rattle.controller_calls.specs.Handling.{Reportable};
+ghost use Rattle.controller_calls.specs.Held.{heldDropped};
 ghost use Rattle.controller_calls.specs.Replies.{unchangedAs, ReplyStored, RepliedWith, MessageWith, BroughtWith, KeptWith};
 use crate::handling;
 use crate::info;
@@ -27,54 +29,76 @@ use frame::INFO_MOST;
 use frame::Kind;
 use frame::decoder::Found;
 use frame::decoder::Head;
-use frame_calls::decoder;
+use frame::decoder::Receiver;
+use frame_calls::receiver;
 use frame_calls::writer;
 use octets::refusal;
 
 // ERR of a NAK for refusal 3; for 1 and 2 it is the refusal itself.
 const ERR_LEN: u8 = 4;
 
-// What an octet brought: what the call tells of it, and the SEQ and the request that the state then has.
+// What an octet brought: the refusal that the result names and its parameter, the event, the octets written, and the SEQ and the request that the
+// state then has.
 pub struct ResultCounted {
-    pub told: Told,
+    pub refusal: u8,
+    pub parameter: u8,
+    pub event: Event,
+    pub count: usize,
     pub seq: u8,
     pub requested: u8,
 }
 
+// "Idle: .. all else is dropped": one octet more.
+pub(crate) fn one_dropped(s: Held) -> HeldAnswer
+    ensures { λ r. ⌜ r ≡ heldDropped s ⌝ }
+{
+    let r = s.receiver;
+    let dropped = receiver::stopped(r.dropped as usize + 1);
+    let receiver = Receiver { dropped, ..r };
+    crate::counted(Held { receiver, ..s }, dropped)
+}
+
 // An octet of INFO behind which others come is stored and answered at once.
 pub(crate) fn info_kept(s: Held, kept: &mut [u8], b: u8) -> HeldAnswer
-    requires { ⌜ (soundOf (joined s (now kept)) ≡ true) × (infoGoesOn (s .head .place) (s .head .len) (s .head .filled) b ≡ true) ⌝ }
+    requires { ⌜ (soundOf (joined s (now kept)) ≡ true) × (infoGoesOn (s .receiver .head .place) (s .receiver .head .len) (s .receiver .head .filled) b ≡ true) ⌝ }
     ensures { λ r. ⌜ KeptWith s b (now (kept .entry)) r (now (kept .exit)) ⌝ }
 {
-    let h = s.head;
+    let r = s.receiver;
+    let h = r.head;
     let at = h.filled as usize;
     kept[at] = b;
     let head = Head {
         filled: h.filled + 1,
         ..h
     };
-    crate::quiet(Held { head, ..s }, refusal::NONE)
+    let receiver = Receiver { head, ..r };
+    crate::counted(Held { receiver, ..s }, r.dropped)
 }
 
 // One octet to a sound state, and what it brought.
 pub(crate) fn taken(s: Held, kept: &mut [u8], book: &mut [u8], out: &mut [u8], b: u8) -> HeldAnswer
     requires { ⌜ (soundOf (joined s (now kept)) ≡ true) × (length (now book) ≡ bookLen) × (outputLen ≤ length (now out)) ⌝ }
-    ensures { λ r. ⌜ CallLeaves (doneOf (joined s (now (kept .entry))) (takenOf (joinedDecoder (s .head) (now (kept .entry))) b) (now (book .entry)) (now (out .entry))) (now (kept .entry)) r (now (kept .exit)) (now (book .exit)) (now (out .exit)) ⌝ }
+    ensures { λ r. ⌜ CallLeaves (doneOf (joined s (now (kept .entry))) (countedOf (joinedDecoder (s .receiver .head) (now (kept .entry))) (s .receiver .dropped) b) (now (book .entry)) (now (out .entry))) (now (kept .entry)) r (now (kept .exit)) (now (book .exit)) (now (out .exit)) ⌝ }
 {
-    let h = s.head;
-    let t = decoder::octet(h, &mut *kept, b);
-    let head = t.head;
+    let t = receiver::octet(s.receiver, &mut *kept, b);
+    let receiver = t.receiver;
     let found = t.found;
     let r = by_found(found, s, &kept[0..INFO_MOST], book, out);
-    let told = r.told;
+    let event = r.event;
     HeldAnswer {
         state: Held {
             seq: r.seq,
             requested: r.requested,
-            head,
+            receiver,
             ..s
         },
-        told,
+        told: Told {
+            refusal: r.refusal,
+            parameter: r.parameter,
+            event,
+            count: r.count,
+            dropped: t.dropped,
+        },
     }
 }
 
@@ -109,12 +133,10 @@ fn unchanged(s: Held, n: u8, event: Event, count: usize) -> ResultCounted
     ensures { λ r. ⌜ r ≡ unchangedAs s n event count ⌝ }
 {
     ResultCounted {
-        told: Told {
-            refusal: n,
-            parameter: 0,
-            event,
-            count,
-        },
+        refusal: n,
+        parameter: 0,
+        event,
+        count,
         seq: s.seq,
         requested: s.requested,
     }
@@ -218,12 +240,10 @@ fn replied(s: Held, seq: u8, addr: u16, h: Handled, book: &[u8], out: &mut [u8])
         next = std::num::wrapping_add_u8(s.seq, 1);
     }
     ResultCounted {
-        told: Told {
-            refusal: h.refusal,
-            parameter: h.parameter,
-            event: Event::Nothing,
-            count,
-        },
+        refusal: h.refusal,
+        parameter: h.parameter,
+        event: Event::Nothing,
+        count,
         seq: next,
         requested: h.requested,
     }

@@ -24,7 +24,7 @@ pub(crate) fn stands(s: Held, lent: usize) -> bool
     if lent < KEPT_LEN {
         return false;
     }
-    let h = s.head;
+    let h = s.receiver.head;
     if !decoder::possible(h) {
         return false;
     }

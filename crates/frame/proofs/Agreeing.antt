@@ -40,7 +40,7 @@ one-kind Nak Ack h = absurd (omega arith)
 one-kind Nak Nak h = refl
 
 -- each part is the same
-part : (j : ℕ) {u v : List ℕ} → u ≡ v → getD u j 0 ≡ getD v j 0
+pub part : (j : ℕ) {u v : List ℕ} → u ≡ v → getD u j 0 ≡ getD v j 0
 part j q = ap (λ (l : List ℕ). getD l j 0) q
 
 -- at CKS too the kind stands first

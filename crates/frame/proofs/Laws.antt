@@ -19,7 +19,8 @@ use Rattle.frame.specs.declared.decoder.Place.{Place}
 use Rattle.frame.specs.declared.decoder.Head.{Head}
 use Rattle.frame.specs.Frame.{Frame, message, ack, nak, infoLeast, infoMost, messageLen, ackLen, nakLen, lenFits, infoFits, front, frontOf, bodyOf, sentOf, cksOf, twice, doubled, written}
 use Rattle.frame.specs.Writer.{writeFrame}
-use Rattle.frame.specs.Decoder.{Decoder, hasInfo, infoDue, idleDrops, possibleOf, possibleAt, stepped, headAt, ended, afterAa, stepOf, stepAt, cksIn, frontIn, taken, infoThen, takenAs, takenOf, idledOf, unsound, headOf, lenJudged, afterLen, refusedBy}
+use Rattle.frame.specs.Decoder.{Decoder, hasInfo, infoDue, idleDrops, possibleOf, possibleAt, stepped, headAt, ended, afterAa, stepOf, stepAt, cksIn, frontIn, taken, infoThen, takenAs, takenOf, idledOf, unsound, headOf, lenJudged, afterLen, kept, refusedBy}
+use Rattle.frame.specs.Dropped.{waits}
 use Rattle.frame.specs.declared.decoder.Place.the-variants.{Idle, LoneAa, Seq, AddrHigh, AddrLow, LenHigh, LenLow, Info, InfoAa, CloseAa, CloseCc, Err, Cks}
 use Rattle.frame.specs.declared.decoder.Stepped.{Stepped}
 use Rattle.frame.specs.declared.decoder.Found.{Found}
@@ -156,11 +157,16 @@ module _ (h : Head) where
   room-info-aa e q = info-room (h .kind) (h .len) (h .filled) (sym (possible-at h e) ∙ q)
 
   module _ (i : List ℕ) (b : ℕ) where
+    -- an octet that is kept has its place in the array, and with it the frame goes on
     abbrev Room : Stepped → Type 0
-    Room t = t .keeps ≡ true → h .filled < infoMost
+    Room t = t .keeps ≡ true → (h .filled < infoMost) × (t .found ≡ Nothing) × (waits (t .head .place) ≡ false)
 
-    none : false ≡ true → h .filled < infoMost
+    none : {A : Type 0} → false ≡ true → A
     none q = absurd (clash refl q)
+
+    info-kept : infoDue (h .kind) (h .len) (h .filled) ≡ true → Room (kept h)
+    info-kept q _ =
+        (info-room (h .kind) (h .len) (h .filled) q, refl, pick-by (λ (p : Place). waits p ≡ false) (ltb (messageLen + (h .filled + 1)) (h .len)) (λ _. refl) (λ _. refl))
 
     aa-room : (f : Found) → Room (afterAa h b f)
     aa-room f =
@@ -177,17 +183,19 @@ module _ (h : Head) where
     room-at AddrLow q = none
     room-at LenHigh q = none
     room-at LenLow q = pick-by Room (lenFits (h .kind) (wordOf (lowOf (h .len)) b)) (λ _. none) (λ _. none)
-    room-at Info q = λ _. info-room (h .kind) (h .len) (h .filled) q
-    room-at InfoAa q = λ _. info-room (h .kind) (h .len) (h .filled) q
+    room-at Info q = pick-by Room (eqb b 0xAA) (λ _. none) (λ _. info-kept q)
+    room-at InfoAa q = pick-by Room (eqb b 0xAA) (λ _. info-kept q) (λ _. aa-room (refusedBy h closingWrong))
     room-at CloseAa q = pick-by Room (eqb b 0xAA) (λ _. none) (λ _. none)
     room-at CloseCc q = pick-by Room (eqb b 0xCC) (λ _. none) (λ _. aa-room (refusedBy h closingWrong))
     room-at Err q = none
     room-at Cks q = pick-by Room (eqb (cksIn h i) b) (λ _. none) (λ _. none)
 
-    -- an octet that is kept has its place in the array
-    pub keeps-room : possibleOf h ≡ true → stepAt (h .place) h i b .keeps ≡ true → h .filled < infoMost
+    pub keeps-on : possibleOf h ≡ true → Room (stepAt (h .place) h i b)
     unfolding possibleOf
-    keeps-room q = room-at (h .place) q
+    keeps-on q = room-at (h .place) q
+
+    pub keeps-room : possibleOf h ≡ true → stepAt (h .place) h i b .keeps ≡ true → h .filled < infoMost
+    keeps-room q k = keeps-on q k .0
 
 module _ (d : Decoder) where
   pub idled-7 : possibleOf (d .head) ≡ false → idledOf d ≡ unsound d

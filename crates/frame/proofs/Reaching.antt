@@ -16,25 +16,29 @@ use Rattle.frame.specs.declared.decoder.Place.{Place}
 use Rattle.frame.specs.declared.decoder.Place.the-variants.{Idle, LoneAa, Seq, AddrHigh, AddrLow, LenHigh, LenLow, Info, InfoAa, CloseAa, CloseCc, Err, Cks}
 use Rattle.frame.specs.Frame.{messageLen, infoMost, ackLen, nakLen, lenFits, front, doubled}
 use Rattle.frame.specs.Decoder.{Decoder, headOf, possibleOf, infoDue, infoWhole, stepOf, takenOf}
-use Rattle.frame.specs.Run.{decoderAfter}
-use Rattle.frame.specs.Promises.{partsOf, LedTo, PossibleExactly}
+use Rattle.frame.specs.Run.{decoderAfter, AtRest, NothingDropped}
+use Rattle.frame.specs.Promises.{partsOf, FieldsHold, LedTo, PossibleExactly}
 use Rattle.frame.proofs.Laws.{info-len, possible-at}
 use Rattle.frame.proofs.Possible.{at, possible-kept}
 use Rattle.frame.proofs.Agreeing.{alike}
-use Rattle.frame.proofs.Reading.{Quiet, done, once, quiet-then, quiet-after, lone-run, opened-run, seq-run, addr-high-run, addr-run, len-high-run, front-run, stored-info, opener-octet, front-octets, doubled-octets}
+use Rattle.frame.proofs.Reading.{Quiet, done, once, quiet-then, quiet-after, quiet-undropped, lone-run, opened-run, seq-run, addr-high-run, addr-run, len-high-run, front-run, stored-info, opener-octet, front-octets, doubled-octets}
 use Rattle.frame.proofs.Refusing.{open-run, closed-run}
 
 -- Octets lead to every possible decoder
+
+-- and none of them is dropped
+abbrev Led : Decoder → Decoder → Type 0
+Led r d = (w : LedTo r d) × NothingDropped r (w .octets)
 
 module _ (k₀ : Kind) (s₀ e₀ a₀ n₀ g₀ : ℕ) (l₀ : List ℕ) (hl₀ : length l₀ ≡ infoMost) where
   abbrev rest : Decoder
   rest = at Idle k₀ s₀ e₀ a₀ n₀ g₀ l₀
 
-  led-by : {t : Decoder} (d : Decoder) {xs : List ℕ} → Quiet rest xs t → Octets xs → t .head .place ≡ d .head .place → partsOf t ≡ partsOf d → LedTo rest d
+  led-by : {t : Decoder} (d : Decoder) {xs : List ℕ} → Quiet rest xs t → Octets xs → t .head .place ≡ d .head .place → partsOf t ≡ partsOf d → Led rest d
   unfolding decoderAfter possibleOf
   led-by {t} d {xs} q o p e =
       let w : decoderAfter rest xs ≡ t = rw append-nil at (quiet-after [] q refl o .0) in
-      record { octets = xs; each = o; place = ap (λ (u : Decoder). u .head .place) w ∙ p; parts = ap (λ (u : Decoder). partsOf u) w ∙ e }
+      (record { octets = xs; each = o; place = ap (λ (u : Decoder). u .head .place) w ∙ p; parts = ap (λ (u : Decoder). partsOf u) w ∙ e }, quiet-undropped q refl o)
 
   module _ (s e a n g : ℕ) (l : List ℕ) (hs : s < 256) (he : e < 256) (ha : a < 65536) (hi : Octets l) (hl : length l ≡ 256) where
     abbrev i : List ℕ
@@ -50,7 +54,7 @@ module _ (k₀ : Kind) (s₀ e₀ a₀ n₀ g₀ : ℕ) (l₀ : List ℕ) (hl₀
     aa : Octets (0xAA ∷ [])
     aa = (omega arith, tt)
 
-    led-info : infoDue Message n g ≡ true → LedTo rest (at Info Message s e a n g l) × LedTo rest (at InfoAa Message s e a n g l)
+    led-info : infoDue Message n g ≡ true → Led rest (at Info Message s e a n g l) × Led rest (at InfoAa Message s e a n g l)
     unfolding stepOf
     led-info h =
         let f = both-left (lenFits Message n) (ltb g (n - messageLen)) h in
@@ -66,7 +70,7 @@ module _ (k₀ : Kind) (s₀ e₀ a₀ n₀ g₀ : ℕ) (l₀ : List ℕ) (hl₀
           led-by (at InfoAa Message s e a n g l) (quiet-then q q₁) (octets-append (front Message s a n ++ doubled i) (0xAA ∷ []) o aa) refl (cc),
         )
 
-    led-close : infoWhole Message n g ≡ true → LedTo rest (at CloseAa Message s e a n g l) × LedTo rest (at CloseCc Message s e a n g l) × LedTo rest (at Cks Message s e a n g l)
+    led-close : infoWhole Message n g ≡ true → Led rest (at CloseAa Message s e a n g l) × Led rest (at CloseCc Message s e a n g l) × Led rest (at Cks Message s e a n g l)
     unfolding stepOf
     led-close h =
         let f = both-left (lenFits Message n) (eqb g (n - messageLen)) h in
@@ -85,7 +89,7 @@ module _ (k₀ : Kind) (s₀ e₀ a₀ n₀ g₀ : ℕ) (l₀ : List ℕ) (hl₀
           led-by (at Cks Message s e a n g l) (quiet-then (quiet-then q q₁) q₂) (octets-append ((front Message s a n ++ doubled i) ++ (0xAA ∷ [])) (0xCC ∷ []) o₁ (omega arith, tt)) refl (cc),
         )
 
-    led-err : lenFits Nak n ≡ true → LedTo rest (at Err Nak s e a n g l) × LedTo rest (at Cks Nak s e a n g l)
+    led-err : lenFits Nak n ≡ true → Led rest (at Err Nak s e a n g l) × Led rest (at Cks Nak s e a n g l)
     unfolding stepOf
     led-err h =
         let r = eqb-true n nakLen h in
@@ -94,7 +98,7 @@ module _ (k₀ : Kind) (s₀ e₀ a₀ n₀ g₀ : ℕ) (l₀ : List ℕ) (hl₀
         let q₁ : Quiet (at Err Nak s e₀ a n 0 l₀) (e ∷ []) (at Cks Nak s e a n 0 l₀) = once refl refl in
         (led-by (at Err Nak s e a n g l) q o refl refl, led-by (at Cks Nak s e a n g l) (quiet-then q q₁) (octets-append (front Nak s a n) (e ∷ []) o (he, tt)) refl refl)
 
-    led-at : (p : Place) (k : Kind) → possibleOf (headOf p k s e a n g) ≡ true → LedTo rest (at p k s e a n g l)
+    led-at : (p : Place) (k : Kind) → possibleOf (headOf p k s e a n g) ≡ true → Led rest (at p k s e a n g l)
     unfolding possibleOf
     led-at Idle k h = led-by (at Idle k s e a n g l) done tt refl refl
     led-at LoneAa k h = led-by (at LoneAa k s e a n g l) (lone-run k₀ s₀ e₀ a₀ n₀ g₀ k s l₀) aa refl refl
@@ -129,13 +133,18 @@ unfolding decoderAfter
 possible-after d [] o p = p
 possible-after d (x ∷ xs) o p = possible-after (takenOf d x .decoder) xs (o .1) (possible-kept .1 d .octet x (o .0) p)
 
+pub led-clean : (r d : Decoder) → AtRest r → possibleOf (d .head) ≡ true → FieldsHold d → Led r d
+led-clean r d a p f =
+    let s = r .head in
+    let h = d .head in
+    subst (λ (q : Place). Led (at q (s .kind) (s .seq) (s .err) (s .addr) (s .len) (s .filled) (r .info)) d) (sym (a .idle))
+    (led-at (s .kind) (s .seq) (s .err) (s .addr) (s .len) (s .filled) (r .info) (a .long)
+    (h .seq) (h .err) (h .addr) (h .len) (h .filled) (d .info) (f .seq) (f .err) (f .addr) (f .info) (f .long) (h .place) (h .kind) p)
+
 pub possible-exactly : PossibleExactly
 possible-exactly r d a =
     let s = r .head in
-    let h = d .head in
     record {
-      led = λ p f. subst (λ (q : Place). LedTo (at q (s .kind) (s .seq) (s .err) (s .addr) (s .len) (s .filled) (r .info)) d) (sym (a .idle))
-          (led-at (s .kind) (s .seq) (s .err) (s .addr) (s .len) (s .filled) (r .info) (a .long)
-          (h .seq) (h .err) (h .addr) (h .len) (h .filled) (d .info) (f .seq) (f .err) (f .addr) (f .info) (f .long) (h .place) (h .kind) p);
+      led = λ p f. led-clean r d a p f .0;
       only = λ w. alike (decoderAfter r (w .octets)) d (w .place) (w .parts) (possible-after r (w .octets) (w .each) (possible-at s (a .idle)));
     }

@@ -20,7 +20,7 @@ use Rattle.frame.specs.Promises.{placedAt, Waits, resumedAt, Resumes}
 use Rattle.frame.proofs.Laws.{taken-done}
 use Rattle.frame.proofs.Refusing.{after-aa-outcome}
 
-said-only : (b : ℕ) (p : Place) → idleDrops p b ≡ true → (p ≡ Idle) × (b ≡ 0xAA → ⊥)
+pub said-only : (b : ℕ) (p : Place) → idleDrops p b ≡ true → (p ≡ Idle) × (b ≡ 0xAA → ⊥)
 said-only b Idle h = (refl, eqb-false b 0xAA (not-true (eqb b 0xAA) h))
 said-only b LoneAa h = absurd (clash refl h)
 said-only b Seq h = absurd (clash refl h)

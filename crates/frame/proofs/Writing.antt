@@ -25,6 +25,7 @@ use Rattle.frame.specs.Frame.{Frame, message, ack, nak, kindOf, seqOf, a
 use Rattle.frame.specs.Decoder.{Decoder, Taken, headOf, possibleOf, infoDue, infoWhole, afterAa, afterLen, cksDue, soundBy, stepOf, stepAt, takenAs, takenOf, cksIn, frontIn}
 use Rattle.frame.specs.Decoder as decoder
 use Rattle.frame.specs.Run.{nothing, refused, sound, outcomeOf, decoderAfter, AtRest, drops, NothingDropped}
+use Rattle.frame.specs.Dropped.{waits}
 use Rattle.frame.specs.Promises.{WrittenBack, WritingFramesUndoesReading, Refusable, lenMessage, lenAck, lenNak, doubling, closingAa, closingCc, cksMessage, cksAck, cksNak, RefusedFor, RefusedOnlyThen}
 use Rattle.frame.proofs.Laws.{message-len, info-len, twice-aa, twice-other, doubled-append, possible-at, taken-done}
 use Rattle.frame.proofs.Fitting.{fits-in, len-message}
@@ -33,13 +34,13 @@ use Rattle.frame.proofs.Reading.{whole, most-run, quiet-undropped}
 use Rattle.frame.proofs.Refusing.{after-aa-outcome, addr-front}
 
 -- as sent, by the kind
-abbrev sentBy : Kind → ℕ → List ℕ → List ℕ
+abbrev pub sentBy : Kind → ℕ → List ℕ → List ℕ
 sentBy Message e i = doubled i ++ (0xAA ∷ 0xCC ∷ [])
 sentBy Ack e i = []
 sentBy Nak e i = e ∷ []
 
 -- the octets of the open frame, as they came, or the AA that is remembered
-abbrev heldAt : Place → Kind → ℕ → ℕ → ℕ → ℕ → List ℕ → List ℕ
+abbrev pub heldAt : Place → Kind → ℕ → ℕ → ℕ → ℕ → List ℕ → List ℕ
 heldAt Idle k s e a n i = []
 heldAt LoneAa k s e a n i = 0xAA ∷ []
 heldAt Seq k s e a n i = 0xAA ∷ opener k ∷ []
@@ -54,14 +55,15 @@ heldAt CloseCc k s e a n i = front k s a n ++ (doubled i ++ (0xAA ∷ []))
 heldAt Err k s e a n i = front k s a n
 heldAt Cks k s e a n i = front k s a n ++ sentBy k e i
 
-held : Decoder → List ℕ
+unfoldable pub held : Decoder → List ℕ
 held d = let h = d .head in heldAt (h .place) (h .kind) (h .seq) (h .err) (h .addr) (h .len) (take (h .filled) (d .info))
 
--- what has become of the octets h that were held, and of b, once b is taken: all are held on; or some are dropped; or the
--- frame is refused, for them; or they are a frame as written
-data Went (h : List ℕ) (b : ℕ) (drop : Bool) (t : Taken) : Type 0 where
+-- what has become of the octets h that were held, and of b, once b is taken: all are held on; or some are dropped, and the decoder is idle or
+-- after a lone AA; or the frame is refused, for them; or they are a frame as written
+pub data Went (h : List ℕ) (b : ℕ) (drop : Bool) (t : Taken) : Type 0 where
   kept : outcomeOf t ≡ nothing → h ++ (b ∷ []) ≡ held (t .decoder) → Went h b drop t
-  dropped : (pre : List ℕ) → drop ≡ true → outcomeOf t ≡ nothing → h ++ (b ∷ []) ≡ pre ++ held (t .decoder) → Went h b drop t
+  dropped : (pre : List ℕ) → drop ≡ true → outcomeOf t ≡ nothing → h ++ (b ∷ []) ≡ pre ++ held (t .decoder)
+      → waits (t .decoder .head .place) ≡ true → Went h b drop t
   refuse : (n : ℕ) (k : Kind) (s a : ℕ) (pre : List ℕ) → outcomeOf t ≡ refused n k s a → h ++ (b ∷ []) ≡ pre ++ held (t .decoder)
       → Refusable n k s a (h ++ (b ∷ [])) → Went h b drop t
   ended : (f : Frame) → outcomeOf t ≡ sound f → h ++ (b ∷ []) ≡ written f → held (t .decoder) ≡ [] → infoFits f ≡ true → Went h b drop t
@@ -123,17 +125,17 @@ module _ (s e a n g : ℕ) (l : List ℕ) (hl : length l ≡ infoMost) (b : ℕ)
   at-idle k =
       pick-by (Goes Idle k) (eqb b 0xAA)
       (λ t. kept refl (rw (eqb-true b 0xAA t)))
-      (λ t. dropped (b ∷ []) (rw t) refl refl)
+      (λ t. dropped (b ∷ []) (rw t) refl refl refl)
 
   at-lone : (k : Kind) → Goes LoneAa k (stepAt LoneAa (headOf LoneAa k s e a n g) l b)
   unfolding held
   at-lone k =
       pick-by (Goes LoneAa k) (eqb b 0xAA)
-      (λ t. dropped (0xAA ∷ []) (rw (eqb-true b 0xAA t)) refl (rw (eqb-true b 0xAA t)))
+      (λ t. dropped (0xAA ∷ []) (rw (eqb-true b 0xAA t)) refl (rw (eqb-true b 0xAA t)) refl)
       (λ _. pick-by (Goes LoneAa k) (eqb b 0xBB) (λ t. kept refl (rw (eqb-true b 0xBB t)))
       (λ t₁. pick-by (Goes LoneAa k) (eqb b 0xDD) (λ t. kept refl (rw (eqb-true b 0xDD t)))
       (λ t₂. pick-by (Goes LoneAa k) (eqb b 0xEE) (λ t. kept refl (rw (eqb-true b 0xEE t)))
-      (λ t₃. dropped (0xAA ∷ b ∷ []) (rw (t₁, t₂, t₃)) refl refl))))
+      (λ t₃. dropped (0xAA ∷ b ∷ []) (rw (t₁, t₂, t₃)) refl refl refl))))
 
   at-len : (k : Kind) → n < 256 → Goes LenLow k (stepAt LenLow (headOf LenLow k s e a n g) l b)
   unfolding held doubled
@@ -271,14 +273,14 @@ module _ (d : Decoder) (b : ℕ) (hl : length (d .info) ≡ infoMost) where
       (λ _. length-set (d .info) (d .head .filled) b ∙ hl) (λ _. hl)
 
 -- a decoder that a run can be in
-record Runs (d : Decoder) : Type 0 where
+pub record Runs (d : Decoder) : Type 0 where
   pub possible : possibleOf (d .head) ≡ true
   pub long : length (d .info) ≡ infoMost
 
-runs-on : (d : Decoder) (b : ℕ) → b < 256 → Runs d → Runs (takenOf d b .decoder)
+pub runs-on : (d : Decoder) (b : ℕ) → b < 256 → Runs d → Runs (takenOf d b .decoder)
 runs-on d b o r = rw (taken-done d b (r .possible)) (record { possible = step-possible d b o (r .possible); long = step-long d b (r .long) })
 
-went : (d : Decoder) (b : ℕ) → b < 256 → Runs d → Went (held d) b (drops (d .head .place) b) (takenOf d b)
+pub went : (d : Decoder) (b : ℕ) → b < 256 → Runs d → Went (held d) b (drops (d .head .place) b) (takenOf d b)
 unfolding stepOf
 went d b o r =
     let h = d .head in
@@ -286,31 +288,31 @@ went d b o r =
     (went-at (h .seq) (h .err) (h .addr) (h .len) (h .filled) (d .info) (r .long) b o (h .place) (h .kind) (r .possible))
 
 -- nothing, a refusal and a sound frame are three things
-nothing-refused : {n s a : ℕ} {k : Kind} → nothing ≡ refused n k s a → ⊥
+pub nothing-refused : {n s a : ℕ} {k : Kind} → nothing ≡ refused n k s a → ⊥
 nothing-refused p = let z : _≡_ {A = ℕ} 0 1 = cc in omega arith
 
-nothing-sound : {f : Frame} → nothing ≡ sound f → ⊥
+pub nothing-sound : {f : Frame} → nothing ≡ sound f → ⊥
 nothing-sound p = let z : _≡_ {A = ℕ} 0 1 = cc in omega arith
 
-refused-sound : {n s a : ℕ} {k : Kind} {f : Frame} → refused n k s a ≡ sound f → ⊥
+pub refused-sound : {n s a : ℕ} {k : Kind} {f : Frame} → refused n k s a ≡ sound f → ⊥
 refused-sound p = let z : _≡_ {A = ℕ} 0 1 = cc in omega arith
 
 -- the octets that are held no longer
 lost : {h : List ℕ} {b : ℕ} {drop : Bool} {t : Taken} → Went h b drop t
     → (pre : List ℕ) × ((h ++ (b ∷ []) ≡ pre ++ held (t .decoder)) × (drop ≡ false → outcomeOf t ≡ nothing → pre ≡ []))
 lost (kept o e) = ([], (e, λ p q. refl))
-lost (dropped pre d o e) = (pre, (e, λ p q. absurd (clash p d)))
+lost (dropped pre d o e p) = (pre, (e, λ p q. absurd (clash p d)))
 lost (refuse n k s a pre o e w) = (pre, (e, λ p q. absurd (nothing-refused (sym q ∙ o))))
 lost (ended f o e z w) = (written f, (e ∙ rw z (sym (append-nil (written f))), λ p q. absurd (nothing-sound (sym q ∙ o))))
 
 -- what a run leaves of the octets held and taken: those held at its end, with what is held no longer before them
-record Left (d : Decoder) (xs : List ℕ) : Type 0 where
+pub record Left (d : Decoder) (xs : List ℕ) : Type 0 where
   pub pre : List ℕ
   pub octets : held d ++ xs ≡ pre ++ held (decoderAfter d xs)
   pub clean : NothingDropped d xs → pre ≡ []
   pub runs : Runs (decoderAfter d xs)
 
-left : (d : Decoder) (xs : List ℕ) → Octets xs → Runs d → Left d xs
+pub left : (d : Decoder) (xs : List ℕ) → Octets xs → Runs d → Left d xs
 unfolding decoderAfter NothingDropped
 left d [] o r = record { pre = []; octets = append-nil (held d); clean = λ _. refl; runs = r }
 left d (x ∷ xs) o r =
@@ -363,7 +365,7 @@ module _ (d : Decoder) (xs : List ℕ) (x : ℕ) (r : AtRest d) (o : Octets (xs 
 
   written-back : {f : Frame} → outcomeOf (takenOf last x) ≡ sound f → Went (held last) x (drops (last .head .place) x) (takenOf last x) → WrittenBack d xs x f
   written-back h (kept p q) = absurd (nothing-sound (sym p ∙ h))
-  written-back h (dropped pre u p q) = absurd (nothing-sound (sym p ∙ h))
+  written-back h (dropped pre u p q r) = absurd (nothing-sound (sym p ∙ h))
   written-back h (refuse n k s a pre p q w) = absurd (refused-sound (sym p ∙ h))
   written-back {f} h (ended f₁ p q z w) =
       let e : f₁ ≡ f = cc in
@@ -373,7 +375,7 @@ module _ (d : Decoder) (xs : List ℕ) (x : ℕ) (r : AtRest d) (o : Octets (xs 
 
   refused-for : {n : ℕ} {k : Kind} {s a : ℕ} → outcomeOf (takenOf last x) ≡ refused n k s a → Went (held last) x (drops (last .head .place) x) (takenOf last x) → RefusedFor xs x n k s a
   refused-for h (kept p q) = absurd (nothing-refused (sym p ∙ h))
-  refused-for h (dropped pre u p q) = absurd (nothing-refused (sym p ∙ h))
+  refused-for h (dropped pre u p q r) = absurd (nothing-refused (sym p ∙ h))
   refused-for {n} {k} {s} {a} h (refuse n₁ k₁ s₁ a₁ pre p q w) =
       let en : n₁ ≡ n = cc in
       let ek : k₁ ≡ k = cc in

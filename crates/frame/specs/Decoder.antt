@@ -1,10 +1,9 @@
 -- 01, "Frames": "The decoder takes one octet a call."
 use Prim.Native.Nat.{ℕ, _+_, _-_}
-use mathlib.Core.Path.{_≡_}
 use mathlib.Core.Bool.{Bool, true, false, not}
 use mathlib.Core.List.{List, [], _∷_, _++_}
 use lib.Dec.{eqb, ltb}
-use lib.ListN.{length, take, drop, set}
+use lib.ListN.{take, set}
 use Rattle.octets.specs.Choice.{pick, both}
 use Rattle.octets.specs.ExclusiveOr.{exclusiveOr}
 use Rattle.octets.specs.Refusal as refusal
@@ -16,7 +15,6 @@ use Rattle.frame.specs.declared.decoder.Place.the-variants.{Idle, LoneAa
 use Rattle.frame.specs.declared.decoder.Head.{Head}
 use Rattle.frame.specs.declared.decoder.Found.{Found}
 use Rattle.frame.specs.declared.decoder.Found.the-variants as found
-use Rattle.frame.specs.declared.decoder.HeadTaken.{HeadTaken}
 use Rattle.frame.specs.declared.decoder.Stepped.{Stepped}
 use Rattle.frame.specs.Frame.{lenFits, infoMost, messageLen, front}
 
@@ -291,26 +289,3 @@ idledOf d = pick (possibleOf (d .head)) (taken (headAt (d .head) Idle (d .head .
 
 abbrev pub joinedDecoder : Head → List ℕ → Decoder
 joinedDecoder h kept = record { head = h; info = take infoMost kept }
-
--- with fewer the state handed in is unsound
-unfoldable pub octetLent : Decoder → ℕ → Taken
-octetLent d b = pick (eqb (length (d .info)) infoMost) (takenOf d b) (unsound d)
-
-unfoldable pub idleLent : Decoder → Taken
-idleLent d = pick (eqb (length (d .info)) infoMost) (idledOf d) (unsound d)
-
--- what a call answers, by the head
-abbrev pub headUnsound : Head → HeadTaken
-headUnsound h = record { refusal = refusal.stateUnsound; head = h; found = found.Nothing }
-
-abbrev pub headTaken : Head → Found → HeadTaken
-headTaken h f = record { refusal = refusal.none; head = h; found = f }
-
--- and with the octets that it leaves
-abbrev pub takenWith : HeadTaken → List ℕ → Taken
-takenWith r kept = record { refusal = r .refusal; decoder = joinedDecoder (r .head) kept; found = r .found }
-
--- the call answered r and left the octets k of those that were lent, as it should
-pub record TakenLeaves (w : Taken) (lent : List ℕ) (r : HeadTaken) (k : List ℕ) : Type 0 where
-  pub answer : takenWith r k ≡ w
-  pub beyond : drop infoMost k ≡ drop infoMost lent

@@ -2,5 +2,8 @@ pub mod Frame
 pub mod Decoder
 pub mod Writer
 pub mod Run
+pub mod Dropped
 pub mod Promises
+pub mod Lent
+pub mod Noise
 pub mod Cases

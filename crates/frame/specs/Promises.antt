@@ -17,9 +17,8 @@ use Rattle.frame.specs.declared.decoder.Place.the-variants.{Idle, LoneAa
 use Rattle.frame.specs.declared.decoder.Head.{Head}
 use Rattle.frame.specs.declared.decoder.Found.{Found}
 use Rattle.frame.specs.declared.decoder.Found.the-variants as found
-use Rattle.frame.specs.declared.decoder.HeadTaken.{HeadTaken}
 use Rattle.frame.specs.Frame.{Frame, message, ack, nak, opener, infoLeast, infoMost, messageLen, ackLen, nakLen, lenOf, doubled, cksOf, undoubled, written}
-use Rattle.frame.specs.Decoder.{Decoder, Taken, possibleOf, freshHead, freshDecoder, idleDrops, infoGoesOn, takenOf, idledOf, joinedDecoder, octetLent, idleLent, takenWith, TakenLeaves}
+use Rattle.frame.specs.Decoder.{Decoder, Taken, possibleOf, freshHead, freshDecoder, idleDrops, infoGoesOn, takenOf, idledOf}
 use Rattle.frame.specs.Writer.{writeFrame}
 use Rattle.frame.specs.Run.{nothing, refused, sound, foundMeans, outcomeOf, outcomes, decoderAfter, AtRest, drops, NothingDropped}
 
@@ -179,29 +178,6 @@ pub record CallsOf (d : Decoder) : Type 0 where
 
 abbrev pub CallsAnswered : Type 0
 CallsAnswered = (d : Decoder) → CallsOf d
-
--- The octets that INFO is kept in are lent to a call: 256 of them or more
-pub record CallsLent (h : Head) (kept : List ℕ) : Type 0 where
-  -- the decoder has the first 256, whatever stands beyond
-  pub joined : joinedDecoder h kept ≡ record { head = h; info = take 256 kept }
-  pub taken : (r : HeadTaken) → takenWith r kept ≡ record { refusal = r .refusal; decoder = record { head = r .head; info = take 256 kept }; found = r .found }
-  -- "state handed in is unsound": fewer are refused 7 too
-  pub octetShort : (b : ℕ) → length kept < 256 → octetLent (joinedDecoder h kept) b ≡ record { refusal = 7; decoder = joinedDecoder h kept; found = found.Nothing }
-  pub octetEnough : (b : ℕ) → 256 ≤ length kept → octetLent (joinedDecoder h kept) b ≡ takenOf (joinedDecoder h kept) b
-  pub idleShort : length kept < 256 → idleLent (joinedDecoder h kept) ≡ record { refusal = 7; decoder = joinedDecoder h kept; found = found.Nothing }
-  pub idleEnough : 256 ≤ length kept → idleLent (joinedDecoder h kept) ≡ idledOf (joinedDecoder h kept)
-
--- What the contract of the octet call says: it answers what is due and leaves the INFO octets that are due, and those beyond as they came.
-pub record TakenSo (w : Taken) (lent : List ℕ) (r : HeadTaken) (k : List ℕ) : Type 0 where
-  pub refusal : r .refusal ≡ w .refusal
-  pub head : r .head ≡ w .decoder .head
-  pub found : r .found ≡ w .found
-  pub octets : k ≡ w .decoder .info ++ drop 256 lent
-
-abbrev pub OctetsLent : Type 0
-OctetsLent =
-    ((h : Head) (kept : List ℕ) → CallsLent h kept)
-    × ((w : Taken) (lent : List ℕ) (r : HeadTaken) (k : List ℕ) → TakenLeaves w lent r k → TakenSo w lent r k)
 
 -- A fresh decoder is at rest, whatever 256 octets are kept, so what is said of a decoder at rest is said of a fresh start; each number
 -- of its head is 0.

@@ -42,11 +42,20 @@ pub enum Found {
     Nak(u8, u16, u8),
 }
 
-// What a call of the decoder answers.
-pub struct HeadTaken {
-    pub refusal: u8,
+// 02, E5: the decoder's head and, beside it, how many octets have been taken since the last sound frame ended, or since the start, that belong
+// to no sound frame. It is any number.
+pub struct Receiver {
     pub head: Head,
+    pub dropped: u16,
+}
+
+// What a call of the decoder answers. The number that it tells is that of the receiver, but where a sound frame has ended: that carries out
+// the number before it.
+pub struct Received {
+    pub refusal: u8,
+    pub receiver: Receiver,
     pub found: Found,
+    pub dropped: u16,
 }
 
 // What an octet does: the head that follows, what was found, and whether the octet is kept as one of INFO. The INFO

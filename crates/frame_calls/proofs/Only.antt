@@ -1,10 +1,11 @@
 -- Any two results that a contract allows are equal.
 use mathlib.Core.Path.{_≡_, refl, sym, _∙_}
 use denote.Ref.{now}
-use Rattle.frame.proofs.Lent.{taken-one-to-one}
-use Rattle.frame_calls.proofs.decoder.fresh.Reads as fresh
-use Rattle.frame_calls.proofs.decoder.octet.Reads as octet
-use Rattle.frame_calls.proofs.decoder.line_idle.Reads as line-idle
+use Rattle.frame.proofs.Lent.{received-one-to-one}
+use Rattle.frame_calls.proofs.receiver.fresh.Reads as fresh
+use Rattle.frame_calls.proofs.receiver.octet.Reads as octet
+use Rattle.frame_calls.proofs.receiver.stopped.Reads as stopped
+use Rattle.frame_calls.proofs.receiver.line_idle.Reads as line-idle
 use Rattle.frame_calls.proofs.decoder.possible.Reads as possible
 use Rattle.frame_calls.proofs.decoder.idle_drops.Reads as idle-drops
 use Rattle.frame_calls.proofs.decoder.info_goes_on.Reads as info-goes-on
@@ -17,10 +18,13 @@ only-fresh : (κs : _) (a : _) (r s : _) (x y : _) → fresh.Post κs a r x → 
 only-fresh κs a r s x y p q = p ∙ sym q
 
 only-octet : (κs : _) (a : _) (r s : _) (x y : _) → octet.Post κs a r x → octet.Post κs a s y → (r ≡ s) × (now (x .1 .0) ≡ now (y .1 .0))
-only-octet κs a r s x y p q = taken-one-to-one r s (now (x .1 .0)) (now (y .1 .0)) (p .answer ∙ sym (q .answer)) (p .beyond ∙ sym (q .beyond))
+only-octet κs a r s x y p q = received-one-to-one r s (now (x .1 .0)) (now (y .1 .0)) (p .answer ∙ sym (q .answer)) (p .beyond ∙ sym (q .beyond))
 
 only-line-idle : (κs : _) (a : _) (r s : _) (x y : _) → line-idle.Post κs a r x → line-idle.Post κs a s y → r ≡ s
-only-line-idle κs a r s x y p q = taken-one-to-one r s (now (a .1 .0)) (now (a .1 .0)) (p ∙ sym q) refl .0
+only-line-idle κs a r s x y p q = received-one-to-one r s (now (a .1 .0)) (now (a .1 .0)) (p ∙ sym q) refl .0
+
+only-stopped : (κs : _) (a : _) (r s : _) (x y : _) → stopped.Post κs a r x → stopped.Post κs a s y → r ≡ s
+only-stopped κs a r s x y p q = p ∙ sym q
 
 only-possible : (κs : _) (a : _) (r s : _) (x y : _) → possible.Post κs a r x → possible.Post κs a s y → r ≡ s
 only-possible κs a r s x y p q = p ∙ sym q

@@ -6,7 +6,7 @@ ghost use lib.Dec.{ltb};
 ghost use lib.ListN.{take};
 ghost use Rattle.octets.specs.ExclusiveOr.{exclusiveOr};
 ghost use Rattle.frame.specs.Frame.{lenFits, infoMost, messageLen};
-ghost use Rattle.frame.specs.Decoder.{freshHead, hasInfo, infoDue, infoWhole, errDue, cksDue, idleDrops, infoGoesOn, possibleOf, headAt, foundAt, moved, ended, opened, refusedBy, idleOctet, afterAa, afterLen, lenJudged, afterInfo, kept, infoOctet, infoAaOctet, closeAaOctet, closeCcOctet, cksIn, soundBy, cksOctet, stepAt, joinedDecoder, octetLent, idleLent, takenWith, TakenLeaves, headUnsound, headTaken};
+ghost use Rattle.frame.specs.Decoder.{hasInfo, infoDue, infoWhole, errDue, cksDue, idleDrops, infoGoesOn, possibleOf, headAt, foundAt, moved, ended, opened, refusedBy, idleOctet, afterAa, afterLen, lenJudged, afterInfo, kept, infoOctet, infoAaOctet, closeAaOctet, closeCcOctet, cksIn, soundBy, cksOctet, stepAt};
 use crate::AA;
 use crate::ACK_LEN;
 use crate::BB;
@@ -20,82 +20,9 @@ use frame::INFO_MOST;
 use frame::Kind;
 use frame::decoder::Found;
 use frame::decoder::Head;
-use frame::decoder::HeadTaken;
 use frame::decoder::Place;
 use frame::decoder::Stepped;
 use octets::refusal;
-
-// A decoder at rest. What the octets then hold that are lent for INFO does not matter.
-pub fn fresh() -> Head
-    ensures { λ r. ⌜ r ≡ freshHead ⌝ }
-{
-    Head {
-        place: Place::Idle,
-        kind: Kind::Message,
-        seq: 0,
-        err: 0,
-        addr: 0,
-        len: 0,
-        filled: 0,
-    }
-}
-
-// Takes one octet; the first 256 of `kept` are the decoder's octets of INFO. An impossible decoder, or one that is lent fewer, is
-// refused and comes back as it was.
-pub fn octet(h: Head, kept: &mut [u8], b: u8) -> HeadTaken
-    ensures { λ r. ⌜ TakenLeaves (octetLent (joinedDecoder h (now (kept .entry))) b) (now (kept .entry)) r (now (kept .exit)) ⌝ }
-{
-    if kept.len() < INFO_MOST {
-        return unsound(h);
-    }
-    if !possible(h) {
-        return unsound(h);
-    }
-    let t = step(h, &kept[0..INFO_MOST], b);
-    let head = t.head;
-    let found = t.found;
-    if t.keeps {
-        let at = h.filled as usize;
-        kept[at] = b;
-        return taken(head, found);
-    }
-    taken(head, found)
-}
-
-// "A line-idle call, made by the host, returns the decoder to idle and changes nothing else."
-pub fn line_idle(h: Head, kept: &[u8]) -> HeadTaken
-    ensures { λ r. ⌜ takenWith r (now (kept .entry)) ≡ idleLent (joinedDecoder h (now (kept .entry))) ⌝ }
-{
-    if kept.len() < INFO_MOST {
-        return unsound(h);
-    }
-    if !possible(h) {
-        return unsound(h);
-    }
-    let k = h.kind;
-    taken(placed(h, Place::Idle, k), Found::Nothing)
-}
-
-// "state handed in is unsound": "same state"
-fn unsound(h: Head) -> HeadTaken
-    ensures { λ r. ⌜ r ≡ headUnsound h ⌝ }
-{
-    HeadTaken {
-        refusal: refusal::STATE_UNSOUND,
-        head: h,
-        found: Found::Nothing,
-    }
-}
-
-fn taken(head: Head, found: Found) -> HeadTaken
-    ensures { λ r. ⌜ r ≡ headTaken head found ⌝ }
-{
-    HeadTaken {
-        refusal: refusal::NONE,
-        head,
-        found,
-    }
-}
 
 // "Idle: AA is remembered, all else is dropped." What is dropped leaves the decoder as it is.
 pub fn idle_drops(h: Head, b: u8) -> bool
@@ -210,7 +137,7 @@ fn len_fits(k: Kind, len: u16) -> bool
 }
 
 // The head at another place, of a frame of this kind.
-fn placed(h: Head, p: Place, k: Kind) -> Head
+pub(crate) fn placed(h: Head, p: Place, k: Kind) -> Head
     ensures { λ r. ⌜ r ≡ headAt h p k ⌝ }
 {
     Head {
@@ -433,7 +360,7 @@ fn cks_octet(h: Head, info: &[u8], b: u8) -> Stepped
 }
 
 // One octet to a possible decoder. SEQ, ADDR and LEN come in octet by octet, high octet first; ERR is one.
-fn step(mut h: Head, info: &[u8], b: u8) -> Stepped
+pub(crate) fn step(mut h: Head, info: &[u8], b: u8) -> Stepped
     requires { ⌜ possibleOf h ≡ true ⌝ }
     ensures { λ r. ⌜ r ≡ stepAt (h .place) h (now (info .entry)) b ⌝ }
 {

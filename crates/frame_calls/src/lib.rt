@@ -1,5 +1,6 @@
 // 01, "Frames": the decoder takes a frame octet by octet, and the writers write one whole.
 pub mod decoder;
+pub mod receiver;
 pub mod writer;
 
 ghost use mathlib.Core.Path.{_≡_};

@@ -134,7 +134,7 @@ fn write_plain(front: &[u8], end: &[u8], out: &mut [u8], at: usize) -> Written
 }
 
 // How many octets INFO is as sent.
-fn doubled_len(info: &[u8]) -> usize
+pub(crate) fn doubled_len(info: &[u8]) -> usize
     requires { ⌜ length (now info) ≤ infoMost ⌝ }
     ensures { λ r. ⌜ (r ≡ length (doubled (now (info .entry)))) × (r ≤ infoMost + infoMost) ⌝ }
 {

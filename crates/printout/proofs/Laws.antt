@@ -8,8 +8,8 @@ use lib.ListN.{length, take, drop, length-append, length-take}
 use lib.Seq.{sets-eq, take-at}
 use Rattle.octets.specs.Put.{Stored, Put}
 use Rattle.octets.proofs.Laws.{pick-by}
-use Rattle.text.specs.Text.{ascii, octetsHex}
-use Rattle.text.proofs.Laws.{hex16-length, octets-length}
+use Rattle.text.specs.Text.{ascii, decimal, octetsHex}
+use Rattle.text.proofs.Laws.{hex16-length, places-most, decimal-length, octets-length}
 use Rattle.line.specs.declared.LineFound.the-variants as found
 use Rattle.line.specs.Line.{lineFeed}
 use Rattle.controller.specs.declared.Held.{Held}
@@ -18,7 +18,7 @@ use Rattle.controller.specs.State.{State, joined, outputLen}
 use Rattle.controller.specs.Replies.{Answer, CallLeaves, octetOf}
 use Rattle.controller.proofs.Answering.{outputs-left}
 use Rattle.printout.specs.declared.Run.{Run}
-use Rattle.printout.specs.Listing.{wordText, replyLine}
+use Rattle.printout.specs.Listing.{wordText, replyTail, replyLine}
 use Rattle.printout.specs.Run.{textMost, Said, Listed, secondSaid, BadWith, octetMade, lineMade}
 
 -- Text
@@ -40,23 +40,27 @@ pub word-length : (x : ℕ) → length (wordText x) ≡ 16
 unfolding wordText
 word-length x = hex16-length _
 
-pub reply-none : (xs : List ℕ) → length xs ≡ 0 → replyLine xs ≡ []
-unfolding replyLine
-reply-none [] h = refl
-reply-none (x ∷ xs) h = absurd (omega arith)
+-- a number of sixteen bits has at most five digits
+pub decimal-16 : (n : ℕ) → n < 65536 → length (decimal n) ≤ 5
+decimal-16 n h = omega (arith, decimal-length n, places-most 4 n (omega arith))
 
-pub reply-some : (xs : List ℕ) → 0 < length xs → replyLine xs ≡ ascii "reply\t" ++ octetsHex xs ++ lineFeed ∷ []
+pub reply-none : (xs : List ℕ) (n : ℕ) → length xs ≡ 0 → replyLine xs n ≡ []
 unfolding replyLine
-reply-some [] h = absurd (omega arith)
-reply-some (x ∷ xs) h = refl
+reply-none [] n h = refl
+reply-none (x ∷ xs) n h = absurd (omega arith)
 
-pub reply-length : (xs : List ℕ) → 0 < length xs → length (replyLine xs) ≡ 3 * (length xs + 2)
-reply-length xs h = rw (reply-some xs h) (simp length-append (omega (arith, octets-length xs)))
-
-pub reply-most : (xs : List ℕ) → length xs ≤ outputLen → length (replyLine xs) ≤ textMost
+pub reply-some : (xs : List ℕ) (n : ℕ) → 0 < length xs → replyLine xs n ≡ ascii "reply\t" ++ octetsHex xs ++ replyTail n
 unfolding replyLine
-reply-most [] h = omega arith
-reply-most (x ∷ xs) h = omega (arith, reply-length (x ∷ xs) (omega arith))
+reply-some [] n h = absurd (omega arith)
+reply-some (x ∷ xs) n h = refl
+
+pub reply-length : (xs : List ℕ) (n : ℕ) → 0 < length xs → length (replyLine xs n) + 1 ≡ 3 * (length xs + 2) + length (replyTail n)
+reply-length xs n h = rw (reply-some xs n h) (simp length-append (omega (arith, octets-length xs)))
+
+pub reply-most : (xs : List ℕ) (n : ℕ) → length xs ≤ outputLen → n < 65536 → length (replyLine xs n) ≤ textMost
+unfolding replyLine
+reply-most [] n h l = omega arith
+reply-most (x ∷ xs) n h l = omega (arith, reply-length (x ∷ xs) n (omega arith), length-append (decimal n) (lineFeed ∷ []), decimal-16 n l)
 
 -- The run
 
@@ -68,16 +72,17 @@ module _ (s : Held) (lent b o : List ℕ) (x : ℕ) {r : HeldAnswer} {k b′ o�
   count-most : length (take (r .told .count) o′) ≤ outputLen
   count-most = simp length-take (omega (arith, outputs-left (joined s lent) b o x .most, ap (λ (a : Answer). a .told .count) (d .answer)))
 
-  pub octet-listed : (n at : ℕ) {t t′ : List ℕ} {u : ℕ} → Put (replyLine (take (r .told .count) o′)) at t u t′
+  -- the code's number has sixteen bits
+  pub octet-listed : (n at : ℕ) {t t′ : List ℕ} {u : ℕ} → r .told .dropped < 65536 → Put (replyLine (take (r .told .count) o′) (r .told .dropped)) at t u t′
       → Listed (octetMade (joined s lent) n b o x) lent at t (record { state = r .state; seconds = n; used = u }) k b′ o′ t′
   unfolding octetMade
-  octet-listed n at p =
+  octet-listed n at f p =
       record {
         said = record {
           state = ap (λ (a : Answer). a .state) (d .answer);
           seconds = refl;
           text = rw (← d .answer, ← d .out) p;
-          short = rw (← d .answer, ← d .out) (reply-most (take (r .told .count) o′) count-most);
+          short = rw (← d .answer, ← d .out) (reply-most (take (r .told .count) o′) (r .told .dropped) count-most f);
         };
         beyond = d .beyond;
         book = d .book;

@@ -18,6 +18,7 @@ use Rattle.diagram.specs.Table as diagram
 use Rattle.diagram.proofs.Words.{words-fit}
 use Rattle.frame.specs.Frame.{frontOf, bodyOf, sentOf, cksOf, twice, doubled, written}
 use Rattle.frame.specs.Decoder.{freshHead, possibleOf, frontIn, cksIn, stepOf, takenOf}
+use Rattle.frame.specs.Dropped.{openOf, stopped, numberThen, countedOf, freshReceiver}
 use Rattle.message.specs.Layouts.{layouts, layoutAt, known, numberOf, rowsAt}
 use Rattle.message.specs.Layouts as message
 use Rattle.message.specs.Values.{zeros, placed, firstOut}
@@ -84,10 +85,10 @@ second-printed n plan row f =
       flashingWhole = whole (row .flashing) (f .1);
     }
 
-pub reply-printed : (xs : List ℕ) → ReplyPrinted xs (replyLine xs)
+pub reply-printed : (xs : List ℕ) (n : ℕ) → ReplyPrinted xs n (replyLine xs n)
 unfolding replyLine
-reply-printed [] = none
-reply-printed (x ∷ xs) = some
+reply-printed [] n = none
+reply-printed (x ∷ xs) n = some
 
 pub lines-print : LinesPrint
 unfolding lineMade secondSaid badSaid badLine octetMade
@@ -95,7 +96,7 @@ lines-print s n b o =
     record {
       second = record { state = refl; seconds = refl; line = second-printed n (secondOf s b .plan) (secondOf s b .row) (second-fits s b); book = refl; out = refl };
       octet = λ x. let w = octetOf s b o x in
-          record { state = refl; seconds = refl; line = reply-printed (take (w .answer .told .count) (w .out)); book = refl; out = refl };
+          record { state = refl; seconds = refl; line = reply-printed (take (w .answer .told .count) (w .out)) (w .answer .told .dropped); book = refl; out = refl };
       bad = λ k. record { state = refl; seconds = refl; line = refl; book = refl; out = refl };
       more = record { state = refl; seconds = refl; line = refl; book = refl; out = refl };
     }
@@ -132,7 +133,7 @@ starts-asked =
     by words word o (yes e) false h = rw (eq-eqb words 1 e, h)
 
 pub listing-begins : ListingBegins
-unfolding runStart header listingFrom listingOf freshOf
+unfolding freshReceiver runStart header listingFrom listingOf freshOf
 listing-begins which = record { state = λ kept. refl; seconds = refl; used = refl; listing = λ input. refl; ended = λ s n b o. refl; next = λ s n b o f fs. refl }
 
 -- 01's listing
@@ -142,5 +143,5 @@ unfolding firstOf diagram.find table.directory diagram.diagramOf table.lampRows 
 two-seconds = (refl, refl)
 
 pub reply-and-bad : ReplyAndBad
-unfolding xor exclusiveOr firstOf diagram.find table.directory diagram.diagramOf table.lampRows diagram.rowNumber diagram.lampRowOf frontOf bodyOf sentOf cksOf twice doubled written freshHead possibleOf frontIn cksIn stepOf takenOf layouts layoutAt known numberOf rowsAt message.layoutRows zeros placed firstOut noMessage notRead partOf rangedOf readPartOf readOf timesDisagree planDisagree ranged timesStand planStands readyStands allZero standingOf padded builtIn same planInfo phaseTable secondsOf freshOf runningSound soundOf replyInfo handlingOf repliedOf messageOf doneOf octetOf digits line.hexOf line.lineOctet line.endOf founds lineAfter foundIn header placesWithin places decimal blankHex2 spaced octetsHex replyLine badLine octetMade badSaid lineMade listingFrom listingOf
+unfolding xor exclusiveOr firstOf diagram.find table.directory diagram.diagramOf table.lampRows diagram.rowNumber diagram.lampRowOf frontOf bodyOf sentOf cksOf twice doubled written freshHead possibleOf frontIn cksIn stepOf takenOf openOf stopped numberThen countedOf layouts layoutAt known numberOf rowsAt message.layoutRows zeros placed firstOut noMessage notRead partOf rangedOf readPartOf readOf timesDisagree planDisagree ranged timesStand planStands readyStands allZero standingOf padded builtIn same planInfo phaseTable secondsOf freshOf runningSound soundOf replyInfo handlingOf repliedOf messageOf doneOf octetOf digits line.hexOf line.lineOctet line.endOf founds lineAfter foundIn header placesWithin places decimal blankHex2 spaced octetsHex replyLine badLine octetMade badSaid lineMade listingFrom listingOf
 reply-and-bad = (refl, refl)

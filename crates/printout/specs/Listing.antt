@@ -5,7 +5,7 @@ use Rattle.text.specs.Text.{ascii, hex16, decimal, octetsHex}
 use Rattle.line.specs.Line.{tab, lineFeed}
 use Rattle.lamps.specs.declared.Row.{Row}
 
--- The most places: of a number and its tab, of a lamp word and what follows it, and of a second's whole line
+-- The most places: of a number and its tab, of a lamp word and what follows it, of a second's whole line, and of what ends a reply's
 
 abbrev pub fieldMost : ℕ
 fieldMost = 21
@@ -15,6 +15,9 @@ wordMost = 17
 
 abbrev pub lineMost : ℕ
 lineMost = 118
+
+abbrev pub tailMost : ℕ
+tailMost = 7
 
 -- "It prints a header"
 unfoldable pub header : List ℕ
@@ -35,10 +38,14 @@ numbers n plan row = field n ++ field plan ++ field (row .step) ++ field (row .l
 unfoldable pub secondLine : ℕ → ℕ → Row → List ℕ
 secondLine n plan row = numbers n plan row ++ (wordText (row .steady) ++ tab ∷ []) ++ (wordText (row .flashing) ++ lineFeed ∷ [])
 
--- "for each call that wrote a reply `reply`, tab, octets in hex with spaces": the octets that the call wrote
-unfoldable pub replyLine : List ℕ → List ℕ
-replyLine [] = []
-replyLine (x ∷ xs) = ascii "reply\t" ++ octetsHex (x ∷ xs) ++ lineFeed ∷ []
+-- 02, E5: "the listing prints it as a reply line's third field": how many octets were dropped, the tab before it and the end of the line
+abbrev pub replyTail : ℕ → List ℕ
+replyTail n = tab ∷ decimal n ++ lineFeed ∷ []
+
+-- "for each call that wrote a reply `reply`, tab, octets in hex with spaces": the octets that the call wrote, and the number that it told
+unfoldable pub replyLine : List ℕ → ℕ → List ℕ
+replyLine [] n = []
+replyLine (x ∷ xs) n = ascii "reply\t" ++ octetsHex (x ∷ xs) ++ replyTail n
 
 -- "for a bad line `bad`, tab, its number from 1"
 unfoldable pub badLine : ℕ → List ℕ

@@ -1,5 +1,6 @@
 -- 01, "Cases", and 02, E2: what each line of the input does and prints; the lamp words are printed whole; two T lines print what 01
--- shows, its words with sixteen digits, and P1's octets their reply; 02, E1: which start the program's words ask for, and both starts' cases.
+-- shows, its words with sixteen digits, and P1's octets their reply; 02, E1: which start the program's words ask for, and both starts' cases;
+-- 02, E5: a reply line's third field.
 use Prim.Native.Nat.{ℕ, _+_, _%_, _^_}
 use mathlib.Core.Path.{_≡_}
 use mathlib.Core.List.{List, [], _∷_, _++_}
@@ -46,10 +47,11 @@ pub record SecondPrinted (n plan : ℕ) (row : Row) (text : List ℕ) : Type 0 w
   pub steadyWhole : Means 16 16 (row .steady) steady
   pub flashingWhole : Means 16 16 (row .flashing) flashing
 
--- "for each call that wrote a reply `reply`, tab, octets in hex with spaces"; a call that wrote none prints nothing
-pub data ReplyPrinted : List ℕ → List ℕ → Type 0 where
-  none : ReplyPrinted [] []
-  some : {x : ℕ} {xs : List ℕ} → ReplyPrinted (x ∷ xs) (ascii "reply\t" ++ octetsHex (x ∷ xs) ++ 0x0A ∷ [])
+-- "for each call that wrote a reply `reply`, tab, octets in hex with spaces"; a call that wrote none prints nothing; 02, E5: "the listing prints it
+-- as a reply line's third field", the number of octets dropped in decimal
+pub data ReplyPrinted : List ℕ → ℕ → List ℕ → Type 0 where
+  none : {n : ℕ} → ReplyPrinted [] n []
+  some : {x : ℕ} {xs : List ℕ} {n : ℕ} → ReplyPrinted (x ∷ xs) n (parted (ascii "reply" ∷ octetsHex (x ∷ xs) ∷ decimal n ∷ []))
 
 -- What a line does, with n seconds so far, and with the book b and the output o
 
@@ -61,11 +63,11 @@ pub record SecondMakes (s : State) (n : ℕ) (b o : List ℕ) (m : Making) : Typ
   pub book : m .book ≡ b
   pub out : m .out ≡ o
 
--- "an octet": the octet call, and the line of what it wrote
+-- "an octet": the octet call, and the line of what it wrote and of the octets dropped that it told
 pub record OctetMakes (s : State) (n : ℕ) (b o : List ℕ) (x : ℕ) (m : Making) : Type 0 where
   pub state : m .said .state ≡ octetOf s b o x .answer .state
   pub seconds : m .said .seconds ≡ n
-  pub line : ReplyPrinted (take (octetOf s b o x .answer .told .count) (octetOf s b o x .out)) (m .said .text)
+  pub line : ReplyPrinted (take (octetOf s b o x .answer .told .count) (octetOf s b o x .out)) (octetOf s b o x .answer .told .dropped) (m .said .text)
   pub book : m .book ≡ octetOf s b o x .book
   pub out : m .out ≡ octetOf s b o x .out
 
@@ -133,7 +135,7 @@ TwoSeconds =
     ++ ascii "1\t0\t1\t17\t0000000041418888\t0000000000000000\n")
 
 -- P1 as octets, in capitals or not, and a bad line: "`reply`, tab, octets in hex with spaces, and for a bad line `bad`, tab, its
--- number from 1"; the reply is P2 and P3, E1's and the old one
+-- number from 1"; the reply is P2 and P3, E1's and the old one, and no octet was dropped before P1
 abbrev pub p1AndBad : List ℕ
 p1AndBad = ascii "B\tAA\nB\tBB\nB\t07\nB\t00\nB\t01\nB\t00\nB\t0c\nB\t5F\nB\t48\nB\taa\nB\tCC\nB\t6a\nB\t6\n"
 
@@ -141,7 +143,7 @@ abbrev pub ReplyAndBad : Type 0
 ReplyAndBad =
     (listingOf New p1AndBad
     ≡ ascii "second\tplan\tstep\tleft\tsteady\tflashing\n"
-    ++ ascii "reply\tAA DD 07 00 01 00 08 79 AA BB 00 00 01 00 18 5F C8 00 00 00 02 00 23 00 23 00 50 00 00 AA CC AB\nbad\t13\n")
+    ++ ascii "reply\tAA DD 07 00 01 00 08 79 AA BB 00 00 01 00 18 5F C8 00 00 00 02 00 23 00 23 00 50 00 00 AA CC AB\t0\nbad\t13\n")
     × (listingOf Old p1AndBad
     ≡ ascii "second\tplan\tstep\tleft\tsteady\tflashing\n"
-    ++ ascii "reply\tAA DD 07 00 01 00 08 79 AA BB 00 00 01 00 18 5F C8 00 00 00 02 00 19 00 19 00 3C 00 00 AA CC C7\nbad\t13\n")
+    ++ ascii "reply\tAA DD 07 00 01 00 08 79 AA BB 00 00 01 00 18 5F C8 00 00 00 02 00 19 00 19 00 3C 00 00 AA CC C7\t0\nbad\t13\n")

@@ -14,14 +14,14 @@ use Rattle.printout.specs.Promises.{SecondPrinted, ReplyPrinted}
 
 -- The texts
 
--- "It prints a header", the columns of a second, a reply, "for a bad line `bad`, tab, its number"; and the most octets of a line
+-- "It prints a header", the columns of a second, a reply and the octets dropped, "for a bad line `bad`, tab, its number"; and the most octets of a line
 pub record EachPut : Type 0 where
   pub header : header ≡ ascii "second\tplan\tstep\tleft\tsteady\tflashing\n"
   pub second : (n plan : ℕ) (row : Row) → row .steady < 2 ^ 64 → row .flashing < 2 ^ 64 → SecondPrinted n plan row (secondLine n plan row)
-  pub reply : (os : List ℕ) → ReplyPrinted os (replyLine os)
+  pub reply : (os : List ℕ) (n : ℕ) → ReplyPrinted os n (replyLine os n)
   pub bad : (n : ℕ) → badLine n ≡ ascii "bad\t" ++ decimal n ++ 0x0A ∷ []
   pub lineMost : lineMost ≡ 118
-  pub textMost : textMost ≡ 1638
+  pub textMost : textMost ≡ 1644
 
 abbrev pub PutsAsSaid : Type 0
 PutsAsSaid = EachPut
@@ -29,13 +29,13 @@ PutsAsSaid = EachPut
 -- What a line leaves
 
 -- the run r, the octets k that were lent for INFO, the book b and the output o are those that the line makes, and its text, never longer than
--- 1,638, is put behind what was used
+-- 1,644, is put behind what was used
 pub record Left (m : Making) (lent : List ℕ) (used : ℕ) (t : List ℕ) (r : Run) (k b o t′ : List ℕ) : Type 0 where
   pub state : joined (r .state) k ≡ m .said .state
   pub octets : k ≡ m .said .state .decoder .info ++ drop 256 lent
   pub seconds : r .seconds ≡ m .said .seconds
   pub text : PutSo (m .said .text) used t (r .used) t′
-  pub short : length (m .said .text) ≤ 1638
+  pub short : length (m .said .text) ≤ 1644
   pub book : b ≡ m .book
   pub out : o ≡ m .out
 

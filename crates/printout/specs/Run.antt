@@ -7,7 +7,7 @@ use lib.Dec.{eqb}
 use lib.ListN.{length, getD, take, drop, replicate}
 use Rattle.octets.specs.Choice.{pick, both}
 use Rattle.octets.specs.Put.{Put}
-use Rattle.frame.specs.Decoder.{freshHead}
+use Rattle.frame.specs.Dropped.{freshReceiver}
 use Rattle.record.specs.Record.{emptyBook}
 use Rattle.plan.specs.declared.Which.{Which}
 use Rattle.plan.specs.declared.Which.the-variants.{New, Old}
@@ -31,7 +31,7 @@ own = 0x0001
 unfoldable pub runStart : Which → Run
 runStart which =
     record {
-      state = record { own = own; seq = 0; requested = 0; head = freshHead; running = startedAt which 0 (builtIn which) };
+      state = record { own = own; seq = 0; requested = 0; receiver = freshReceiver; running = startedAt which 0 (builtIn which) };
       seconds = 0;
       used = 0;
     }
@@ -45,9 +45,10 @@ isOld word = both (eqb (length word) 3) (both (eqb (getD word 0 0) 0x6F) (both (
 unfoldable pub startAsked : ℕ → List ℕ → Asked
 startAsked words word = pick (eqb words 0) (Start New) (pick (both (eqb words 1) (isOld word)) (Start Old) Unknown)
 
--- no line adds more: three places for each of the 544 octets of the longest reply, and six
+-- no line adds more: three places for each of the 544 octets of the longest reply, and six; 02, E5: a tab, and five digits, since "The number
+-- stops at 65,535"
 abbrev pub textMost : ℕ
-textMost = 1638
+textMost = 1644
 
 -- the state and the seconds so far after a line, and the text that it adds
 pub record Saying : Type 0 where
@@ -90,12 +91,12 @@ badSaid s n number = record { state = s; seconds = n; text = badLine number }
 abbrev pub BadWith : Run → ℕ → List ℕ → Run → List ℕ → Type 0
 BadWith run number t r t′ = (kept : List ℕ) → Said (badSaid (joined (run .state) kept) (run .seconds) number) kept (run .used) t r t′
 
--- "an octet": what the octet call wrote is the first of the output
+-- "an octet": what the octet call wrote is the first of the output, and the number of octets dropped is the one that it told
 unfoldable pub octetMade : State → ℕ → List ℕ → List ℕ → ℕ → Making
 octetMade s n book out b =
     let w = octetOf s book out b in
     record {
-      said = record { state = w .answer .state; seconds = n; text = replyLine (take (w .answer .told .count) (w .out)) };
+      said = record { state = w .answer .state; seconds = n; text = replyLine (take (w .answer .told .count) (w .out)) (w .answer .told .dropped) };
       book = w .book;
       out = w .out;
     }

@@ -19,7 +19,7 @@ only-put-header κs a r s x y p q = (p .place ∙ sym (q .place), p .holds ∙ s
 only-put-second : (κs : _) (a : _) (r s : _) (x y : _) → put-second.Post κs a r x → put-second.Post κs a s y → (r ≡ s) × (now (x .1 .1 .1 .0) ≡ now (y .1 .1 .1 .0))
 only-put-second κs a r s x y p q = (p .0 .place ∙ sym (q .0 .place), p .0 .holds ∙ sym (q .0 .holds))
 
-only-put-reply : (κs : _) (a : _) (r s : _) (x y : _) → put-reply.Post κs a r x → put-reply.Post κs a s y → (r ≡ s) × (now (x .1 .0) ≡ now (y .1 .0))
+only-put-reply : (κs : _) (a : _) (r s : _) (x y : _) → put-reply.Post κs a r x → put-reply.Post κs a s y → (r ≡ s) × (now (x .1 .1 .0) ≡ now (y .1 .1 .0))
 only-put-reply κs a r s x y p q = (p .place ∙ sym (q .place), p .holds ∙ sym (q .holds))
 
 only-put-bad : (κs : _) (a : _) (r s : _) (x y : _) → put-bad.Post κs a r x → put-bad.Post κs a s y → (r ≡ s) × (now (x .1 .0) ≡ now (y .1 .0))

@@ -3,15 +3,19 @@
 pub mod run;
 
 ghost use mathlib.Core.Path.{_≡_};
-ghost use Prim.Native.Nat.{_+_, _≤_, _<_};
+ghost use Prim.Native.Nat.{_+_, _≤_};
 ghost use mathlib.Core.List.{[], _∷_, _++_};
 ghost use lib.ListN.{length};
 ghost use Rattle.octets.specs.Put.{Put, Stored};
-ghost use Rattle.printout.specs.Listing.{lineMost, fieldMost, wordMost, header, field, numbers, wordText, secondLine, replyLine, badLine};
+ghost use Rattle.text.specs.Text.{ascii, octetsHex};
+ghost use Rattle.printout.specs.Listing.{lineMost, fieldMost, wordMost, tailMost, header, field, numbers, wordText, secondLine, replyTail, replyLine, badLine};
 use lamps::Row;
 
 // The longest line of a second: four numbers of 20 digits and a tab, two words of sixteen digits and what follows each.
 const LINE_MOST: usize = 118;
+
+// The longest end of a reply's line: a tab, five digits and a line feed.
+const TAIL_MOST: usize = 7;
 
 // "It prints a header".
 pub fn put_header(out: &mut [u8], at: usize) -> usize
@@ -29,21 +33,27 @@ pub fn put_second(n: u64, plan: u8, row: Row, out: &mut [u8], at: usize) -> usiz
     octets::put(&line[..end], out, at)
 }
 
-// "for each call that wrote a reply `reply`, tab, octets in hex with spaces": a call that wrote none has no line.
-pub fn put_reply(s: &[u8], out: &mut [u8], at: usize) -> usize
-    ensures { λ r. ⌜ Put (replyLine (now (s .entry))) at (now (out .entry)) r (now (out .exit)) ⌝ }
+// "for each call that wrote a reply `reply`, tab, octets in hex with spaces": a call that wrote none has no line. 02, E5: the number of octets
+// dropped, "as a reply line's third field".
+pub fn put_reply(s: &[u8], n: u16, out: &mut [u8], at: usize) -> usize
+    ensures { λ r. ⌜ Put (replyLine (now (s .entry)) n) at (now (out .entry)) r (now (out .exit)) ⌝ }
 {
     if s.len() == 0 {
         return at;
     }
+    let mut tail = [0u8; TAIL_MOST];
+    let end = store_tail(n, &mut tail);
     if out.len() < at {
         return at;
     }
-    // Three places for each octet, the last of them the line feed, and six for the word and its tab.
-    if (out.len() - at) / 3 < s.len() + 2 {
+    if out.len() - at < end {
         return at;
     }
-    store_reply(s, out, at)
+    // Before the tail, three places for each octet but the last, which has no blank after it, and six for the word and its tab.
+    if (out.len() - at - end + 1) / 3 < s.len() + 2 {
+        return at;
+    }
+    store_reply(s, &tail[..end], out, at)
 }
 
 // "for a bad line `bad`, tab, its number from 1".
@@ -92,13 +102,23 @@ fn store_word(x: u64, mark: u8, line: &mut [u8], at: usize) -> usize
     octets::put(&[mark], line, p)
 }
 
-fn store_reply(s: &[u8], out: &mut [u8], at: usize) -> usize
-    requires { ⌜ (0 < length (now s)) × (at + length (replyLine (now s)) ≤ length (now out)) ⌝ }
-    ensures { λ r. ⌜ Stored (replyLine (now (s .entry))) at (now (out .entry)) r (now (out .exit)) ⌝ }
+// The third field, with the tab before it, and the end of the line.
+fn store_tail(n: u16, tail: &mut [u8]) -> usize
+    requires { ⌜ length (now tail) ≡ tailMost ⌝ }
+    ensures { λ r. ⌜ Stored (replyTail n) 0 (now (tail .entry)) r (now (tail .exit)) ⌝ }
+{
+    let p = octets::put(b"\t", &mut *tail, 0);
+    let q = text::put_decimal(n as u64, &mut *tail, p);
+    octets::put(b"\n", tail, q)
+}
+
+fn store_reply(s: &[u8], tail: &[u8], out: &mut [u8], at: usize) -> usize
+    requires { ⌜ at + length (ascii "reply\t" ++ octetsHex (now s) ++ now tail) ≤ length (now out) ⌝ }
+    ensures { λ r. ⌜ Stored (ascii "reply\t" ++ octetsHex (now (s .entry)) ++ now (tail .entry)) at (now (out .entry)) r (now (out .exit)) ⌝ }
 {
     let p = octets::put(b"reply\t", &mut *out, at);
     let q = text::put_octets(s, &mut *out, p);
-    octets::put(b"\n", out, q)
+    octets::put(tail, out, q)
 }
 
 fn store_bad(n: u64, line: &mut [u8]) -> usize

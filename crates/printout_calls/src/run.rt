@@ -123,6 +123,7 @@ fn shown(s: Held, kept: &[u8], book: &[u8]) -> HeldShown
                 parameter: 0,
                 event: Event::Nothing,
                 count: 0,
+                dropped: 0,
             },
             plan: 0,
             row: NO_ROW,
@@ -131,7 +132,7 @@ fn shown(s: Held, kept: &[u8], book: &[u8]) -> HeldShown
     controller_calls::second(s, book)
 }
 
-// "an octet": the octet call, and the reply that it wrote.
+// "an octet": the octet call, the reply that it wrote and the number of octets dropped that it told.
 fn on_octet(
     run: Run,
     b: u8,
@@ -148,7 +149,7 @@ fn on_octet(
     let n = a.told.count;
     Run {
         state,
-        used: crate::put_reply(&out[..n], text, at),
+        used: crate::put_reply(&out[..n], a.told.dropped, text, at),
         ..run
     }
 }

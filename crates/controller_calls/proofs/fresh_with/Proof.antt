@@ -1,5 +1,6 @@
 -- `controller_calls::fresh_with` meets its contract: the plan 0 that is named is started, and the address judged.
 use borrow.Author.Tests.{eq-eqb, ne-eqb}
+use Rattle.frame.specs.Dropped.{freshReceiver}
 use Rattle.controller.specs.State.{freshOf}
 use Rattle.controller.specs.Seconds.{startedOf}
 use borrow.Author.Needs.{needs}
@@ -7,13 +8,13 @@ use Rattle.controller_calls.proofs.fresh_with.Statement.{statement}
 use Rattle.controller_calls.proofs.fresh_with.Tie as tie
 
 returns : tie.Need-returns
-unfolding startedOf freshOf
+unfolding startedOf freshOf freshReceiver
 returns c kept =
     let f = c .before .before in
     rw (c .quiet .ensures, eq-eqb _ _ (c .before .if1 .taken), f .fresh .ensures, f .before .started .ensures, f .before .before .built-in .ensures)
 
 returns-2 : tie.Need-returns-2
-unfolding startedOf freshOf
+unfolding startedOf freshOf freshReceiver
 returns-2 c kept =
     let f = c .before .before in
     rw (c .quiet2 .ensures, ne-eqb _ _ (c .before .if1 .left), f .fresh .ensures, f .before .started .ensures, f .before .before .built-in .ensures)

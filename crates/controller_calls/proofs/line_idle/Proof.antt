@@ -16,10 +16,11 @@ returns c =
 
 returns-2 : tie.Need-returns-2
 returns-2 c =
-    let i = c .before .before .before in
-    let t = i .before .before .before in
+    let l = c .before .before .before in
+    let i = l .before .before in
+    let t = i .before in
     let a = t .before .before .args in
-    rw (c .quiet2 .ensures) (idle-answered (a .s) (a .kept .now) (sym (sound-joined (a .s) (a .kept .now)) ∙ (sym (t .stands .ensures) ∙ not-false _ (i .before .before .if1 .left))) (i .line-idle .ensures))
+    rw (c .counted .ensures) (idle-answered (a .s) (a .kept .now) (sym (sound-joined (a .s) (a .kept .now)) ∙ (sym (t .stands .ensures) ∙ not-false _ (i .if1 .left))) (l .line-idle .ensures))
 
 pub line-idle-spec : {M : Type 1} → statement M
 line-idle-spec =

@@ -2,8 +2,8 @@
 use mathlib.Core.Path.{sym, _∙_}
 use borrow.Author.Tests.{not-true, not-false}
 use Rattle.controller.specs.State.{joined}
-use Rattle.controller.proofs.Laws.{octet-7, octet-8, octet-9, octet-done}
-use Rattle.controller_calls.proofs.Held.{sound-joined, leaves-quiet, octet-dropped}
+use Rattle.controller.proofs.Laws.{octet-7, octet-8, octet-9, octet-counted}
+use Rattle.controller_calls.proofs.Held.{sound-joined, leaves-quiet, leaves-dropped}
 use borrow.Author.Needs.{needs}
 use Rattle.controller_calls.proofs.octet.Statement.{statement}
 use Rattle.controller_calls.proofs.octet.Tie as tie
@@ -43,11 +43,8 @@ returns-4 c =
     let t = i .before in
     let a = t .before .before .before .before .args in
     let h = a .kept .now in
-    rw (
-      octet-done (joined (a .s) h) (a .book .now) (a .out .now) (a .b) (sym (sound-joined (a .s) h) ∙ (sym (t .stands .ensures) ∙ not-false _ (i .if1 .left))) (k .before .if2 .left) (k .if3 .left),
-      octet-dropped (a .s) h (a .book .now) (a .out .now) (a .b) (sym (d .idle-drops .ensures) ∙ c .before .if4 .taken),
-    )
-    (leaves-quiet (a .s) h (a .book .now) (a .out .now) 0 (c .quiet4 .ensures))
+    rw (octet-counted (joined (a .s) h) (a .book .now) (a .out .now) (a .b) (sym (sound-joined (a .s) h) ∙ (sym (t .stands .ensures) ∙ not-false _ (i .if1 .left))) (k .before .if2 .left) (k .if3 .left))
+    (leaves-dropped (a .s) h (a .book .now) (a .out .now) (a .b) (sym (d .idle-drops .ensures) ∙ c .before .if4 .taken) (c .one-dropped .ensures))
 
 info-kept-requires : tie.Need-info-kept-requires
 info-kept-requires c κs =
@@ -65,7 +62,7 @@ returns-5 c =
     let t = i .before in
     let a = t .before .before .before .before .args in
     let h = a .kept .now in
-    rw (octet-done (joined (a .s) h) (a .book .now) (a .out .now) (a .b) (sym (sound-joined (a .s) h) ∙ (sym (t .stands .ensures) ∙ not-false _ (i .if1 .left))) (k .before .if2 .left) (k .if3 .left))
+    rw (octet-counted (joined (a .s) h) (a .book .now) (a .out .now) (a .b) (sym (sound-joined (a .s) h) ∙ (sym (t .stands .ensures) ∙ not-false _ (i .if1 .left))) (k .before .if2 .left) (k .if3 .left))
     (w .info-kept .ensures (a .book .now) (a .out .now))
 
 taken-requires : tie.Need-taken-requires
@@ -84,7 +81,7 @@ returns-6 c =
     let t = i .before in
     let a = t .before .before .before .before .args in
     let h = a .kept .now in
-    rw (octet-done (joined (a .s) h) (a .book .now) (a .out .now) (a .b) (sym (sound-joined (a .s) h) ∙ (sym (t .stands .ensures) ∙ not-false _ (i .if1 .left))) (k .before .if2 .left) (k .if3 .left)) (w .taken .ensures)
+    rw (octet-counted (joined (a .s) h) (a .book .now) (a .out .now) (a .b) (sym (sound-joined (a .s) h) ∙ (sym (t .stands .ensures) ∙ not-false _ (i .if1 .left))) (k .before .if2 .left) (k .if3 .left)) (w .taken .ensures)
 
 pub octet-spec : {M : Type 1} → statement M
 octet-spec =

@@ -7,21 +7,21 @@ use Rattle.controller_calls.proofs.replies.info_kept.Tie as tie
 
 slice-write-kept : tie.Need-slice-write-kept
 slice-write-kept c =
-    let z = c .before .before .before in
+    let z = c .before .before .before .before in
     let a = z .args in
     omega (arith, kept-room (a .s) (a .kept .now) (a .b) (z .pre .0) (z .pre .1), lent-enough (a .s) (a .kept .now) (z .pre .0))
 
-add-t8 : tie.Need-add-t8
-add-t8 c =
-    let z = c .before .before .before .before in
+add-t10 : tie.Need-add-t10
+add-t10 c =
+    let z = c .before .before .before .before .before in
     let a = z .args in
     omega (arith, kept-room (a .s) (a .kept .now) (a .b) (z .pre .0) (z .pre .1))
 
 returns : tie.Need-returns
 returns c =
-    let z = c .before .before .before .before .before .before in
+    let z = c .before .before .before .before .before .before .before in
     let a = z .args in
-    kept-with (a .s) (a .kept .now) (a .b) (z .pre .0) (z .pre .1) (c .quiet .ensures)
+    kept-with (a .s) (a .kept .now) (a .b) (z .pre .0) (z .pre .1) (search needs) (omega (arith, z .good)) (c .counted .ensures)
 
 pub info-kept-spec : {M : Type 1} → statement M
 info-kept-spec =
@@ -29,7 +29,7 @@ info-kept-spec =
     (tie.spec
     (λ c. search needs)
     slice-write-kept
-    add-t8
+    add-t10
     (λ c κs. search needs)
     (λ c. search needs)
     returns)

@@ -12,13 +12,13 @@ use Rattle.controller_calls.proofs.replies.taken.Tie as tie
 part-by-found-end : tie.Need-part-by-found-end
 part-by-found-end c =
     let o = c .before .before .before .before in
-    let z = o .before .before .before .before .before .before in
+    let z = o .before .before .before .before .before in
     left-enough (z .args .s) (z .args .kept .now) (z .args .b) (z .pre .0) (o .octet .ensures)
 
 by-found-requires : tie.Need-by-found-requires
 by-found-requires c κs =
     let o = c .before .before .before .before .before .before .before in
-    let z = o .before .before .before .before .before .before in
+    let z = o .before .before .before .before .before in
     let a = z .args in
     let p = sound-parts (joined (a .s) (a .kept .now)) (z .pre .0) in
     let l = left-enough (a .s) (a .kept .now) (a .b) (z .pre .0) (o .octet .ensures) in
@@ -26,9 +26,9 @@ by-found-requires c κs =
 
 returns : tie.Need-returns
 returns c =
-    let f = c .before .before .before .before .before .before in
+    let f = c .before .before .before .before .before in
     let o = f .before .before .before .before .before .before .before .before in
-    let z = o .before .before .before .before .before .before in
+    let z = o .before .before .before .before .before in
     let a = z .args in
     rw (← (taken-lent (a .s) (a .kept .now) (z .pre .0) (a .b))) (done-did (a .s) (a .kept .now) (a .book .now) (a .out .now) (o .octet .ensures) (f .by-found .ensures))
 

@@ -1,5 +1,6 @@
--- `printout_calls::run::on_octet` meets its contract: what the octet call counted is in the output, and is what is put.
+-- `printout_calls::run::on_octet` meets its contract: what the octet call counted is in the output, and is what is put, with the number that it told.
 use mathlib.Core.Path.{sym}
+use native.Mathlib.Omega.{arith}
 use lib.Seq.{length-take-le}
 use Rattle.printout.proofs.Laws.{count-fits, octet-listed}
 use borrow.Author.Needs.{needs}
@@ -23,7 +24,7 @@ returns c =
     let p = c .before .before in
     let o = p .before .before .before .before .before .before .before .before .before .before in
     let a = o .before .before .before .before .before .before .before .before .args in
-    octet-listed (a .run .state) (a .kept .now) (a .book .now) (a .out .now) (a .b) (o .octet .ensures) (a .run .seconds) (a .run .used) (p .put-reply .ensures)
+    octet-listed (a .run .state) (a .kept .now) (a .book .now) (a .out .now) (a .b) (o .octet .ensures) (a .run .seconds) (a .run .used) (omega (arith, o .octet .ok)) (p .put-reply .ensures)
 
 pub on-octet-spec : {M : Type 1} → statement M
 on-octet-spec =

@@ -1,6 +1,7 @@
 -- `printout_calls::run::run_start` meets its contract: the controller starts fresh, whatever octets are kept.
 use mathlib.Core.Path.{ap}
 use mathlib.Core.List.{[]}
+use Rattle.frame.specs.Dropped.{freshReceiver}
 use Rattle.controller.specs.State.{freshOf}
 use Rattle.controller.specs.Replies.{Answer}
 use Rattle.controller.specs.Seconds.{startedOf}
@@ -14,10 +15,10 @@ use Rattle.printout_calls.proofs.run.run_start.Tie as tie
 abbrev runOf : Answer → Run
 runOf a =
     let s = a .state in
-    record { state = record { own = s .own; seq = s .seq; requested = s .requested; head = s .decoder .head; running = s .running }; seconds = 0; used = 0 }
+    record { state = record { own = s .own; seq = s .seq; requested = s .requested; receiver = record { head = s .decoder .head; dropped = s .dropped }; running = s .running }; seconds = 0; used = 0 }
 
 returns : tie.Need-returns
-unfolding runStart startedOf freshOf
+unfolding freshReceiver runStart startedOf freshOf
 returns c = ap runOf (c .before .started .ensures [])
 
 pub run-start-spec : {M : Type 1} → statement M

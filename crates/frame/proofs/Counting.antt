@@ -1,0 +1,338 @@
+-- The octets that belong to no sound frame, counted: at every place as many octets are open as the decoder's own fields tell, and what is held no longer
+-- is noise, or a frame as written.
+use Prim.Native.Nat.{ℕ, _+_, _-_, _≤_, _<_}
+use mathlib.Core.Path.{_≡_, refl, sym, ap, subst, _∙_}
+use mathlib.Core.Bool.{true, false}
+use mathlib.Core.List.{List, [], _∷_, _++_, append-assoc, append-nil}
+use native.Mathlib.Omega.{arith}
+use native.Mathlib.Decide.{decLe}
+use borrow.Author.Tests.{le-leb, leb-true}
+use lib.Dec.{leb}
+use lib.ListN.{length, take, drop, set, length-append}
+use Rattle.octets.specs.Octet.{Octets}
+use Rattle.octets.proofs.Laws.{pick-by, clash}
+use Rattle.frame.specs.declared.Kind.{Kind}
+use Rattle.frame.specs.declared.Kind.the-variants.{Message, Ack, Nak}
+use Rattle.frame.specs.declared.decoder.Place.{Place}
+use Rattle.frame.specs.declared.decoder.Place.the-variants.{Idle, LoneAa, Seq, AddrHigh, AddrLow, LenHigh, LenLow, Info, InfoAa, CloseAa, CloseCc, Err, Cks}
+use Rattle.frame.specs.declared.decoder.Head.{Head}
+use Rattle.frame.specs.declared.decoder.Found.{Found}
+use Rattle.frame.specs.declared.decoder.Found.the-variants as found
+use Rattle.frame.specs.declared.decoder.Stepped.{Stepped}
+use Rattle.frame.specs.Frame.{Frame, message, ack, nak, front, doubled, written, infoMost}
+use Rattle.frame.specs.Decoder.{Decoder, Taken, possibleOf, idleDrops, stepAt, taken, takenOf, idledOf}
+use Rattle.frame.specs.Run.{nothing, refused, sound, foundMeans, outcomeOf, decoderAfter, AtRest, drops, NothingDropped}
+use Rattle.frame.specs.Dropped.{waits, openAt, openIn, openOf, stopped, numberThen, OpenThen, Counted, numberTold, numberKept, countedAs, countedOf, idleCounted, freshReceiver}
+use Rattle.frame.specs.Promises.{partsAt, partsOf}
+use Rattle.frame.specs.Noise.{Stops, OpenAsSaid, OctetCounts, IdleCounts, CallsCount, LineCall, octet, lineIdle, NoiseIs, NoiseCounted, end, goes, frame, idle, NumberIsNoise}
+use Rattle.frame.proofs.Laws.{possible-at, taken-7, taken-as, taken-dropped, idled-7, idled-done, keeps-on}
+use Rattle.frame.proofs.Agreeing.{part}
+use Rattle.frame.proofs.Reaching.{led-clean}
+use Rattle.frame.proofs.Resuming.{said-only}
+use Rattle.frame.proofs.Writing.{heldAt, held, Went, kept, dropped, refuse, ended, Runs, runs-on, went, nothing-refused, nothing-sound, refused-sound, left}
+
+-- What is open is what is held
+
+length-front : (k : Kind) (s a n : ℕ) (i : List ℕ) → length (front k s a n ++ i) ≡ 7 + length i
+length-front k s a n i = length-append (front k s a n) i
+
+held-at : (p : Place) (k : Kind) (s e a n : ℕ) (i : List ℕ) → length (heldAt p k s e a n i) ≡ openAt p k i
+held-at Idle k s e a n i = refl
+held-at LoneAa k s e a n i = refl
+held-at Seq k s e a n i = refl
+held-at AddrHigh k s e a n i = refl
+held-at AddrLow k s e a n i = refl
+held-at LenHigh k s e a n i = refl
+held-at LenLow k s e a n i = refl
+held-at Info k s e a n i = length-front k s a n (doubled i)
+held-at InfoAa k s e a n i = omega (arith, length-front k s a n (doubled i ++ (0xAA ∷ [])), length-append (doubled i) (0xAA ∷ []))
+held-at CloseAa k s e a n i = length-front k s a n (doubled i)
+held-at CloseCc k s e a n i = omega (arith, length-front k s a n (doubled i ++ (0xAA ∷ [])), length-append (doubled i) (0xAA ∷ []))
+held-at Err k s e a n i = refl
+held-at Cks Message s e a n i = omega (arith, length-front Message s a n (doubled i ++ (0xAA ∷ 0xCC ∷ [])), length-append (doubled i) (0xAA ∷ 0xCC ∷ []))
+held-at Cks Ack s e a n i = refl
+held-at Cks Nak s e a n i = refl
+
+held-open : (d : Decoder) → length (held d) ≡ openOf d
+unfolding held openOf
+held-open d = let h = d .head in held-at (h .place) (h .kind) (h .seq) (h .err) (h .addr) (h .len) (take (h .filled) (d .info))
+
+-- by the place and the fields that matter there
+open-parts : (p : Place) (k₁ k₂ : Kind) (h₁ h₂ : Head) (i₁ i₂ : List ℕ) → partsAt p k₁ h₁ i₁ ≡ partsAt p k₂ h₂ i₂ → openAt p k₁ (take (h₁ .filled) i₁) ≡ openAt p k₂ (take (h₂ .filled) i₂)
+open-parts Idle k₁ k₂ h₁ h₂ i₁ i₂ q = refl
+open-parts LoneAa k₁ k₂ h₁ h₂ i₁ i₂ q = refl
+open-parts Seq k₁ k₂ h₁ h₂ i₁ i₂ q = refl
+open-parts AddrHigh k₁ k₂ h₁ h₂ i₁ i₂ q = refl
+open-parts AddrLow k₁ k₂ h₁ h₂ i₁ i₂ q = refl
+open-parts LenHigh k₁ k₂ h₁ h₂ i₁ i₂ q = refl
+open-parts LenLow k₁ k₂ h₁ h₂ i₁ i₂ q = refl
+open-parts Info k₁ k₂ h₁ h₂ i₁ i₂ q = ap (λ (v : List ℕ). 7 + length (doubled (drop 5 v))) q
+open-parts InfoAa k₁ k₂ h₁ h₂ i₁ i₂ q = ap (λ (v : List ℕ). 8 + length (doubled (drop 5 v))) q
+open-parts CloseAa k₁ k₂ h₁ h₂ i₁ i₂ q = ap (λ (v : List ℕ). 7 + length (doubled (drop 5 v))) q
+open-parts CloseCc k₁ k₂ h₁ h₂ i₁ i₂ q = ap (λ (v : List ℕ). 8 + length (doubled (drop 5 v))) q
+open-parts Err k₁ k₂ h₁ h₂ i₁ i₂ q = refl
+open-parts Cks k₁ k₂ h₁ h₂ i₁ i₂ q = by k₁ k₂ q
+  where
+    by : (k₁ k₂ : Kind) → partsAt Cks k₁ h₁ i₁ ≡ partsAt Cks k₂ h₂ i₂ → openAt Cks k₁ (take (h₁ .filled) i₁) ≡ openAt Cks k₂ (take (h₂ .filled) i₂)
+    by Message Message q = ap (λ (v : List ℕ). 9 + length (doubled (drop 5 v))) q
+    by Message Ack q = absurd (omega (arith, part 0 q))
+    by Message Nak q = absurd (omega (arith, part 0 q))
+    by Ack Message q = absurd (omega (arith, part 0 q))
+    by Ack Ack q = refl
+    by Ack Nak q = absurd (omega (arith, part 0 q))
+    by Nak Message q = absurd (omega (arith, part 0 q))
+    by Nak Ack q = absurd (omega (arith, part 0 q))
+    by Nak Nak q = refl
+
+open-alike : (e d : Decoder) → e .head .place ≡ d .head .place → partsOf e ≡ partsOf d → openOf e ≡ openOf d
+unfolding openOf
+open-alike e d p q =
+    let h = e .head in
+    let g = d .head in
+    ap (λ (u : Place). openAt u (h .kind) (take (h .filled) (e .info))) p
+    ∙ open-parts (g .place) (h .kind) (g .kind) h g (e .info) (d .info) (subst (λ (u : Place). partsAt u (h .kind) h (e .info) ≡ partsOf d) p q)
+
+-- from rest, with nothing dropped, all octets are held
+rest-runs : (r : Decoder) → AtRest r → (held r ≡ []) × Runs r
+unfolding held possibleOf
+rest-runs r a = (rw (a .idle), record { possible = possible-at (r .head) (a .idle); long = a .long })
+
+all-open : (r : Decoder) (xs : List ℕ) → AtRest r → Octets xs → NothingDropped r xs → length xs ≡ openOf (decoderAfter r xs)
+all-open r xs a o n =
+    let w = left r xs o (rest-runs r a .1) in
+    let e : xs ≡ held (decoderAfter r xs) = rw (rest-runs r a .0, w .clean n) at (w .octets) in
+    ap length e ∙ held-open (decoderAfter r xs)
+
+-- The number
+
+stops : (n : ℕ) → Stops n (stopped n)
+unfolding stopped
+stops n = record { within = λ h. rw (le-leb n 65535 h); beyond = λ h. pick-by (λ (m : ℕ). m ≡ 65535) (leb n 65535) (λ t. omega (arith, leb-true n 65535 t)) (λ _. refl) }
+
+-- what stopped goes on from where it stopped
+stops-more : {a n m : ℕ} (p : ℕ) → Stops a n → Stops (n + p) m → Stops (a + p) m
+stops-more {a} {n} {m} p s t = by (decLe a 65535)
+  where
+    by : Dec (a ≤ 65535) → Stops (a + p) m
+    by (yes l) = let q = s .within l in record { within = λ h. t .within (omega arith) ∙ omega arith; beyond = λ h. t .beyond (omega arith) }
+    by (no g) = let q = s .beyond (omega arith) in record { within = λ h. absurd (omega arith); beyond = λ h. t .beyond (omega arith) }
+
+-- An octet
+
+module _ (d : Decoder) (b : ℕ) (o : b < 256) (r : Runs d) where
+  abbrev t : Taken
+  t = takenOf d b
+
+  -- of the octets held, and this one, so many are held no longer
+  lost-open : (pre : List ℕ) → held d ++ (b ∷ []) ≡ pre ++ held (t .decoder) → openOf d + 1 ≡ length pre + openOf (t .decoder)
+  lost-open pre e =
+      omega (arith, ap length e, length-append (held d) (b ∷ []), length-append pre (held (t .decoder)), held-open d, held-open (t .decoder))
+
+  -- nothing is found, and the decoder is within a frame: the octet goes on
+  pub open-on : t .found ≡ found.Nothing → waits (t .decoder .head .place) ≡ false → openOf (t .decoder) ≡ openOf d + 1
+  open-on f i = by (went d b o r)
+    where
+      quiet : outcomeOf t ≡ nothing
+      quiet = ap (λ (u : Found). foundMeans u (t .decoder .info)) f
+
+      by : Went (held d) b (drops (d .head .place) b) t → openOf (t .decoder) ≡ openOf d + 1
+      by (kept u e) = omega (arith, lost-open [] e)
+      by (dropped pre u v e w) = absurd (clash i w)
+      by (refuse n k s a pre u e w) = absurd (nothing-refused (sym quiet ∙ u))
+      by (ended f u e z w) = absurd (nothing-sound (sym quiet ∙ u))
+
+  open-most : openOf (t .decoder) ≤ openOf d + 1
+  open-most = by (went d b o r)
+    where
+      by : Went (held d) b (drops (d .head .place) b) t → openOf (t .decoder) ≤ openOf d + 1
+      by (kept u e) = omega (arith, lost-open [] e)
+      by (dropped pre u v e w) = omega (arith, lost-open pre e)
+      by (refuse n k s a pre u e w) = omega (arith, lost-open pre e)
+      by (ended f u e z w) = omega (arith, held-open (t .decoder), ap length z)
+
+-- What the code does
+
+-- one that goes on leaves the number
+pub number-stays : (n o : ℕ) {o′ : ℕ} → n < 65536 → o′ ≡ o + 1 → stopped ((n + o + 1) - o′) ≡ n
+number-stays n o {o′} l e = stops ((n + o + 1) - o′) .within (omega arith) ∙ omega arith
+
+module _ (d : Decoder) (n b : ℕ) (o : b < 256) (long : length (d .info) ≡ infoMost) (p : possibleOf (d .head) ≡ true)
+    {t : Stepped} (e : t ≡ stepAt (d .head .place) (d .head) (d .info) b) where
+  abbrev runs : Runs d
+  runs = record { possible = p; long = long }
+
+  pub counted-kept : n < 65536 → t .keeps ≡ true
+      → countedOf d n b ≡ record { taken = taken (t .head) (set (d .info) (d .head .filled) b) (t .found); told = n; kept = n }
+  unfolding countedOf numberThen
+  counted-kept l q =
+      let w = keeps-on (d .head) (d .info) b p (rw (← e) q) in
+      let z = taken-as d b p e q in
+      let f : t .found ≡ found.Nothing = rw e (w .1) in
+      let v = open-on d b o runs (rw z f) (rw (z, e) (w .2)) in
+      let m : numberThen n d (takenOf d b .decoder) ≡ n = number-stays n (openOf d) l v in
+      rw (p, m, z, f)
+
+  pub counted-other : t .keeps ≡ false
+      → countedOf d n b ≡ countedAs n (stopped ((n + openIn (d .head) (d .info) + 1) - openIn (t .head) (d .info))) (taken (t .head) (d .info) (t .found))
+  unfolding countedOf numberThen openOf
+  counted-other q = rw (p, taken-as d b p e q)
+
+  pub open-then : t .keeps ≡ false → OpenThen (d .head) (d .info) t
+  unfolding openOf
+  open-then q =
+      let z = taken-as d b p e q in
+      record {
+        on = λ f w. rw z at (open-on d b o runs (rw z f) (rw z w));
+        most = rw z at (open-most d b o runs);
+      }
+
+-- an octet that is dropped in idle is one more
+pub counted-dropped : (d : Decoder) (n b : ℕ) → idleDrops (d .head .place) b ≡ true
+    → countedOf d n b ≡ record { taken = taken (d .head) (d .info) found.Nothing; told = stopped (n + 1); kept = stopped (n + 1) }
+unfolding countedOf numberThen openOf possibleOf
+counted-dropped d n b h =
+    let e = said-only b (d .head .place) h .0 in
+    let z : openOf d ≡ 0 = ap (λ (p : Place). openAt p (d .head .kind) (take (d .head .filled) (d .info))) e in
+    let m : (n + openOf d + 1) - openOf d ≡ n + 1 = omega arith in
+    rw (possible-at (d .head) e, taken-dropped d b h, m)
+
+-- A call
+
+by-found : (P : ℕ → ℕ → Type 0) (f : Found) (i : List ℕ) (n m : ℕ) → ((g : Frame) → foundMeans f i ≡ sound g → ⊥) → P m m → P (numberTold f n m) (numberKept f m)
+by-found P found.Nothing i n m h p = p
+by-found P (found.Refused r k s a) i n m h p = p
+by-found P (found.Message s a l) i n m h p = absurd (h (message s a (take l i)) refl)
+by-found P (found.Ack s a) i n m h p = absurd (h (ack s a) refl)
+by-found P (found.Nak s a e) i n m h p = absurd (h (nak s a e) refl)
+
+by-sound : (f : Found) (i : List ℕ) (n m : ℕ) {g : Frame} → foundMeans f i ≡ sound g → (numberTold f n m ≡ n) × (numberKept f m ≡ 0)
+by-sound found.Nothing i n m h = absurd (nothing-sound h)
+by-sound (found.Refused r k s a) i n m h = absurd (refused-sound h)
+by-sound (found.Message s a l) i n m h = (refl, refl)
+by-sound (found.Ack s a) i n m h = (refl, refl)
+by-sound (found.Nak s a e) i n m h = (refl, refl)
+
+module _ (d : Decoder) (n : ℕ) where
+  pub counted-taken : (b : ℕ) → countedOf d n b .taken ≡ takenOf d b
+  unfolding countedOf
+  counted-taken b = pick-by (λ (c : Counted). c .taken ≡ takenOf d b) (possibleOf (d .head)) (λ _. refl) (λ q. sym (taken-7 d b q))
+
+  pub idle-taken : idleCounted d n .taken ≡ idledOf d
+  unfolding idleCounted
+  idle-taken = pick-by (λ (c : Counted). c .taken ≡ idledOf d) (possibleOf (d .head)) (λ _. refl) (λ q. sym (idled-7 d q))
+
+  octet-counts : (b : ℕ) → OctetCounts d n b
+  unfolding countedOf numberThen
+  octet-counts b =
+      let t = takenOf d b in
+      let m = numberThen n d (t .decoder) in
+      record {
+        refused = λ q. rw q (refl, refl);
+        carried = λ f h q. rw q (by-sound (t .found) (t .decoder .info) n m h);
+        counted = λ h q. rw q (by-found (λ told kept. Stops ((n + openOf d + 1) - openOf (t .decoder)) kept × (told ≡ kept)) (t .found) (t .decoder .info) n m h (stops ((n + openOf d + 1) - openOf (t .decoder)), refl));
+        taken = counted-taken b;
+      }
+
+  idle-counts : IdleCounts d n
+  unfolding idleCounted
+  idle-counts =
+      record {
+        refused = λ q. rw q (refl, refl);
+        counted = λ q. rw q (stops (n + openOf d), refl);
+        taken = idle-taken;
+      }
+
+pub calls-count : CallsCount
+unfolding freshReceiver
+calls-count = (refl, stops, λ d n. (octet-counts d n, idle-counts d n))
+
+-- Calls one after another
+
+-- `since` is noise, and then what is held; the number is the noise's
+pub record Noise (since : List ℕ) (d : Decoder) (n : ℕ) : Type 0 where
+  pub noise : List ℕ
+  pub falls : since ≡ noise ++ held d
+  pub number : Stops (length noise) n
+  pub runs : Runs d
+
+pub noise-is : {since : List ℕ} {d : Decoder} {n : ℕ} → Noise since d n → NoiseIs since d n
+noise-is {since} {d} {n} w = record { noise = w .noise; opened = held d; falls = w .falls; still = held-open d; number = w .number }
+
+-- at rest, with none counted
+pub noise-none : (d : Decoder) → AtRest d → Noise [] d 0
+noise-none d a =
+    let r = rest-runs d a in
+    record { noise = []; falls = sym (r .0); number = record { within = λ _. refl; beyond = λ h. absurd (omega arith) }; runs = r .1 }
+
+-- what an octet makes of it: it goes on, or a sound frame has ended
+pub data Step (since : List ℕ) (d : Decoder) (n b : ℕ) : Type 0 where
+  on : ((f : Frame) → outcomeOf (takenOf d b) ≡ sound f → ⊥) → countedOf d n b .told ≡ countedOf d n b .kept
+      → Noise (since ++ (b ∷ [])) (takenOf d b .decoder) (countedOf d n b .kept) → Step since d n b
+  over : (f : Frame) (noise : List ℕ) → outcomeOf (takenOf d b) ≡ sound f → since ++ (b ∷ []) ≡ noise ++ written f → Stops (length noise) (countedOf d n b .told)
+      → countedOf d n b .kept ≡ 0 → Noise [] (takenOf d b .decoder) 0 → Step since d n b
+
+module _ {since : List ℕ} {d : Decoder} {n : ℕ} (w : Noise since d n) where
+  module _ (b : ℕ) (o : b < 256) where
+    abbrev p : List ℕ
+    p = w .noise
+
+    abbrev e : Decoder
+    e = takenOf d b .decoder
+
+    since-more : {ys : List ℕ} → held d ++ (b ∷ []) ≡ ys → since ++ (b ∷ []) ≡ p ++ ys
+    since-more {ys} q = ap (λ (u : List ℕ). u ++ (b ∷ [])) (w .falls) ∙ append-assoc p (held d) (b ∷ []) ∙ ap (λ (u : List ℕ). p ++ u) q
+
+    -- what is held no longer is noise
+    goes-on : (pre : List ℕ) → held d ++ (b ∷ []) ≡ pre ++ held e → ((f : Frame) → outcomeOf (takenOf d b) ≡ sound f → ⊥) → Step since d n b
+    goes-on pre q h =
+        let c = octet-counts d n b .counted h (w .runs .possible) in
+        let l = lost-open d b o (w .runs) pre q in
+        let m : (n + openOf d + 1) - openOf e ≡ n + length pre = omega arith in
+        on h (c .1) (record {
+          noise = p ++ pre;
+          falls = since-more q ∙ sym (append-assoc p pre (held e));
+          number = rw (length-append p pre) (stops-more (length pre) (w .number) (rw m at (c .0)));
+          runs = runs-on d b o (w .runs);
+        })
+
+    pub octet-step : Step since d n b
+    octet-step = by (went d b o (w .runs))
+      where
+        by : Went (held d) b (drops (d .head .place) b) (takenOf d b) → Step since d n b
+        by (kept u q) = goes-on [] q (λ f h. nothing-sound (sym u ∙ h))
+        by (dropped pre u v q z) = goes-on pre q (λ f h. nothing-sound (sym v ∙ h))
+        by (refuse r k s a pre u q z) = goes-on pre q (λ f h. refused-sound (sym u ∙ h))
+        by (ended f u q z v) =
+            let c = octet-counts d n b .carried f u (w .runs .possible) in
+            over f p u (since-more q) (rw (c .0) (w .number)) (c .1)
+            (record { noise = []; falls = sym z; number = record { within = λ _. refl; beyond = λ h. absurd (omega arith) }; runs = runs-on d b o (w .runs) })
+
+  -- a line-idle call: all is noise
+  pub idle-step : Stops (length since) (idleCounted d n .kept) × (idleCounted d n .told ≡ idleCounted d n .kept) × Noise since (idledOf d .decoder) (idleCounted d n .kept)
+  unfolding possibleOf held
+  idle-step =
+      let c = idle-counts d n .counted (w .runs .possible) in
+      let l : length since ≡ length (w .noise) + openOf d = omega (arith, ap length (w .falls), length-append (w .noise) (held d), held-open d) in
+      let s : Stops (length since) (idleCounted d n .kept) = rw l (stops-more (openOf d) (w .number) (c .0)) in
+      (s, c .1, rw (idled-done d (w .runs .possible)) (record { noise = since; falls = sym (append-nil since); number = s; runs = record { possible = refl; long = w .runs .long } }))
+
+counted-from : {since : List ℕ} {d : Decoder} {n : ℕ} → Noise since d n → (cs : List LineCall) → NoiseCounted since d n cs
+counted-from w [] = end (noise-is w)
+counted-from {since} {d} {n} w (octet b o ∷ cs) = by (λ s e m v. counted-from v cs) (octet-step w b o)
+  where
+    by : ((s : List ℕ) (e : Decoder) (m : ℕ) → Noise s e m → NoiseCounted s e m cs) → Step since d n b → NoiseCounted since d n (octet b o ∷ cs)
+    by rest (on h q v) = goes {cs = cs} (noise-is w) h q (rw (counted-taken d n b) (rest _ _ _ v))
+    by rest (over f z u q s k v) = frame {cs = cs} (noise-is w) f z u q s k (rw (counted-taken d n b, k) (rest _ _ _ v))
+counted-from {since} {d} {n} w (lineIdle ∷ cs) =
+    let s = idle-step w in
+    idle {cs = cs} (noise-is w) (s .0) (s .1) (rw (idle-taken d n) (counted-from (s .2) cs))
+
+pub number-is-noise : NumberIsNoise
+number-is-noise d cs a = counted-from (noise-none d a) cs
+
+pub open-as-said : OpenAsSaid
+open-as-said d =
+    record {
+      all = λ r xs a o n p q. sym (open-alike (decoderAfter r xs) d p q) ∙ sym (all-open r xs a o n);
+      some = λ p f r a. led-clean r d a p f;
+    }
