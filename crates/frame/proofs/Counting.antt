@@ -244,7 +244,7 @@ module _ (d : Decoder) (n : ℕ) where
 
 pub calls-count : CallsCount
 unfolding freshReceiver
-calls-count = (refl, stops, λ d n. (octet-counts d n, idle-counts d n))
+calls-count = (refl, refl, stops, λ d n. (octet-counts d n, idle-counts d n))
 
 -- Calls one after another
 

@@ -45,10 +45,6 @@ openAt Cks Nak i = 8
 abbrev pub openIn : Head → List ℕ → ℕ
 openIn h info = openAt (h .place) (h .kind) (take (h .filled) info)
 
--- no more than that: of a message all but CKS, each octet of INFO an AA
-abbrev pub openMost : ℕ
-openMost = 521
-
 unfoldable pub openOf : Decoder → ℕ
 openOf d = openIn (d .head) (d .info)
 
@@ -64,28 +60,6 @@ stopped n = pick (leb n droppedMost) n droppedMost
 -- "not counted until refused or dropped": the number n before an octet, with what was open at d and that octet, less what is open at e, after it
 unfoldable pub numberThen : ℕ → Decoder → Decoder → ℕ
 numberThen n d e = stopped ((n + openOf d + 1) - openOf e)
-
--- is the decoder idle, or after a lone AA?
-abbrev pub waits : Place → Bool
-waits Idle = true
-waits LoneAa = true
-waits Seq = false
-waits AddrHigh = false
-waits AddrLow = false
-waits LenHigh = false
-waits LenLow = false
-waits Info = false
-waits InfoAa = false
-waits CloseAa = false
-waits CloseCc = false
-waits Err = false
-waits Cks = false
-
--- An octet goes on where nothing is found and the decoder is then within a frame: what was open is open still, and the octet with it, so the number
--- stays. Else no more than that is open.
-pub record OpenThen (h : Head) (info : List ℕ) (t : Stepped) : Type 0 where
-  pub on : t .found ≡ found.Nothing → waits (t .head .place) ≡ false → openIn (t .head) info ≡ openIn h info + 1
-  pub most : openIn (t .head) info ≤ openIn h info + 1
 
 -- what a call of the decoder leaves, the number that it tells, and the number that is kept
 pub record Counted : Type 0 where
@@ -163,3 +137,31 @@ receivedWith r kept =
 pub record ReceivedLeaves (w : Counted) (lent : List ℕ) (r : Received) (k : List ℕ) : Type 0 where
   pub answer : receivedWith r k ≡ w
   pub beyond : drop infoMost k ≡ drop infoMost lent
+
+-- What the functions go by; nothing above does
+
+-- no more octets than that are open: of a message all but CKS, each octet of INFO an AA
+abbrev pub openMost : ℕ
+openMost = 521
+
+-- is the decoder idle, or after a lone AA?
+abbrev pub waits : Place → Bool
+waits Idle = true
+waits LoneAa = true
+waits Seq = false
+waits AddrHigh = false
+waits AddrLow = false
+waits LenHigh = false
+waits LenLow = false
+waits Info = false
+waits InfoAa = false
+waits CloseAa = false
+waits CloseCc = false
+waits Err = false
+waits Cks = false
+
+-- An octet goes on where nothing is found and the decoder is then within a frame: what was open is open still, and the octet with it, so the number
+-- stays. Else no more than that is open.
+pub record OpenThen (h : Head) (info : List ℕ) (t : Stepped) : Type 0 where
+  pub on : t .found ≡ found.Nothing → waits (t .head .place) ≡ false → openIn (t .head) info ≡ openIn h info + 1
+  pub most : openIn (t .head) info ≤ openIn h info + 1

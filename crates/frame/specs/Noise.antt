@@ -9,7 +9,7 @@ use mathlib.Core.List.{List, [], _∷_, _++_}
 use lib.ListN.{length}
 use Rattle.octets.specs.Octet.{Octets}
 use Rattle.frame.specs.Frame.{Frame, written}
-use Rattle.frame.specs.Decoder.{Decoder, possibleOf, takenOf, idledOf}
+use Rattle.frame.specs.Decoder.{Decoder, freshHead, possibleOf, takenOf, idledOf}
 use Rattle.frame.specs.Run.{sound, outcomeOf, decoderAfter, AtRest, NothingDropped}
 use Rattle.frame.specs.Dropped.{openOf, stopped, countedOf, idleCounted, freshReceiver}
 use Rattle.frame.specs.Promises.{partsOf, FieldsHold, LedTo}
@@ -52,9 +52,9 @@ pub record IdleCounts (d : Decoder) (n : ℕ) : Type 0 where
   pub counted : possibleOf (d .head) ≡ true → Stops (n + openOf d) (idleCounted d n .kept) × (idleCounted d n .told ≡ idleCounted d n .kept)
   pub taken : idleCounted d n .taken ≡ idledOf d
 
--- A fresh start has counted none.
+-- A fresh start has a fresh decoder, and has counted none.
 abbrev pub CallsCount : Type 0
-CallsCount = (freshReceiver .dropped ≡ 0) × ((n : ℕ) → Stops n (stopped n)) × ((d : Decoder) (n : ℕ) → ((b : ℕ) → OctetCounts d n b) × IdleCounts d n)
+CallsCount = (freshReceiver .head ≡ freshHead) × (freshReceiver .dropped ≡ 0) × ((n : ℕ) → Stops n (stopped n)) × ((d : Decoder) (n : ℕ) → ((b : ℕ) → OctetCounts d n b) × IdleCounts d n)
 
 -- Calls one after another
 

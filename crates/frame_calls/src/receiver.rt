@@ -123,7 +123,7 @@ fn counted(r: Receiver, info: &[u8], t: Stepped) -> Received
             }
             received(head, r.dropped, found, r.dropped)
         }
-        Found::Refused(number, kind, seq, addr) => {
+        Found::Refused(_, _, _, _) => {
             let n = number_then(r, info, head);
             received(head, n, found, n)
         }

@@ -9,8 +9,7 @@ returns c = let e = c .came .ensures in rw (c .before .enum-told .given .1) (ome
 
 pub behind-len-spec : {M : Type 1} → statement M
 behind-len-spec =
-    tie.close
-    (tie.spec
+    let met = tie.spec
     (λ c. search needs)
     (λ c κs. search needs)
     (λ c. search needs)
@@ -18,4 +17,5 @@ behind-len-spec =
     (λ c. search needs)
     returns
     (λ c. search needs)
-    (λ c. search needs))
+    (λ c. search needs) in
+    tie.close met

@@ -19,4 +19,4 @@ returns-2 : tie.Need-returns-2
 returns-2 c = let a = c .before .before .before .args in rw (take-all (a .n) (a .info .now) (search needs)) (c .doubled-len2 .ensures)
 
 pub came-spec : {M : Type 1} → statement M
-came-spec = tie.close (tie.spec slice-aggregate-doubled-len doubled-len-requires (λ c κs. search needs) (λ c. search needs) returns-2)
+came-spec = let met = tie.spec slice-aggregate-doubled-len doubled-len-requires (λ c κs. search needs) (λ c. search needs) returns-2 in tie.close met

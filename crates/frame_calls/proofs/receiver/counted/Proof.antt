@@ -29,7 +29,7 @@ number-then-requires : tie.Need-number-then-requires
 number-then-requires c κs = let z = c .before .before .before .before .before .before in (z .pre .0, z .pre .1 .most)
 
 number-then-requires-2 : tie.Need-number-then-requires-2
-number-then-requires-2 c κs = let z = c .before .before .before .before .before in (z .pre .0, z .pre .1 .most)
+number-then-requires-2 c κs = let z = c .before .before .before .before in (z .pre .0, z .pre .1 .most)
 
 returns : tie.Need-returns
 returns c = let n = c .before in rw (c .received .ensures, n .before .before .before .enum-told .given .1, n .number-then .ensures)
@@ -44,7 +44,7 @@ returns-2 c =
     rw (c .received2 .ensures, e .enum-told .given .1, number-stays (a .r .dropped) (openIn (a .r .head) (a .info .now)) (search needs) q)
 
 returns-3 : tie.Need-returns-3
-returns-3 c = let n = c .before in rw (c .received3 .ensures, n .before .before .found .given .1, n .number-then2 .ensures)
+returns-3 c = let n = c .before in rw (c .received3 .ensures, n .before .enum-told2 .given .1, n .number-then2 .ensures)
 
 returns-4 : tie.Need-returns-4
 returns-4 c = rw (c .received4 .ensures) (carried _ _ _ _ (c .before .match .keys3))

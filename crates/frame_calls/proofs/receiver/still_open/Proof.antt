@@ -21,8 +21,7 @@ returns-13 c = let e = c .behind-len .ensures in rw (c .before .enum-told13 .giv
 
 pub still-open-spec : {M : Type 1} → statement M
 still-open-spec =
-    tie.close
-    (tie.spec
+    let met = tie.spec
     (λ c. search needs)
     (λ c. search needs)
     (λ c. search needs)
@@ -60,4 +59,5 @@ still-open-spec =
     returns-10
     returns-11
     (λ c. search needs)
-    returns-13)
+    returns-13 in
+    tie.close met
