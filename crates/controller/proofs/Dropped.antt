@@ -10,7 +10,7 @@ use lib.ListN.{length}
 use Rattle.octets.specs.Octet.{Octets}
 use Rattle.octets.proofs.Laws.{pick-by}
 use Rattle.frame.specs.Decoder.{freshDecoder}
-use Rattle.frame.proofs.Counting.{Noise, noise-is, noise-none, Step, on, over, octet-step, idle-step}
+use Rattle.frame.proofs.Noise.{Noise, noise-is, noise-none, Step, on, over, octet-step, idle-step}
 use Rattle.frame.proofs.Possible.{fresh-at-rest}
 use Rattle.record.specs.Record.{bookLen}
 use Rattle.controller.specs.State.{State, freshOf, soundOf}

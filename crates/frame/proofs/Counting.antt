@@ -3,7 +3,7 @@
 use Prim.Native.Nat.{ℕ, _+_, _-_, _≤_, _<_}
 use mathlib.Core.Path.{_≡_, refl, sym, ap, subst, _∙_}
 use mathlib.Core.Bool.{true, false}
-use mathlib.Core.List.{List, [], _∷_, _++_, append-assoc, append-nil}
+use mathlib.Core.List.{List, [], _∷_, _++_}
 use native.Mathlib.Omega.{arith}
 use native.Mathlib.Decide.{decLe}
 use borrow.Author.Tests.{le-leb, leb-true}
@@ -24,12 +24,13 @@ use Rattle.frame.specs.Decoder.{Decoder, Taken, possibleOf, idleDrops, s
 use Rattle.frame.specs.Run.{nothing, refused, sound, foundMeans, outcomeOf, decoderAfter, AtRest, drops, NothingDropped}
 use Rattle.frame.specs.Dropped.{waits, openAt, openIn, openOf, stopped, numberThen, OpenThen, Counted, numberTold, numberKept, countedAs, countedOf, idleCounted, freshReceiver}
 use Rattle.frame.specs.Promises.{partsAt, partsOf}
-use Rattle.frame.specs.Noise.{Stops, OpenAsSaid, OctetCounts, IdleCounts, CallsCount, LineCall, octet, lineIdle, NoiseIs, NoiseCounted, end, goes, frame, idle, NumberIsNoise}
-use Rattle.frame.proofs.Laws.{possible-at, taken-7, taken-as, taken-dropped, idled-7, idled-done, keeps-on}
+use Rattle.frame.specs.Noise.{Stops, OpenAsSaid, OctetCounts, IdleCounts, CallsCount, octet, goes, frame, idle}
+use Rattle.frame.proofs.Possible.{at}
+use Rattle.frame.proofs.Laws.{possible-at, taken-7, taken-as, taken-dropped, idled-7, keeps-on}
 use Rattle.frame.proofs.Agreeing.{part}
 use Rattle.frame.proofs.Reaching.{led-clean}
 use Rattle.frame.proofs.Resuming.{said-only}
-use Rattle.frame.proofs.Writing.{heldAt, held, Went, kept, dropped, refuse, ended, Runs, runs-on, went, nothing-refused, nothing-sound, refused-sound, left}
+use Rattle.frame.proofs.Writing.{heldAt, held, Went, kept, dropped, refuse, ended, Runs, went, nothing-refused, nothing-sound, refused-sound, left}
 
 -- What is open is what is held
 
@@ -53,7 +54,7 @@ held-at Cks Message s e a n i = omega (arith, length-front Message s a n (double
 held-at Cks Ack s e a n i = refl
 held-at Cks Nak s e a n i = refl
 
-held-open : (d : Decoder) → length (held d) ≡ openOf d
+pub held-open : (d : Decoder) → length (held d) ≡ openOf d
 unfolding held openOf
 held-open d = let h = d .head in held-at (h .place) (h .kind) (h .seq) (h .err) (h .addr) (h .len) (take (h .filled) (d .info))
 
@@ -93,7 +94,7 @@ open-alike e d p q =
     ∙ open-parts (g .place) (h .kind) (g .kind) h g (e .info) (d .info) (subst (λ (u : Place). partsAt u (h .kind) h (e .info) ≡ partsOf d) p q)
 
 -- from rest, with nothing dropped, all octets are held
-rest-runs : (r : Decoder) → AtRest r → (held r ≡ []) × Runs r
+pub rest-runs : (r : Decoder) → AtRest r → (held r ≡ []) × Runs r
 unfolding held possibleOf
 rest-runs r a = (rw (a .idle), record { possible = possible-at (r .head) (a .idle); long = a .long })
 
@@ -110,7 +111,7 @@ unfolding stopped
 stops n = record { within = λ h. rw (le-leb n 65535 h); beyond = λ h. pick-by (λ (m : ℕ). m ≡ 65535) (leb n 65535) (λ t. omega (arith, leb-true n 65535 t)) (λ _. refl) }
 
 -- what stopped goes on from where it stopped
-stops-more : {a n m : ℕ} (p : ℕ) → Stops a n → Stops (n + p) m → Stops (a + p) m
+pub stops-more : {a n m : ℕ} (p : ℕ) → Stops a n → Stops (n + p) m → Stops (a + p) m
 stops-more {a} {n} {m} p s t = by (decLe a 65535)
   where
     by : Dec (a ≤ 65535) → Stops (a + p) m
@@ -124,7 +125,7 @@ module _ (d : Decoder) (b : ℕ) (o : b < 256) (r : Runs d) where
   t = takenOf d b
 
   -- of the octets held, and this one, so many are held no longer
-  lost-open : (pre : List ℕ) → held d ++ (b ∷ []) ≡ pre ++ held (t .decoder) → openOf d + 1 ≡ length pre + openOf (t .decoder)
+  pub lost-open : (pre : List ℕ) → held d ++ (b ∷ []) ≡ pre ++ held (t .decoder) → openOf d + 1 ≡ length pre + openOf (t .decoder)
   lost-open pre e =
       omega (arith, ap length e, length-append (held d) (b ∷ []), length-append pre (held (t .decoder)), held-open d, held-open (t .decoder))
 
@@ -136,19 +137,19 @@ module _ (d : Decoder) (b : ℕ) (o : b < 256) (r : Runs d) where
       quiet = ap (λ (u : Found). foundMeans u (t .decoder .info)) f
 
       by : Went (held d) b (drops (d .head .place) b) t → openOf (t .decoder) ≡ openOf d + 1
-      by (kept u e) = omega (arith, lost-open [] e)
-      by (dropped pre u v e w) = absurd (clash i w)
-      by (refuse n k s a pre u e w) = absurd (nothing-refused (sym quiet ∙ u))
-      by (ended f u e z w) = absurd (nothing-sound (sym quiet ∙ u))
+      by (kept n u e) = omega (arith, lost-open [] e)
+      by (dropped pre u v e w z) = absurd (clash i w)
+      by (refuse n k s a pre u e w v) = absurd (nothing-refused (sym quiet ∙ u))
+      by (ended f u e z w v) = absurd (nothing-sound (sym quiet ∙ u))
 
   open-most : openOf (t .decoder) ≤ openOf d + 1
   open-most = by (went d b o r)
     where
       by : Went (held d) b (drops (d .head .place) b) t → openOf (t .decoder) ≤ openOf d + 1
-      by (kept u e) = omega (arith, lost-open [] e)
-      by (dropped pre u v e w) = omega (arith, lost-open pre e)
-      by (refuse n k s a pre u e w) = omega (arith, lost-open pre e)
-      by (ended f u e z w) = omega (arith, held-open (t .decoder), ap length z)
+      by (kept n u e) = omega (arith, lost-open [] e)
+      by (dropped pre u v e w z) = omega (arith, lost-open pre e)
+      by (refuse n k s a pre u e w v) = omega (arith, lost-open pre e)
+      by (ended f u e z w v) = omega (arith, held-open (t .decoder), ap length z)
 
 -- What the code does
 
@@ -221,7 +222,7 @@ module _ (d : Decoder) (n : ℕ) where
   unfolding idleCounted
   idle-taken = pick-by (λ (c : Counted). c .taken ≡ idledOf d) (possibleOf (d .head)) (λ _. refl) (λ q. sym (idled-7 d q))
 
-  octet-counts : (b : ℕ) → OctetCounts d n b
+  pub octet-counts : (b : ℕ) → OctetCounts d n b
   unfolding countedOf numberThen
   octet-counts b =
       let t = takenOf d b in
@@ -233,7 +234,7 @@ module _ (d : Decoder) (n : ℕ) where
         taken = counted-taken b;
       }
 
-  idle-counts : IdleCounts d n
+  pub idle-counts : IdleCounts d n
   unfolding idleCounted
   idle-counts =
       record {
@@ -245,90 +246,6 @@ module _ (d : Decoder) (n : ℕ) where
 pub calls-count : CallsCount
 unfolding freshReceiver
 calls-count = (refl, refl, stops, λ d n. (octet-counts d n, idle-counts d n))
-
--- Calls one after another
-
--- `since` is noise, and then what is held; the number is the noise's
-pub record Noise (since : List ℕ) (d : Decoder) (n : ℕ) : Type 0 where
-  pub noise : List ℕ
-  pub falls : since ≡ noise ++ held d
-  pub number : Stops (length noise) n
-  pub runs : Runs d
-
-pub noise-is : {since : List ℕ} {d : Decoder} {n : ℕ} → Noise since d n → NoiseIs since d n
-noise-is {since} {d} {n} w = record { noise = w .noise; opened = held d; falls = w .falls; still = held-open d; number = w .number }
-
--- at rest, with none counted
-pub noise-none : (d : Decoder) → AtRest d → Noise [] d 0
-noise-none d a =
-    let r = rest-runs d a in
-    record { noise = []; falls = sym (r .0); number = record { within = λ _. refl; beyond = λ h. absurd (omega arith) }; runs = r .1 }
-
--- what an octet makes of it: it goes on, or a sound frame has ended
-pub data Step (since : List ℕ) (d : Decoder) (n b : ℕ) : Type 0 where
-  on : ((f : Frame) → outcomeOf (takenOf d b) ≡ sound f → ⊥) → countedOf d n b .told ≡ countedOf d n b .kept
-      → Noise (since ++ (b ∷ [])) (takenOf d b .decoder) (countedOf d n b .kept) → Step since d n b
-  over : (f : Frame) (noise : List ℕ) → outcomeOf (takenOf d b) ≡ sound f → since ++ (b ∷ []) ≡ noise ++ written f → Stops (length noise) (countedOf d n b .told)
-      → countedOf d n b .kept ≡ 0 → Noise [] (takenOf d b .decoder) 0 → Step since d n b
-
-module _ {since : List ℕ} {d : Decoder} {n : ℕ} (w : Noise since d n) where
-  module _ (b : ℕ) (o : b < 256) where
-    abbrev p : List ℕ
-    p = w .noise
-
-    abbrev e : Decoder
-    e = takenOf d b .decoder
-
-    since-more : {ys : List ℕ} → held d ++ (b ∷ []) ≡ ys → since ++ (b ∷ []) ≡ p ++ ys
-    since-more {ys} q = ap (λ (u : List ℕ). u ++ (b ∷ [])) (w .falls) ∙ append-assoc p (held d) (b ∷ []) ∙ ap (λ (u : List ℕ). p ++ u) q
-
-    -- what is held no longer is noise
-    goes-on : (pre : List ℕ) → held d ++ (b ∷ []) ≡ pre ++ held e → ((f : Frame) → outcomeOf (takenOf d b) ≡ sound f → ⊥) → Step since d n b
-    goes-on pre q h =
-        let c = octet-counts d n b .counted h (w .runs .possible) in
-        let l = lost-open d b o (w .runs) pre q in
-        let m : (n + openOf d + 1) - openOf e ≡ n + length pre = omega arith in
-        on h (c .1) (record {
-          noise = p ++ pre;
-          falls = since-more q ∙ sym (append-assoc p pre (held e));
-          number = rw (length-append p pre) (stops-more (length pre) (w .number) (rw m at (c .0)));
-          runs = runs-on d b o (w .runs);
-        })
-
-    pub octet-step : Step since d n b
-    octet-step = by (went d b o (w .runs))
-      where
-        by : Went (held d) b (drops (d .head .place) b) (takenOf d b) → Step since d n b
-        by (kept u q) = goes-on [] q (λ f h. nothing-sound (sym u ∙ h))
-        by (dropped pre u v q z) = goes-on pre q (λ f h. nothing-sound (sym v ∙ h))
-        by (refuse r k s a pre u q z) = goes-on pre q (λ f h. refused-sound (sym u ∙ h))
-        by (ended f u q z v) =
-            let c = octet-counts d n b .carried f u (w .runs .possible) in
-            over f p u (since-more q) (rw (c .0) (w .number)) (c .1)
-            (record { noise = []; falls = sym z; number = record { within = λ _. refl; beyond = λ h. absurd (omega arith) }; runs = runs-on d b o (w .runs) })
-
-  -- a line-idle call: all is noise
-  pub idle-step : Stops (length since) (idleCounted d n .kept) × (idleCounted d n .told ≡ idleCounted d n .kept) × Noise since (idledOf d .decoder) (idleCounted d n .kept)
-  unfolding possibleOf held
-  idle-step =
-      let c = idle-counts d n .counted (w .runs .possible) in
-      let l : length since ≡ length (w .noise) + openOf d = omega (arith, ap length (w .falls), length-append (w .noise) (held d), held-open d) in
-      let s : Stops (length since) (idleCounted d n .kept) = rw l (stops-more (openOf d) (w .number) (c .0)) in
-      (s, c .1, rw (idled-done d (w .runs .possible)) (record { noise = since; falls = sym (append-nil since); number = s; runs = record { possible = refl; long = w .runs .long } }))
-
-counted-from : {since : List ℕ} {d : Decoder} {n : ℕ} → Noise since d n → (cs : List LineCall) → NoiseCounted since d n cs
-counted-from w [] = end (noise-is w)
-counted-from {since} {d} {n} w (octet b o ∷ cs) = by (λ s e m v. counted-from v cs) (octet-step w b o)
-  where
-    by : ((s : List ℕ) (e : Decoder) (m : ℕ) → Noise s e m → NoiseCounted s e m cs) → Step since d n b → NoiseCounted since d n (octet b o ∷ cs)
-    by rest (on h q v) = goes {cs = cs} (noise-is w) h q (rw (counted-taken d n b) (rest _ _ _ v))
-    by rest (over f z u q s k v) = frame {cs = cs} (noise-is w) f z u q s k (rw (counted-taken d n b, k) (rest _ _ _ v))
-counted-from {since} {d} {n} w (lineIdle ∷ cs) =
-    let s = idle-step w in
-    idle {cs = cs} (noise-is w) (s .0) (s .1) (rw (idle-taken d n) (counted-from (s .2) cs))
-
-pub number-is-noise : NumberIsNoise
-number-is-noise d cs a = counted-from (noise-none d a) cs
 
 pub open-as-said : OpenAsSaid
 open-as-said d =

@@ -58,15 +58,31 @@ heldAt Cks k s e a n i = front k s a n ++ sentBy k e i
 unfoldable pub held : Decoder → List ℕ
 held d = let h = d .head in heldAt (h .place) (h .kind) (h .seq) (h .err) (h .addr) (h .len) (take (h .filled) (d .info))
 
+-- is nothing open, an AA, or a frame that has just been opened?
+abbrev pub begun : Place → Bool
+begun Idle = true
+begun LoneAa = true
+begun Seq = true
+begun AddrHigh = false
+begun AddrLow = false
+begun LenHigh = false
+begun LenLow = false
+begun Info = false
+begun InfoAa = false
+begun CloseAa = false
+begun CloseCc = false
+begun Err = false
+begun Cks = false
+
 -- what has become of the octets h that were held, and of b, once b is taken: all are held on; or some are dropped, and the decoder is idle or
--- after a lone AA; or the frame is refused, for them; or they are a frame as written
+-- after a lone AA; or the frame is refused, for them, and what is then open has just begun; or they are a frame as written
 pub data Went (h : List ℕ) (b : ℕ) (drop : Bool) (t : Taken) : Type 0 where
-  kept : outcomeOf t ≡ nothing → h ++ (b ∷ []) ≡ held (t .decoder) → Went h b drop t
+  kept : drop ≡ false → outcomeOf t ≡ nothing → h ++ (b ∷ []) ≡ held (t .decoder) → Went h b drop t
   dropped : (pre : List ℕ) → drop ≡ true → outcomeOf t ≡ nothing → h ++ (b ∷ []) ≡ pre ++ held (t .decoder)
-      → waits (t .decoder .head .place) ≡ true → Went h b drop t
+      → waits (t .decoder .head .place) ≡ true → begun (t .decoder .head .place) ≡ true → Went h b drop t
   refuse : (n : ℕ) (k : Kind) (s a : ℕ) (pre : List ℕ) → outcomeOf t ≡ refused n k s a → h ++ (b ∷ []) ≡ pre ++ held (t .decoder)
-      → Refusable n k s a (h ++ (b ∷ [])) → Went h b drop t
-  ended : (f : Frame) → outcomeOf t ≡ sound f → h ++ (b ∷ []) ≡ written f → held (t .decoder) ≡ [] → infoFits f ≡ true → Went h b drop t
+      → Refusable n k s a (h ++ (b ∷ [])) → begun (t .decoder .head .place) ≡ true → Went h b drop t
+  ended : (f : Frame) → outcomeOf t ≡ sound f → h ++ (b ∷ []) ≡ written f → held (t .decoder) ≡ [] → infoFits f ≡ true → begun (t .decoder .head .place) ≡ true → Went h b drop t
 
 -- INFO with one octet more
 doubled-more : (l : List ℕ) (g b : ℕ) → g < length l → doubled (take (g + 1) (set l g b)) ≡ doubled (take g l) ++ twice b
@@ -83,6 +99,14 @@ after-aa-held d b f y =
     (λ _. pick-by P (eqb b 0xDD) (λ t. (y, rw (eqb-true b 0xDD t) (simp append-assoc)))
     (λ _. pick-by P (eqb b 0xEE) (λ t. (y, rw (eqb-true b 0xEE t) (simp append-assoc)))
     (λ _. ((y ++ (0xAA ∷ [])) ++ (b ∷ []), sym (append-nil ((y ++ (0xAA ∷ [])) ++ (b ∷ []))))))))
+
+after-aa-begun : (d : Decoder) (b : ℕ) (f : Found) → begun (takenAs d b (afterAa (d .head) b f) .decoder .head .place) ≡ true
+after-aa-begun d b f =
+    let P : Stepped → Type 0 = λ t. begun (takenAs d b t .decoder .head .place) ≡ true in
+    pick-by P (eqb b 0xAA) (λ _. refl)
+    (λ _. pick-by P (eqb b 0xBB) (λ _. refl)
+    (λ _. pick-by P (eqb b 0xDD) (λ _. refl)
+    (λ _. pick-by P (eqb b 0xEE) (λ _. refl) (λ _. refl))))
 
 -- the octets of a number of two
 word-octets : (x b : ℕ) → x < 256 → b < 256 → (highOf (wordOf (lowOf x) b) ≡ x) × (lowOf (wordOf (lowOf x) b) ≡ b)
@@ -124,18 +148,18 @@ module _ (s e a n g : ℕ) (l : List ℕ) (hl : length l ≡ infoMost) (b : ℕ)
   unfolding held
   at-idle k =
       pick-by (Goes Idle k) (eqb b 0xAA)
-      (λ t. kept refl (rw (eqb-true b 0xAA t)))
-      (λ t. dropped (b ∷ []) (rw t) refl refl refl)
+      (λ t. kept (rw t) refl (rw (eqb-true b 0xAA t)))
+      (λ t. dropped (b ∷ []) (rw t) refl refl refl refl)
 
   at-lone : (k : Kind) → Goes LoneAa k (stepAt LoneAa (headOf LoneAa k s e a n g) l b)
   unfolding held
   at-lone k =
       pick-by (Goes LoneAa k) (eqb b 0xAA)
-      (λ t. dropped (0xAA ∷ []) (rw (eqb-true b 0xAA t)) refl (rw (eqb-true b 0xAA t)) refl)
-      (λ _. pick-by (Goes LoneAa k) (eqb b 0xBB) (λ t. kept refl (rw (eqb-true b 0xBB t)))
-      (λ t₁. pick-by (Goes LoneAa k) (eqb b 0xDD) (λ t. kept refl (rw (eqb-true b 0xDD t)))
-      (λ t₂. pick-by (Goes LoneAa k) (eqb b 0xEE) (λ t. kept refl (rw (eqb-true b 0xEE t)))
-      (λ t₃. dropped (0xAA ∷ b ∷ []) (rw (t₁, t₂, t₃)) refl refl refl))))
+      (λ t. dropped (0xAA ∷ []) (rw (eqb-true b 0xAA t)) refl (rw (eqb-true b 0xAA t)) refl refl)
+      (λ _. pick-by (Goes LoneAa k) (eqb b 0xBB) (λ t. kept (rw t) refl (rw (eqb-true b 0xBB t)))
+      (λ t₁. pick-by (Goes LoneAa k) (eqb b 0xDD) (λ t. kept (rw (t₁, t)) refl (rw (eqb-true b 0xDD t)))
+      (λ t₂. pick-by (Goes LoneAa k) (eqb b 0xEE) (λ t. kept (rw (t₁, t₂, t)) refl (rw (eqb-true b 0xEE t)))
+      (λ t₃. dropped (0xAA ∷ b ∷ []) (rw (t₁, t₂, t₃)) refl refl refl refl))))
 
   at-len : (k : Kind) → n < 256 → Goes LenLow k (stepAt LenLow (headOf LenLow k s e a n g) l b)
   unfolding held doubled
@@ -143,8 +167,8 @@ module _ (s e a n g : ℕ) (l : List ℕ) (hl : length l ≡ infoMost) (b : ℕ)
       let w = word-octets n b hn octet in
       let q : held (at LenLow k s e a n g l) ++ (b ∷ []) ≡ front k s a (wordOf (lowOf n) b) = rw (w .0, w .1) in
       pick-by (Goes LenLow k) (lenFits k (wordOf (lowOf n) b))
-      (λ _. kept refl (rw q (after-front k (wordOf (lowOf n) b))))
-      (λ t. refuse refusal.lenWrong k s a (front k s a (wordOf (lowOf n) b)) refl (rw (q, append-nil (front k s a (wordOf (lowOf n) b)))) (rw q (len-why k s a (wordOf (lowOf n) b) t)))
+      (λ _. kept refl refl (rw q (after-front k (wordOf (lowOf n) b))))
+      (λ t. refuse refusal.lenWrong k s a (front k s a (wordOf (lowOf n) b)) refl (rw (q, append-nil (front k s a (wordOf (lowOf n) b)))) (rw q (len-why k s a (wordOf (lowOf n) b) t)) refl)
     where
       after-front : (k : Kind) (m : ℕ) → front k s a m ≡ heldAt (afterLen k) k s e a m []
       after-front Message m = refl
@@ -152,22 +176,22 @@ module _ (s e a n g : ℕ) (l : List ℕ) (hl : length l ≡ infoMost) (b : ℕ)
       after-front Nak m = refl
 
   -- an octet of INFO is kept
-  at-stored : (p : Place) (y : List ℕ) → infoDue Message n g ≡ true → y ++ (b ∷ []) ≡ front Message s a n ++ (doubled (take g l) ++ twice b)
+  at-stored : (p : Place) (y : List ℕ) → drops p b ≡ false → infoDue Message n g ≡ true → y ++ (b ∷ []) ≡ front Message s a n ++ (doubled (take g l) ++ twice b)
       → held (at p Message s e a n g l) ≡ y → Goes p Message (decoder.kept (headOf p Message s e a n g))
   unfolding held
-  at-stored p y h q r =
+  at-stored p y u h q r =
       let d = due h in
       let w : held (at p Message s e a n g l) ++ (b ∷ []) ≡ front Message s a n ++ doubled (take (g + 1) (set l g b)) =
       rw (r, q, doubled-more l g b (omega arith)) in
       pick-by (λ (p₁ : Place). Goes p Message (record { head = headOf p₁ Message s e a n (g + 1); found = found.Nothing; keeps = true }))
-      (ltb (messageLen + (g + 1)) n) (λ _. kept refl w) (λ _. kept refl w)
+      (ltb (messageLen + (g + 1)) n) (λ _. kept u refl w) (λ _. kept u refl w)
 
   at-info : infoDue Message n g ≡ true → Goes Info Message (stepAt Info (headOf Info Message s e a n g) l b)
   unfolding held
   at-info h =
       pick-by (Goes Info Message) (eqb b 0xAA)
-      (λ t. kept refl (rw (eqb-true b 0xAA t) (append-assoc (front Message s a n) (doubled (take g l)) (0xAA ∷ []))))
-      (λ t. at-stored Info (front Message s a n ++ doubled (take g l)) h (rw (twice-other b (eqb-false b 0xAA t)) (append-assoc (front Message s a n) (doubled (take g l)) (b ∷ []))) refl)
+      (λ t. kept refl refl (rw (eqb-true b 0xAA t) (append-assoc (front Message s a n) (doubled (take g l)) (0xAA ∷ []))))
+      (λ t. at-stored Info (front Message s a n ++ doubled (take g l)) refl h (rw (twice-other b (eqb-false b 0xAA t)) (append-assoc (front Message s a n) (doubled (take g l)) (b ∷ []))) refl)
 
   at-info-aa : infoDue Message n g ≡ true → Goes InfoAa Message (stepAt InfoAa (headOf InfoAa Message s e a n g) l b)
   unfolding held
@@ -179,9 +203,9 @@ module _ (s e a n g : ℕ) (l : List ℕ) (hl : length l ≡ infoMost) (b : ℕ)
       let w = after-aa-held d b (found.Refused refusal.closingWrong Message s a) y in
       let z : held d ++ (b ∷ []) ≡ front Message s a n ++ (doubled (take g l) ++ (0xAA ∷ b ∷ [])) = simp append-assoc in
       pick-by (Goes InfoAa Message) (eqb b 0xAA)
-      (λ t. let q = eqb-true b 0xAA t in at-stored InfoAa (held d) h (z ∙ ap (λ (v : List ℕ). front Message s a n ++ (doubled (take g l) ++ v)) (ap (λ (c : ℕ). 0xAA ∷ c ∷ []) q ∙ sym (twice-aa b q))) refl)
+      (λ t. let q = eqb-true b 0xAA t in at-stored InfoAa (held d) refl h (z ∙ ap (λ (v : List ℕ). front Message s a n ++ (doubled (take g l) ++ v)) (ap (λ (c : ℕ). 0xAA ∷ c ∷ []) q ∙ sym (twice-aa b q))) refl)
       (λ t. refuse refusal.closingWrong Message s a (w .0) (after-aa-outcome d b (found.Refused refusal.closingWrong Message s a)) (ap (λ (v : List ℕ). v ++ (b ∷ [])) r ∙ w .1)
-      (let f = info-len Message n (u .0) in rw z (doubling s a n b (take g l) (f .0) (f .1) (omega (arith, length-take-le g l (omega arith))) (eqb-false b 0xAA t))))
+      (let f = info-len Message n (u .0) in rw z (doubling s a n b (take g l) (f .0) (f .1) (omega (arith, length-take-le g l (omega arith))) (eqb-false b 0xAA t))) (after-aa-begun d b (found.Refused refusal.closingWrong Message s a)))
 
   at-close-aa : infoWhole Message n g ≡ true → Goes CloseAa Message (stepAt CloseAa (headOf CloseAa Message s e a n g) l b)
   unfolding held
@@ -190,9 +214,9 @@ module _ (s e a n g : ℕ) (l : List ℕ) (hl : length l ≡ infoMost) (b : ℕ)
       let f = front Message s a n in
       let i = doubled (take g l) in
       pick-by (Goes CloseAa Message) (eqb b 0xAA)
-      (λ t. kept refl (rw (eqb-true b 0xAA t) (append-assoc f i (0xAA ∷ []))))
+      (λ t. kept refl refl (rw (eqb-true b 0xAA t) (append-assoc f i (0xAA ∷ []))))
       (λ t. refuse refusal.closingWrong Message s a ((f ++ i) ++ (b ∷ [])) refl (sym (append-nil ((f ++ i) ++ (b ∷ []))))
-      (let m = info-len Message n (u .0) in rw (append-assoc f i (b ∷ []), ← u .1) (closingAa s a b (take g l) (omega (arith, u .1)) (omega (arith, u .1)) (eqb-false b 0xAA t))))
+      (let m = info-len Message n (u .0) in rw (append-assoc f i (b ∷ []), ← u .1) (closingAa s a b (take g l) (omega (arith, u .1)) (omega (arith, u .1)) (eqb-false b 0xAA t))) refl)
 
   at-close-cc : infoWhole Message n g ≡ true → Goes CloseCc Message (stepAt CloseCc (headOf CloseCc Message s e a n g) l b)
   unfolding held
@@ -204,9 +228,9 @@ module _ (s e a n g : ℕ) (l : List ℕ) (hl : length l ≡ infoMost) (b : ℕ)
       let w = after-aa-held d b (found.Refused refusal.closingWrong Message s a) y in
       let z : held d ++ (b ∷ []) ≡ front Message s a n ++ (doubled (take g l) ++ (0xAA ∷ b ∷ [])) = simp append-assoc in
       pick-by (Goes CloseCc Message) (eqb b 0xCC)
-      (λ t. kept refl (z ∙ ap (λ (c : ℕ). front Message s a n ++ (doubled (take g l) ++ (0xAA ∷ c ∷ []))) (eqb-true b 0xCC t)))
+      (λ t. kept refl refl (z ∙ ap (λ (c : ℕ). front Message s a n ++ (doubled (take g l) ++ (0xAA ∷ c ∷ []))) (eqb-true b 0xCC t)))
       (λ t. refuse refusal.closingWrong Message s a (w .0) (after-aa-outcome d b (found.Refused refusal.closingWrong Message s a)) (ap (λ (v : List ℕ). v ++ (b ∷ [])) r ∙ w .1)
-      (let m = info-len Message n (u .0) in rw (z, ← u .1) (closingCc s a b (take g l) (omega (arith, u .1)) (omega (arith, u .1)) (eqb-false b 0xCC t))))
+      (let m = info-len Message n (u .0) in rw (z, ← u .1) (closingCc s a b (take g l) (omega (arith, u .1)) (omega (arith, u .1)) (eqb-false b 0xCC t))) (after-aa-begun d b (found.Refused refusal.closingWrong Message s a)))
 
   idle-held : (k : Kind) → held (at Idle k s e a n g l) ≡ []
   unfolding held
@@ -222,9 +246,9 @@ module _ (s e a n g : ℕ) (l : List ℕ) (hl : length l ≡ infoMost) (b : ℕ)
       let c = cksIn (headOf Cks k s e a n g) l in
       let z : held d ++ (b ∷ []) ≡ frontOf f ++ (sentOf f ++ (b ∷ [])) = ap (λ (v : List ℕ). v ++ (b ∷ [])) hh ∙ append-assoc (frontOf f) (sentOf f) (b ∷ []) in
       pick-by (Goes Cks k) (eqb c b)
-      (λ t. ended f ho (z ∙ ap (λ (x : ℕ). frontOf f ++ (sentOf f ++ (x ∷ []))) (sym (eqb-true c b t) ∙ hc)) (idle-held k) hf)
+      (λ t. ended f ho (z ∙ ap (λ (x : ℕ). frontOf f ++ (sentOf f ++ (x ∷ []))) (sym (eqb-true c b t) ∙ hc)) (idle-held k) hf refl)
       (λ t. refuse refusal.cksWrong k s a (held d ++ (b ∷ [])) refl (rw (idle-held k) (sym (append-nil (held d ++ (b ∷ [])))))
-      (rw (z, ← hk, ← hs, ← ha) (cks-why f b hf (λ q. eqb-false c b t (hc ∙ sym q)))))
+      (rw (z, ← hk, ← hs, ← ha) (cks-why f b hf (λ q. eqb-false c b t (hc ∙ sym q)))) refl)
 
   at-cks : (k : Kind) → cksDue k n g ≡ true → Goes Cks k (stepAt Cks (headOf Cks k s e a n g) l b)
   unfolding held frontOf sentOf cksIn cksOf frontIn bodyOf
@@ -242,10 +266,10 @@ module _ (s e a n g : ℕ) (l : List ℕ) (hl : length l ≡ infoMost) (b : ℕ)
   unfolding held possibleOf
   went-at Idle k h = at-idle k
   went-at LoneAa k h = at-lone k
-  went-at Seq k h = kept refl refl
-  went-at AddrHigh k h = kept refl refl
-  went-at AddrLow k h = let w = word-octets a b (ltb-true a 256 h) octet in kept refl (rw (w .0, w .1))
-  went-at LenHigh k h = kept refl refl
+  went-at Seq k h = kept refl refl refl
+  went-at AddrHigh k h = kept refl refl refl
+  went-at AddrLow k h = let w = word-octets a b (ltb-true a 256 h) octet in kept refl refl (rw (w .0, w .1))
+  went-at LenHigh k h = kept refl refl refl
   went-at LenLow k h = at-len k (ltb-true n 256 h)
   went-at Info Message h = at-info h
   went-at Info Ack h = absurd (clash refl h)
@@ -261,7 +285,7 @@ module _ (s e a n g : ℕ) (l : List ℕ) (hl : length l ≡ infoMost) (b : ℕ)
   went-at CloseCc Nak h = absurd (clash refl h)
   went-at Err Message h = absurd (clash refl h)
   went-at Err Ack h = absurd (clash refl h)
-  went-at Err Nak h = kept refl refl
+  went-at Err Nak h = kept refl refl refl
   went-at Cks k h = at-cks k h
 
 -- INFO's array keeps its length
@@ -300,10 +324,10 @@ refused-sound p = let z : _≡_ {A = ℕ} 0 1 = cc in omega arith
 -- the octets that are held no longer
 lost : {h : List ℕ} {b : ℕ} {drop : Bool} {t : Taken} → Went h b drop t
     → (pre : List ℕ) × ((h ++ (b ∷ []) ≡ pre ++ held (t .decoder)) × (drop ≡ false → outcomeOf t ≡ nothing → pre ≡ []))
-lost (kept o e) = ([], (e, λ p q. refl))
-lost (dropped pre d o e p) = (pre, (e, λ p q. absurd (clash p d)))
-lost (refuse n k s a pre o e w) = (pre, (e, λ p q. absurd (nothing-refused (sym q ∙ o))))
-lost (ended f o e z w) = (written f, (e ∙ rw z (sym (append-nil (written f))), λ p q. absurd (nothing-sound (sym q ∙ o))))
+lost (kept n o e) = ([], (e, λ p q. refl))
+lost (dropped pre d o e p v) = (pre, (e, λ p q. absurd (clash p d)))
+lost (refuse n k s a pre o e w v) = (pre, (e, λ p q. absurd (nothing-refused (sym q ∙ o))))
+lost (ended f o e z w v) = (written f, (e ∙ rw z (sym (append-nil (written f))), λ p q. absurd (nothing-sound (sym q ∙ o))))
 
 -- what a run leaves of the octets held and taken: those held at its end, with what is held no longer before them
 pub record Left (d : Decoder) (xs : List ℕ) : Type 0 where
@@ -364,25 +388,25 @@ module _ (d : Decoder) (xs : List ℕ) (x : ℕ) (r : AtRest d) (o : Octets (xs 
   last-went = went last x (octets-right xs (x ∷ []) o .0) (run .runs)
 
   written-back : {f : Frame} → outcomeOf (takenOf last x) ≡ sound f → Went (held last) x (drops (last .head .place) x) (takenOf last x) → WrittenBack d xs x f
-  written-back h (kept p q) = absurd (nothing-sound (sym p ∙ h))
-  written-back h (dropped pre u p q r) = absurd (nothing-sound (sym p ∙ h))
-  written-back h (refuse n k s a pre p q w) = absurd (refused-sound (sym p ∙ h))
-  written-back {f} h (ended f₁ p q z w) =
+  written-back h (kept n p q) = absurd (nothing-sound (sym p ∙ h))
+  written-back h (dropped pre u p q r v) = absurd (nothing-sound (sym p ∙ h))
+  written-back h (refuse n k s a pre p q w v) = absurd (refused-sound (sym p ∙ h))
+  written-back {f} h (ended f₁ p q z w u) =
       let e : f₁ ≡ f = cc in
       let z : xs ++ (x ∷ []) ≡ run .pre ++ written f = rw (← e) (ends-in q) in
       let v : infoFits f ≡ true = rw (← e) w in
       record { before = run .pre; ends = z; clean = run .clean; whole = λ n. undropped-back d xs x f r o v (z ∙ ap (λ (u : List ℕ). u ++ written f) n); fits = fits-in f v }
 
   refused-for : {n : ℕ} {k : Kind} {s a : ℕ} → outcomeOf (takenOf last x) ≡ refused n k s a → Went (held last) x (drops (last .head .place) x) (takenOf last x) → RefusedFor xs x n k s a
-  refused-for h (kept p q) = absurd (nothing-refused (sym p ∙ h))
-  refused-for h (dropped pre u p q r) = absurd (nothing-refused (sym p ∙ h))
-  refused-for {n} {k} {s} {a} h (refuse n₁ k₁ s₁ a₁ pre p q w) =
+  refused-for h (kept n p q) = absurd (nothing-refused (sym p ∙ h))
+  refused-for h (dropped pre u p q r v) = absurd (nothing-refused (sym p ∙ h))
+  refused-for {n} {k} {s} {a} h (refuse n₁ k₁ s₁ a₁ pre p q w v) =
       let en : n₁ ≡ n = cc in
       let ek : k₁ ≡ k = cc in
       let es : s₁ ≡ s = cc in
       let ea : a₁ ≡ a = cc in
       record { before = run .pre; octets = held last ++ (x ∷ []); ends = ends-in refl; why = rw (← en, ← ek, ← es, ← ea) w }
-  refused-for h (ended f p q z w) = absurd (refused-sound (sym h ∙ p))
+  refused-for h (ended f p q z w u) = absurd (refused-sound (sym h ∙ p))
 
 pub writing-undoes-reading : WritingFramesUndoesReading
 writing-undoes-reading d xs x f r o h = written-back d xs x r o h (last-went d xs x r o)

@@ -62,12 +62,19 @@ pub data LineCall : Type 0 where
   octet : (b : ℕ) → b < 256 → LineCall
   lineIdle : LineCall
 
--- `since` are the octets taken since the last sound frame ended, or since the start: noise, and then those that are still open at d. The number is
--- the length of the noise.
+-- xs lead from any decoder at rest to where d is, and none of them is dropped, refuses a frame or ends one
+pub record Leads (xs : List ℕ) (d : Decoder) : Type 0 where
+  pub clean : (r : Decoder) → AtRest r → NothingDropped r xs
+  pub place : (r : Decoder) → AtRest r → decoderAfter r xs .head .place ≡ d .head .place
+  pub parts : (r : Decoder) → AtRest r → partsOf (decoderAfter r xs) ≡ partsOf d
+
+-- `since` are the octets taken since the last sound frame ended, or since the start: noise, and then those that are still open at d, which are the octets
+-- that lead there. The number is the length of the noise.
 pub record NoiseIs (since : List ℕ) (d : Decoder) (n : ℕ) : Type 0 where
   pub noise : List ℕ
   pub opened : List ℕ
   pub falls : since ≡ noise ++ opened
+  pub leads : Leads opened d
   pub still : length opened ≡ openOf d
   pub number : Stops (length noise) n
 
