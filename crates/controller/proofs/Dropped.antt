@@ -9,7 +9,7 @@ use lib.Dec.{eqb}
 use lib.ListN.{length}
 use Rattle.octets.specs.Octet.{Octets}
 use Rattle.octets.proofs.Laws.{pick-by}
-use Rattle.frame.specs.Decoder.{freshDecoder}
+use Rattle.frame.specs.Decoder.{freshDecoder, takenOf}
 use Rattle.frame.proofs.Noise.{Noise, noise-is, noise-none, Step, on, over, octet-step, idle-step}
 use Rattle.frame.proofs.Possible.{fresh-at-rest}
 use Rattle.record.specs.Record.{bookLen}
@@ -64,14 +64,17 @@ module _ (es : List HostCall) (rest : Rest es) (since : List ℕ) (s : State) (h
       let t : next s e ≡ s = ap (λ (v : Call). v .answer .state) q in
       refused {o = o} {es = es} (noise-is w) n x (ap (λ (v : Call). v .answer .told .dropped) q) (ap (λ (v : State). v .dropped) t) (rest since (next s e) then′ (rw t w))
 
+  decoder-then : OctetDone s book out → next s e .decoder ≡ takenOf (s .decoder) b .decoder
+  decoder-then d = ap (λ (v : Call). v .answer .state .decoder) (octet-brings s book out b (d .0) (d .1) (d .2) refl)
+
   taken : OctetDone s book out → Step since (s .decoder) (s .dropped) b → NoiseInRun since s (e ∷ es)
   taken d (on q t v) =
       let p = passed-up s .octet book out b d in
-      goes {o = o} {es = es} (noise-is w) d q (p .0 ∙ t ∙ sym (p .1)) (rest _ (next s e) then′ (rw (p .1, ap (λ (v : Call). v .answer .state .decoder) (octet-brings s book out b (d .0) (d .1) (d .2) refl)) v))
+      goes {o = o} {es = es} (noise-is w) d q (p .0 ∙ t ∙ sym (p .1)) (rest _ (next s e) then′ (rw (p .1, decoder-then d) v))
   taken d (over f z u q t k v) =
       let p = passed-up s .octet book out b d in
       frame {book = book} {out = out} {o = o} {es = es} (noise-is w) d f z u q (rw (p .0) t) (p .1 ∙ k)
-      (rest [] (next s e) then′ (rw (p .1, k, ap (λ (v : Call). v .answer .state .decoder) (octet-brings s book out b (d .0) (d .1) (d .2) refl)) v))
+      (rest [] (next s e) then′ (rw (p .1, k, decoder-then d) v))
 
   by-octet : ((n : ℕ) × OctetRefused s book out n) ⊎ OctetDone s book out → NoiseInRun since s (e ∷ es)
   by-octet (inl x) = not-taken (x .0) (x .1)

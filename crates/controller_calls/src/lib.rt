@@ -137,11 +137,8 @@ pub(crate) fn counted(s: Held, dropped: u16) -> HeldAnswer
     HeldAnswer {
         state: s,
         told: Told {
-            refusal: refusal::NONE,
-            parameter: 0,
-            event: Event::Nothing,
-            count: 0,
             dropped,
+            ..tells(refusal::NONE)
         },
     }
 }

@@ -19,18 +19,18 @@ use Rattle.frame.specs.declared.decoder.Head.{Head}
 use Rattle.frame.specs.declared.decoder.Found.{Found}
 use Rattle.frame.specs.declared.decoder.Found.the-variants as found
 use Rattle.frame.specs.declared.decoder.Stepped.{Stepped}
-use Rattle.frame.specs.Frame.{Frame, message, ack, nak, front, doubled, written, infoMost}
+use Rattle.frame.specs.Frame.{Frame, message, ack, nak, front, doubled, infoMost}
 use Rattle.frame.specs.Decoder.{Decoder, Taken, possibleOf, idleDrops, stepAt, taken, takenOf, idledOf}
 use Rattle.frame.specs.Run.{nothing, refused, sound, foundMeans, outcomeOf, decoderAfter, AtRest, drops, NothingDropped}
 use Rattle.frame.specs.Dropped.{waits, openAt, openIn, openOf, stopped, numberThen, OpenThen, Counted, numberTold, numberKept, countedAs, countedOf, idleCounted, freshReceiver}
 use Rattle.frame.specs.Promises.{partsAt, partsOf}
-use Rattle.frame.specs.Noise.{Stops, OpenAsSaid, OctetCounts, IdleCounts, CallsCount, octet, goes, frame, idle}
+use Rattle.frame.specs.Noise.{Stops, OpenAsSaid, OctetCounts, IdleCounts, CallsCount}
 use Rattle.frame.proofs.Possible.{at}
 use Rattle.frame.proofs.Laws.{possible-at, taken-7, taken-as, taken-dropped, idled-7, keeps-on}
 use Rattle.frame.proofs.Agreeing.{part}
 use Rattle.frame.proofs.Reaching.{led-clean}
 use Rattle.frame.proofs.Resuming.{said-only}
-use Rattle.frame.proofs.Writing.{heldAt, held, Went, kept, dropped, refuse, ended, Runs, went, nothing-refused, nothing-sound, refused-sound, left}
+use Rattle.frame.proofs.Writing.{heldAt, held, Went, kept, dropped, refuse, ended, Runs, went, nothing-refused, nothing-sound, refused-sound, left, rest-runs}
 
 -- What is open is what is held
 
@@ -94,10 +94,6 @@ open-alike e d p q =
     ∙ open-parts (g .place) (h .kind) (g .kind) h g (e .info) (d .info) (subst (λ (u : Place). partsAt u (h .kind) h (e .info) ≡ partsOf d) p q)
 
 -- from rest, with nothing dropped, all octets are held
-pub rest-runs : (r : Decoder) → AtRest r → (held r ≡ []) × Runs r
-unfolding held possibleOf
-rest-runs r a = (rw (a .idle), record { possible = possible-at (r .head) (a .idle); long = a .long })
-
 all-open : (r : Decoder) (xs : List ℕ) → AtRest r → Octets xs → NothingDropped r xs → length xs ≡ openOf (decoderAfter r xs)
 all-open r xs a o n =
     let w = left r xs o (rest-runs r a .1) in
@@ -250,6 +246,6 @@ calls-count = (refl, refl, stops, λ d n. (octet-counts d n, idle-counts d n))
 pub open-as-said : OpenAsSaid
 open-as-said d =
     record {
-      all = λ r xs a o n p q. sym (open-alike (decoderAfter r xs) d p q) ∙ sym (all-open r xs a o n);
+      all = λ r a w n. sym (open-alike (decoderAfter r (w .octets)) d (w .place) (w .parts)) ∙ sym (all-open r (w .octets) a (w .each) n);
       some = λ p f r a. led-clean r d a p f;
     }

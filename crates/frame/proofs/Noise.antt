@@ -5,7 +5,7 @@ use mathlib.Core.Bool.{true, false}
 use mathlib.Core.List.{List, [], _∷_, _++_, append-assoc, append-nil}
 use native.Mathlib.Omega.{arith}
 use lib.ListN.{length, take, length-append}
-use Rattle.octets.proofs.Laws.{pick-by, clash}
+use Rattle.octets.proofs.Laws.{clash}
 use Rattle.frame.specs.declared.Kind.{Kind}
 use Rattle.frame.specs.declared.Kind.the-variants.{Message, Ack, Nak}
 use Rattle.frame.specs.declared.decoder.Place.{Place}
@@ -20,12 +20,13 @@ use Rattle.frame.proofs.Possible.{at}
 use Rattle.frame.proofs.Laws.{idled-done}
 use Rattle.frame.proofs.Agreeing.{parts-decide}
 use Rattle.frame.proofs.Resuming.{waits}
-use Rattle.frame.proofs.Writing.{heldAt, held, begun, Went, kept, dropped, refuse, ended, step-long, Runs, runs-on, went, nothing-sound, refused-sound}
-use Rattle.frame.proofs.Counting.{held-open, rest-runs, stops-more, lost-open, octet-counts, idle-counts, counted-taken, idle-taken}
+use Rattle.frame.proofs.Writing.{heldAt, held, begun, Went, kept, dropped, refuse, ended, Runs, runs-on, went, nothing-sound, refused-sound, rest-runs}
+use Rattle.frame.proofs.Lent.{taken-long}
+use Rattle.frame.proofs.Counting.{held-open, stops-more, lost-open, octet-counts, idle-counts, counted-taken, idle-taken}
 
 -- The octets that are held lead to where the decoder is
 
--- a decoder at rest has its place
+-- a decoder at rest is itself, placed at idle
 at-idle : (r : Decoder) → AtRest r → r ≡ placedAt Idle r
 at-idle r a = let h = r .head in ap (λ (p : Place). at p (h .kind) (h .seq) (h .err) (h .addr) (h .len) (h .filled) (r .info)) (a .idle)
 
@@ -108,10 +109,9 @@ clean-more r [] b n p q = (p, q, tt)
 clean-more r (x ∷ xs) b n p q = (n .0, n .1, clean-more (takenOf r x .decoder) xs b (n .2) p q)
 
 after-long : (r : Decoder) (xs : List ℕ) → length (r .info) ≡ infoMost → length (decoderAfter r xs .info) ≡ infoMost
-unfolding decoderAfter takenOf
+unfolding decoderAfter
 after-long r [] l = l
-after-long r (x ∷ xs) l =
-    after-long (takenOf r x .decoder) xs (pick-by (λ (t : Taken). length (t .decoder .info) ≡ infoMost) (possibleOf (r .head)) (λ _. step-long r x l) (λ _. l))
+after-long r (x ∷ xs) l = after-long (takenOf r x .decoder) xs (taken-long r l x)
 
 module _ (d : Decoder) (b : ℕ) (w : Runs d) (xs : List ℕ) (l : Leads xs d) where
   -- where the octets lead, b does what it does at d

@@ -367,21 +367,22 @@ undropped-back d xs x f r o w p =
     subst (λ (q : Place). NothingDropped (at q (h .kind) (h .seq) (h .err) (h .addr) (h .len) (h .filled) (d .info)) xs) (sym (r .idle))
     (rw e (quiet-undropped (most-run (h .kind) (h .seq) (h .err) (h .addr) (h .len) (h .filled) (d .info) f w (addr-front f (sentOf f) (rw e at v))) refl (rw e at v)))
 
+-- a decoder at rest holds nothing
+pub rest-runs : (r : Decoder) → AtRest r → (held r ≡ []) × Runs r
+unfolding held
+rest-runs r a = (rw (a .idle), record { possible = possible-at (r .head) (a .idle); long = a .long })
+
 -- from rest, with one octet more
 module _ (d : Decoder) (xs : List ℕ) (x : ℕ) (r : AtRest d) (o : Octets (xs ++ (x ∷ []))) where
-  at-rest : (held d ≡ []) × Runs d
-  unfolding held
-  at-rest = let h = d .head in (rw (r .idle), record { possible = possible-at h (r .idle); long = r .long })
-
   run : Left d xs
-  run = left d xs (octets-left xs (x ∷ []) o) (at-rest .1)
+  run = left d xs (octets-left xs (x ∷ []) o) (rest-runs d r .1)
 
   abbrev last : Decoder
   last = decoderAfter d xs
 
   ends-in : {ys : List ℕ} → held last ++ (x ∷ []) ≡ ys → xs ++ (x ∷ []) ≡ run .pre ++ ys
   ends-in {ys} q =
-      let e : xs ≡ run .pre ++ held last = rw (at-rest .0) at (run .octets) in
+      let e : xs ≡ run .pre ++ held last = rw (rest-runs d r .0) at (run .octets) in
       ap (λ (u : List ℕ). u ++ (x ∷ [])) e ∙ append-assoc (run .pre) (held last) (x ∷ []) ∙ ap (λ (u : List ℕ). run .pre ++ u) q
 
   last-went : Went (held last) x (drops (last .head .place) x) (takenOf last x)

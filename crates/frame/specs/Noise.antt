@@ -7,7 +7,6 @@ use mathlib.Core.Path.{_≡_}
 use mathlib.Core.Bool.{true, false}
 use mathlib.Core.List.{List, [], _∷_, _++_}
 use lib.ListN.{length}
-use Rattle.octets.specs.Octet.{Octets}
 use Rattle.frame.specs.Frame.{Frame, written}
 use Rattle.frame.specs.Decoder.{Decoder, freshHead, possibleOf, takenOf, idledOf}
 use Rattle.frame.specs.Run.{sound, outcomeOf, decoderAfter, AtRest, NothingDropped}
@@ -24,8 +23,7 @@ pub record Stops (n m : ℕ) : Type 0 where
 -- Octets that lead from rest to d, in the place and in the fields that matter there, and none of which is dropped, refuses a frame or ends one:
 -- those are open at d. A doubled AA is two of them, a remembered AA is one.
 pub record OpenAre (d : Decoder) : Type 0 where
-  pub all : (r : Decoder) (xs : List ℕ) → AtRest r → Octets xs → NothingDropped r xs → decoderAfter r xs .head .place ≡ d .head .place → partsOf (decoderAfter r xs) ≡ partsOf d
-      → openOf d ≡ length xs
+  pub all : (r : Decoder) → AtRest r → (w : LedTo r d) → NothingDropped r (w .octets) → openOf d ≡ length (w .octets)
   -- there are such octets, wherever a decoder can be
   pub some : possibleOf (d .head) ≡ true → FieldsHold d → (r : Decoder) → AtRest r → (w : LedTo r d) × NothingDropped r (w .octets)
 

@@ -43,14 +43,14 @@ pub enum Found {
 }
 
 // 02, E5: the decoder's head and, beside it, how many octets have been taken since the last sound frame ended, or since the start, that belong
-// to no sound frame. It is any number.
+// to no sound frame. Any such number is sound.
 pub struct Receiver {
     pub head: Head,
     pub dropped: u16,
 }
 
-// What a call of the decoder answers. The number that it tells is that of the receiver, but where a sound frame has ended: that carries out
-// the number before it.
+// What a call of the decoder answers. The number that it tells is the one that the receiver then has; but with a sound frame's last octet it is the
+// number from before that frame, and the receiver then has 0.
 pub struct Received {
     pub refusal: u8,
     pub receiver: Receiver,
