@@ -22,7 +22,7 @@ use Rattle.frame.specs.declared.decoder.Stepped.{Stepped}
 use Rattle.frame.specs.Frame.{Frame, message, ack, nak, front, doubled, infoMost}
 use Rattle.frame.specs.Decoder.{Decoder, Taken, possibleOf, idleDrops, stepAt, taken, takenOf, idledOf}
 use Rattle.frame.specs.Run.{nothing, refused, sound, foundMeans, outcomeOf, decoderAfter, AtRest, drops, NothingDropped}
-use Rattle.frame.specs.Dropped.{waits, openAt, openIn, openOf, stopped, numberThen, OpenThen, Counted, numberTold, numberKept, countedAs, countedOf, idleCounted, freshReceiver}
+use Rattle.frame.specs.Dropped.{waits, openAt, openIn, openOf, droppedMost, stopped, numberThen, OpenThen, Counted, numberTold, numberKept, countedAs, countedOf, idleCounted, freshReceiver}
 use Rattle.frame.specs.Promises.{partsAt, partsOf}
 use Rattle.frame.specs.Noise.{Stops, OpenAsSaid, OctetCounts, IdleCounts, CallsCount}
 use Rattle.frame.proofs.Possible.{at}
@@ -104,7 +104,7 @@ all-open r xs a o n =
 
 stops : (n : ℕ) → Stops n (stopped n)
 unfolding stopped
-stops n = record { within = λ h. rw (le-leb n 65535 h); beyond = λ h. pick-by (λ (m : ℕ). m ≡ 65535) (leb n 65535) (λ t. omega (arith, leb-true n 65535 t)) (λ _. refl) }
+stops n = record { within = λ h. rw (le-leb n droppedMost h); beyond = λ h. pick-by (λ (m : ℕ). m ≡ 65535) (leb n droppedMost) (λ t. omega (arith, leb-true n droppedMost t)) (λ _. refl) }
 
 -- what stopped goes on from where it stopped
 pub stops-more : {a n m : ℕ} (p : ℕ) → Stops a n → Stops (n + p) m → Stops (a + p) m
