@@ -16,7 +16,7 @@ use record::BOOK_LEN;
 const OWN: u16 = 0x0001;
 
 // How often a message is sent before SEQ comes round.
-const SILENT: usize = 255;
+const SILENT: u8 = 255;
 
 // The controller's state, and how much of book and output it is lent.
 pub(crate) struct Post {
@@ -143,32 +143,92 @@ fn take(s: Held, o: &[u8], kept: &mut [u8], book: &mut [u8], out: &mut [u8]) -> 
 
 // A message frame to this address: the octets given are its SEQ and its INFO.
 fn send(s: Held, addr: u16, o: &[u8], kept: &mut [u8], book: &mut [u8], out: &mut [u8]) -> Held {
-    let mut frame = [0u8; OUTPUT_LEN];
+    say_send(addr);
+    say::octets(o);
+    hand_over(
+        s,
+        addr,
+        script::at(o, 0),
+        script::rest(o, 1),
+        kept,
+        book,
+        out,
+    )
+}
+
+fn say_send(addr: u16) {
     say::text(b"\tsend ");
     say::octets(&[octets::high(addr), octets::low(addr)]);
     say::text(b": ");
-    say::octets(o);
-    let w = writer::write_message(script::at(o, 0), addr, script::rest(o, 1), &mut frame, 0);
+}
+
+fn hand_over(
+    s: Held,
+    addr: u16,
+    seq: u8,
+    info: &[u8],
+    kept: &mut [u8],
+    book: &mut [u8],
+    out: &mut [u8],
+) -> Held {
+    let mut frame = [0u8; OUTPUT_LEN];
+    let w = writer::write_message(seq, addr, info, &mut frame, 0);
     take(s, script::first(&frame, w.count), kept, book, out)
 }
 
-// The same message frame 255 times, in silence, and once more.
+// A message 256 times, each with the SEQ after that of the one before, since with the same SEQ it would be a repeat; all but the last in silence.
 fn keep(s: Held, o: &[u8], kept: &mut [u8], book: &mut [u8], out: &mut [u8]) -> Held {
-    let mut frame = [0u8; OUTPUT_LEN];
-    let own = s.own;
-    let w = writer::write_message(script::at(o, 0), own, script::rest(o, 1), &mut frame, 0);
+    let seq = script::at(o, 0);
+    let info = script::rest(o, 1);
+    let t = silent(s, seq, info, &mut *kept, &mut *book, &mut *out);
+    once_more(
+        t,
+        std::num::wrapping_add_u8(seq, SILENT),
+        info,
+        kept,
+        book,
+        out,
+    )
+}
+
+fn silent(s: Held, seq: u8, info: &[u8], kept: &mut [u8], book: &mut [u8], out: &mut [u8]) -> Held {
     let mut t = s;
-    for _ in 0..SILENT {
-        t = swallow(
-            t,
-            script::first(&frame, w.count),
-            &mut *kept,
-            &mut *book,
-            &mut *out,
-        );
+    for i in 0..SILENT {
+        let n = std::num::wrapping_add_u8(seq, i);
+        t = unheard_frame(t, n, info, &mut *kept, &mut *book, &mut *out);
     }
+    t
+}
+
+fn once_more(
+    s: Held,
+    seq: u8,
+    info: &[u8],
+    kept: &mut [u8],
+    book: &mut [u8],
+    out: &mut [u8],
+) -> Held {
+    let own = s.own;
     say::text(b"\t255 times in silence, then");
-    send(t, own, o, kept, book, out)
+    say_send(own);
+    say::octets(&[seq]);
+    say::text(b" ");
+    say::octets(info);
+    hand_over(s, own, seq, info, kept, book, out)
+}
+
+// A message frame to its own address, whatever it tells.
+fn unheard_frame(
+    s: Held,
+    seq: u8,
+    info: &[u8],
+    kept: &mut [u8],
+    book: &mut [u8],
+    out: &mut [u8],
+) -> Held {
+    let mut frame = [0u8; OUTPUT_LEN];
+    let w = writer::write_message(seq, s.own, info, &mut frame, 0);
+    swallow(s, script::first(&frame, w.count), kept, book, out)
 }
 
 fn swallow(s: Held, o: &[u8], kept: &mut [u8], book: &mut [u8], out: &mut [u8]) -> Held {

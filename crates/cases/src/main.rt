@@ -21,7 +21,7 @@
 //     take OCTETS          the controller is handed the octets, one a call
 //     send SEQ INFO        it is handed a message frame for its address, or
 //     broadcast SEQ INFO   for FFFF, or
-//     keep SEQ INFO        256 times for its address, of which the last is shown
+//     keep SEQ INFO        256 for its address, each with the SEQ after that of the one before, of which the last is shown
 //     wait OCTETS          as many second calls as octets are given
 //     quiet                its line-idle call
 //     lend BOOK OUTPUT     from now on it is lent so much of book and output, two octets each

@@ -34,34 +34,34 @@ pub(crate) enum Word {
 }
 
 pub(crate) fn find(s: &[u8]) -> Word {
-    if same(s, b"read") {
+    if octets::same(s, b"read") {
         return Word::Frame(FrameWord::Read);
     }
-    if same(s, b"idle") {
+    if octets::same(s, b"idle") {
         return Word::Frame(FrameWord::Idle);
     }
-    if same(s, b"unsound") {
+    if octets::same(s, b"unsound") {
         return Word::Frame(FrameWord::Unsound);
     }
-    if same(s, b"dropped") {
+    if octets::same(s, b"dropped") {
         return Word::Frame(FrameWord::Dropped);
     }
-    if same(s, b"place") {
+    if octets::same(s, b"place") {
         return Word::Frame(FrameWord::Place);
     }
-    if same(s, b"message") {
+    if octets::same(s, b"message") {
         return Word::Frame(FrameWord::Message);
     }
-    if same(s, b"ack") {
+    if octets::same(s, b"ack") {
         return Word::Frame(FrameWord::Ack);
     }
-    if same(s, b"nak") {
+    if octets::same(s, b"nak") {
         return Word::Frame(FrameWord::Nak);
     }
-    if same(s, b"compose") {
+    if octets::same(s, b"compose") {
         return Word::Frame(FrameWord::Compose);
     }
-    if same(s, b"output") {
+    if octets::same(s, b"output") {
         return Word::Frame(FrameWord::Output);
     }
     controller_word(s)
@@ -69,44 +69,32 @@ pub(crate) fn find(s: &[u8]) -> Word {
 
 // A word that is none of the decoder's and the writers'.
 fn controller_word(s: &[u8]) -> Word {
-    if same(s, b"fresh") {
+    if octets::same(s, b"fresh") {
         return Word::Call(CallWord::Fresh);
     }
-    if same(s, b"earlier") {
+    if octets::same(s, b"earlier") {
         return Word::Call(CallWord::Earlier);
     }
-    if same(s, b"take") {
+    if octets::same(s, b"take") {
         return Word::Call(CallWord::Take);
     }
-    if same(s, b"send") {
+    if octets::same(s, b"send") {
         return Word::Call(CallWord::Send);
     }
-    if same(s, b"broadcast") {
+    if octets::same(s, b"broadcast") {
         return Word::Call(CallWord::Broadcast);
     }
-    if same(s, b"keep") {
+    if octets::same(s, b"keep") {
         return Word::Call(CallWord::Keep);
     }
-    if same(s, b"wait") {
+    if octets::same(s, b"wait") {
         return Word::Call(CallWord::Wait);
     }
-    if same(s, b"quiet") {
+    if octets::same(s, b"quiet") {
         return Word::Call(CallWord::Quiet);
     }
-    if same(s, b"lend") {
+    if octets::same(s, b"lend") {
         return Word::Lend;
     }
     Word::Unknown
-}
-
-fn same(a: &[u8], b: &[u8]) -> bool {
-    if a.len() != b.len() {
-        return false;
-    }
-    for i in 0..a.len() {
-        if a[i] != b[i] {
-            return false;
-        }
-    }
-    true
 }

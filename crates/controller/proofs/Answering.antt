@@ -5,15 +5,14 @@ use mathlib.Core.Bool.{Bool, true, false, not}
 use mathlib.Core.Logic.{_⊎_, inl, inr}
 use mathlib.Core.List.{List, [], _++_}
 use native.Mathlib.Decide.{decLt, ℕ-discrete}
-use native.Mathlib.Nat.{zero-add}
 use native.Mathlib.Omega.{arith}
 use borrow.Author.Tests.{eq-eqb, ne-eqb}
 use lib.Dec.{eqb, leb}
-use lib.ListN.{length, take, drop, take-append-drop}
-use lib.Seq.{sets, sets-eq, length-sets, take-at, drop-at}
+use lib.ListN.{length, take, drop, length-drop, take-append-drop}
+use lib.Seq.{length-sets, drop-drop}
 use Rattle.octets.specs.Choice.{pick, both}
 use Rattle.octets.specs.Refusal as refusal
-use Rattle.octets.proofs.Laws.{parted, pick-by}
+use Rattle.octets.proofs.Laws.{drop-sets, pick-by}
 use Rattle.frame.specs.declared.Kind.{Kind}
 use Rattle.frame.specs.declared.Kind.the-variants.{Message, Ack, Nak}
 use Rattle.frame.specs.declared.decoder.Found.{Found}
@@ -43,10 +42,11 @@ use Rattle.controller.specs.declared.Handled.{Handled}
 use Rattle.controller.specs.declared.Held.{Held}
 use Rattle.controller.specs.declared.HeldAnswer.{HeldAnswer}
 use Rattle.controller.specs.declared.HeldShown.{HeldShown}
-use Rattle.controller.specs.State.{State, joined, runningSound, all, outputLen, planRecord, readyIn, freshOf, soundOf}
+use Rattle.controller.specs.Memory.{Memory, lastFits, isRepeat}
+use Rattle.controller.specs.State.{State, joined, keptLen, runningSound, all, outputLen, planRecord, readyIn, freshOf, soundOf}
 use Rattle.controller.specs.Handling as handling
 use Rattle.controller.specs.Handling.{replyInfo, setAs, unlessUnread, runAs, queryTimesAs, queryPlanAs, handlingOf}
-use Rattle.controller.specs.Replies.{Answer, Call, answerWith, sent, refusedCall, errOf, naks, acks, forUs, isAnswer, repliesOf, CanFind, ResultAndBook, unchanged, leaves, repliedOf, messageOf, eventFor, broughtOf, madeOf, octetOf}
+use Rattle.controller.specs.Replies.{Answer, Call, answerWith, sent, refusedCall, errOf, naks, acks, forUs, isAnswer, repliesOf, CanFind, ResultAndBook, unchanged, leaves, repliedOf, ackedOf, acceptedOf, messageOf, eventFor, broughtOf, memoryThen, madeOf, octetOf}
 use Rattle.controller.specs.Seconds.{Shown, shownWith, startedOf, secondOf, noSecond}
 use Rattle.controller.specs.Demand1.{Sound, SoundAsItIs, OctetRefused, CallRefused, InDone, OctetsAnswered, SecondRefused, ShownRefused, SecondsAnswered, IdlesAnswered, StartAnswered, StartsAnswered, RefusedLeavesBook, OutputsLeft, NumbersAsSaid, JoinedSo, CallsLeaveSo, RefusedAsCame, FewerRefused}
 use Rattle.controller.proofs.Laws.{takes, octet-7, octet-8, octet-9, octet-brings, idle-7, idle-done, second-7, second-8, second-done}
@@ -70,6 +70,8 @@ sound-as-it-is s o = record { from = λ h. from (sound-parts s h); to = λ h. pa
           requested = p .requested;
           decoder = p .decoder;
           info = p .info;
+          last = p .last;
+          lastInfo = p .lastInfo;
           running = record { position = u .position; plan = u .plan; checks = stands .readyFrom (u .checks); zero = u .zero };
         }
 
@@ -81,6 +83,8 @@ sound-as-it-is s o = record { from = λ h. from (sound-parts s h); to = λ h. pa
           requested = p .requested;
           decoder = p .decoder;
           info = p .info;
+          last = p .last;
+          lastInfo = p .lastInfo;
           running = record { position = u .position; plan = u .plan; checks = stands .readyTo (u .checks); zero = u .zero };
         }
 
@@ -254,13 +258,17 @@ module _ (s : State) (book : List ℕ) where
 
   module _ (p : RunningParts (s .running)) (hb : length book ≡ bookLen) where
     message-right : (seq addr : ℕ) (info : List ℕ) → Right book (messageOf s seq addr info book)
-    unfolding messageOf repliedOf
+    unfolding messageOf acceptedOf repliedOf
     message-right seq addr info =
         pick-by (Right book) (forUs (s .own) addr)
-        (λ _. pick-by (Right book) (isAnswer (codeIn info)) (λ _. unchanged-right refusal.none event.Nothing (acks (s .own) seq addr) (omega arith) (acks-fit (s .own) seq addr))
-        (λ _. record { names = handled-in-done s book info hb; leaves = handled-leaves s book info; fits = frames }))
+        (λ _. pick-by (Right book) (isRepeat (s .memory) seq info) (λ _. acked)
+        (λ _. pick-by (Right book) (isAnswer (codeIn info)) (λ _. acked)
+        (λ _. record { names = handled-in-done s book info hb; leaves = handled-leaves s book info; fits = frames })))
         (λ _. unchanged-right refusal.none event.Nothing [] (omega arith) none-fit)
       where
+        acked : Right book (ackedOf s seq addr book)
+        acked = unchanged-right refusal.none event.Nothing (acks (s .own) seq addr) (omega arith) (acks-fit (s .own) seq addr)
+
         reply : List ℕ
         reply = replyInfo s book (handlingOf s book info .handled .reply)
 
@@ -309,28 +317,17 @@ octets-answered s book out b =
 
 -- what holds of every refused call, and of every call that is done with what is right, holds of every octet call
 octet-by : (P : Call → Type 0) (s : State) (book out : List ℕ) (b : ℕ) → ((n : ℕ) → P (refusedCall s n book out))
-    → (outputLen ≤ length out → (w : ResultAndBook) → Right book w → P (madeOf s (takes s b) w out)) → P (octetOf s book out b)
+    → (outputLen ≤ length out → (m : Memory) (w : ResultAndBook) → Right book w → P (madeOf s (takes s b) m w out)) → P (octetOf s book out b)
 octet-by P s book out b r d = by (octets-answered s book out b .either)
   where
     by : ((n : ℕ) × OctetRefused s book out n) ⊎ ((soundOf s ≡ true) × (length book ≡ bookLen) × (outputLen ≤ length out)) → P (octetOf s book out b)
     by (inl x) = rw (octet-refused s book out b (x .1)) (r (x .0))
-    by (inr x) = rw (octet-brings s book out b (x .0) (x .1) (x .2) refl) (d (x .2) (brought s book out b) (octet-right s book out b (x .0) (x .1)))
+    by (inr x) = rw (octet-brings s book out b (x .0) (x .1) (x .2) refl) (d (x .2) (memoryThen (outcomeOf (takenOf (s .decoder) b)) s) (brought s book out b) (octet-right s book out b (x .0) (x .1)))
 
 -- What is left alone
 
 pub refused-leaves-book : RefusedLeavesBook
-refused-leaves-book s book out b = octet-by (λ w. (w .answer .told .refusal ≡ refusal.none → ⊥) → w .book ≡ book) s book out b (λ n _. refl) (λ _ w r. r .leaves)
-
--- the frames stand at the front of the output, and the rest of it stays
-module _ (vs out : List ℕ) (h : length vs ≤ length out) where
-  pub written-front : sets out 0 vs ≡ vs ++ drop (length vs) out
-  written-front = sets-eq vs out 0 (omega arith) ∙ ap (λ (n : ℕ). vs ++ drop n out) (zero-add (length vs))
-
-  pub written-take : take (length vs) (sets out 0 vs) ≡ vs
-  written-take = rw written-front (take-at vs (drop (length vs) out) (length vs) refl)
-
-  pub written-drop : drop (length vs) (sets out 0 vs) ≡ drop (length vs) out
-  written-drop = rw written-front (drop-at vs (drop (length vs) out) (length vs) refl)
+refused-leaves-book s book out b = octet-by (λ w. (w .answer .told .refusal ≡ refusal.none → ⊥) → w .book ≡ book) s book out b (λ n _. refl) (λ _ m w r. r .leaves)
 
 record Leaves (out : List ℕ) (w : Call) : Type 0 where
   beyond : drop (w .answer .told .count) (w .out) ≡ drop (w .answer .told .count) out
@@ -340,17 +337,17 @@ record Leaves (out : List ℕ) (w : Call) : Type 0 where
 
 pub outputs-left : OutputsLeft
 outputs-left s book out b =
-    let l = octet-by (Leaves out) s book out b (λ n. none) (λ ho w r. some ho w (r .fits)) in
+    let l = octet-by (Leaves out) s book out b (λ n. none) (λ ho m w r. some ho m w (r .fits)) in
     record { beyond = l .beyond; long = l .long; within = l .within; most = l .most }
   where
     none : {n : ℕ} → Leaves out (refusedCall s n book out)
     none = record { beyond = refl; long = refl; within = omega arith; most = omega arith }
 
-    some : outputLen ≤ length out → (w : ResultAndBook) → FramesFit (w .result .frames) → Leaves out (madeOf s (takes s b) w out)
-    some ho w f =
+    some : outputLen ≤ length out → (m : Memory) (w : ResultAndBook) → FramesFit (w .result .frames) → Leaves out (madeOf s (takes s b) m w out)
+    some ho m w f =
         let vs = sent (w .result .frames) in
         let h : length vs ≤ length out = omega arith in
-        record { beyond = written-drop vs out h; long = length-sets out 0 vs; within = h; most = f }
+        record { beyond = drop-sets vs out h; long = length-sets out 0 vs; within = h; most = f }
 
 pub numbers-as-said : NumbersAsSaid
 numbers-as-said = (refl, refl, refl, refl, refl, refl)
@@ -368,6 +365,12 @@ joined-so =
           (ap (λ (a : Shown). a .state) e, ap (λ (a : Shown). a .told) e, ap (λ (a : Shown). a .plan) e, ap (λ (a : Shown). a .row) e);
     }
 
+-- octets lent are the decoder's of INFO, those of the last frame accepted, and those beyond
+pub in-three : (k : List ℕ) → take infoMost k ++ (take infoMost (drop infoMost k) ++ drop keptLen k) ≡ k
+in-three k =
+    ap (λ (l : List ℕ). take infoMost k ++ (take infoMost (drop infoMost k) ++ l)) (sym (drop-drop infoMost infoMost k))
+    ∙ ap (λ (l : List ℕ). take infoMost k ++ l) (take-append-drop infoMost (drop infoMost k)) ∙ take-append-drop infoMost k
+
 pub calls-leave-so : CallsLeaveSo
 calls-leave-so w lent r k b o l =
     let e = l .answer in
@@ -377,22 +380,39 @@ calls-leave-so w lent r k b o l =
       requested = ap (λ (a : Answer). a .state .requested) e;
       head = ap (λ (a : Answer). a .state .decoder .head) e;
       dropped = ap (λ (a : Answer). a .state .dropped) e;
+      last = ap (λ (a : Answer). a .state .memory .last) e;
       running = ap (λ (a : Answer). a .state .running) e;
       told = ap (λ (a : Answer). a .told) e;
-      info = sym (take-append-drop infoMost k) ∙ (λ i. e i .state .decoder .info ++ l .beyond i);
+      info = sym (in-three k) ∙ (λ i. e i .state .decoder .info ++ (e i .state .memory .info ++ l .beyond i));
       book = l .book;
       out = l .out;
     }
 
 -- the struct in a state: that of `joined s kept` is s
-abbrev held : State → Held
-held s = record { own = s .own; seq = s .seq; requested = s .requested; receiver = record { head = s .decoder .head; dropped = s .dropped }; running = s .running }
+abbrev pub held : State → Held
+held s =
+    record {
+      own = s .own;
+      seq = s .seq;
+      requested = s .requested;
+      receiver = record { head = s .decoder .head; dropped = s .dropped };
+      last = s .memory .last;
+      running = s .running;
+    }
 
-pub one-to-one : (s t : Held) (k l : List ℕ) → joined s k ≡ joined t l → drop infoMost k ≡ drop infoMost l → (s ≡ t) × (k ≡ l)
-one-to-one s t k l e d = (ap held e, parted infoMost k l (ap (λ (s : State). s .decoder .info) e) d)
+-- the octets that a state has, and those beyond
+octets-back : (s t : State) (k l : List ℕ) → s ≡ t → s .decoder .info ≡ take infoMost k → s .memory .info ≡ take infoMost (drop infoMost k)
+    → t .decoder .info ≡ take infoMost l → t .memory .info ≡ take infoMost (drop infoMost l) → drop keptLen k ≡ drop keptLen l → k ≡ l
+octets-back s t k l e a b c d g =
+    let i = sym a ∙ ap (λ (s : State). s .decoder .info) e ∙ c in
+    let m = sym b ∙ ap (λ (s : State). s .memory .info) e ∙ d in
+    sym (in-three k) ∙ (λ j. i j ++ (m j ++ g j)) ∙ in-three l
 
-pub answer-one-to-one : (r q : HeldAnswer) (k l : List ℕ) → answerWith r k ≡ answerWith q l → drop infoMost k ≡ drop infoMost l → (r ≡ q) × (k ≡ l)
-answer-one-to-one r q k l e d = ((λ i. record { state = held (e i .state); told = e i .told }), parted infoMost k l (λ i. e i .state .decoder .info) d)
+pub one-to-one : (s t : Held) (k l : List ℕ) → joined s k ≡ joined t l → drop keptLen k ≡ drop keptLen l → (s ≡ t) × (k ≡ l)
+one-to-one s t k l e d = (ap held e, octets-back (joined s k) (joined t l) k l e refl refl refl refl d)
+
+pub answer-one-to-one : (r q : HeldAnswer) (k l : List ℕ) → answerWith r k ≡ answerWith q l → drop keptLen k ≡ drop keptLen l → (r ≡ q) × (k ≡ l)
+answer-one-to-one r q k l e d = ((λ i. record { state = held (e i .state); told = e i .told }), one-to-one (r .state) (q .state) k l (ap (λ (a : Answer). a .state) e) d .1)
 
 pub shown-one : (r q : HeldShown) (k : List ℕ) → shownWith r k ≡ shownWith q k → r ≡ q
 shown-one r q k e i = record { state = held (e i .state); told = e i .told; plan = e i .plan; row = e i .row }
@@ -405,9 +425,13 @@ refused-as-came s lent book out b n x r k b′ o l =
 
 pub fewer-refused : FewerRefused
 unfolding soundOf
-fewer-refused s kept l = by (not (eqb (s .own) all)) (leb (s .requested) plansMost)
+fewer-refused s kept l = by (not (eqb (s .own) all)) (leb (s .requested) plansMost) (decLt (length kept) infoMost)
   where
-    by : (a b : Bool) → both a (both b (both (eqb (length (take infoMost kept)) infoMost) (both (possibleOf (s .receiver .head)) (runningSound (s .running))))) ≡ false
-    by false b = refl
-    by true false = refl
-    by true true = rw (lent.short (s .receiver .head) kept l)
+    by : (a b : Bool) → Dec (length kept < infoMost)
+        → both a (both b (both (eqb (length (take infoMost kept)) infoMost) (both (eqb (length (take infoMost (drop infoMost kept))) infoMost)
+        (both (lastFits (s .last)) (both (possibleOf (s .receiver .head)) (runningSound (s .running))))))) ≡ false
+    by false b d = refl
+    by true false d = refl
+    by true true (yes h) = rw (lent.short (s .receiver .head) kept h)
+    by true true (no h) =
+        rw (lent.enough (s .receiver .head) kept (omega arith), lent.short (s .receiver .head) (drop infoMost kept) (omega (arith, length-drop infoMost kept)))

@@ -6,9 +6,12 @@ use mathlib.Core.Bool.{true, not}
 use mathlib.Core.Logic.{_⊎_, inl, inr}
 use mathlib.Core.List.{List, [], _∷_}
 use lib.Dec.{eqb}
-use lib.ListN.{length}
+use native.Mathlib.Omega.{arith}
+use lib.ListN.{length, take}
+use lib.Seq.{length-take-le}
 use Rattle.octets.specs.Octet.{Octets}
 use Rattle.octets.proofs.Laws.{pick-by}
+use Rattle.frame.specs.Frame.{infoMost}
 use Rattle.frame.specs.Decoder.{freshDecoder, takenOf}
 use Rattle.frame.proofs.Noise.{Noise, noise-is, noise-none, Step, on, over, octet-step, idle-step}
 use Rattle.frame.proofs.Possible.{fresh-at-rest}
@@ -97,4 +100,4 @@ noise-from (second book o ∷ es) since s h w =
 pub noise-told : NoiseTold
 unfolding startedOf freshOf
 noise-told which own kept n long es =
-    noise-from es [] (freshOf which own kept) (fresh-sound which own kept n long) (noise-none (freshDecoder kept) (fresh-at-rest .1 kept long .0))
+    noise-from es [] (freshOf which own kept) (fresh-sound which own kept n long) (noise-none (freshDecoder (take infoMost kept)) (fresh-at-rest .1 (take infoMost kept) (length-take-le infoMost kept (omega arith)) .0))

@@ -1,24 +1,28 @@
 -- Soundness taken apart into what 01 lists, and put together.
 use Prim.Native.Nat.{ℕ, _≤_, _<_}
 use mathlib.Core.Path.{_≡_, refl, ap}
-use mathlib.Core.Bool.{Bool, true, not}
+use mathlib.Core.Bool.{Bool, true, false, not}
+use mathlib.Core.Logic.{_⊎_, inl, inr}
 use mathlib.Core.List.{List}
+use native.Mathlib.Omega.{arith}
 use borrow.Author.Tests.{eq-eqb, ne-eqb, lt-ltb, le-leb, eqb-true, ltb-true, leb-true}
 use lib.Dec.{eqb, ltb, leb}
 use lib.ListN.{length}
 use Rattle.octets.specs.Choice.{pick, both}
 use Rattle.octets.specs.Octet.{Octets}
-use Rattle.octets.proofs.Laws.{pick-by, both-left, both-right, clash, octets-part}
-use Rattle.frame.specs.Frame.{infoMost}
+use Rattle.octets.specs.Same.{same}
+use Rattle.octets.proofs.Laws.{pick-by, both-left, both-right, clash, octets-part, same-is, is-same}
+use Rattle.frame.specs.Frame.{infoLeast, infoMost}
 use Rattle.frame.specs.Decoder.{possibleOf}
 use Rattle.record.specs.Record.{recordLen, plansMost, ready, cycleOf}
 use Rattle.checks.specs.Standing.{standingOf}
 use Rattle.plan.specs.declared.Which.{Which}
 use Rattle.plan.specs.BuiltIn.{builtIn}
-use Rattle.plan.specs.Reading.{recordStart, same}
-use Rattle.plan.proofs.Laws.{same-is, is-same}
+use Rattle.plan.specs.Reading.{recordStart}
 use Rattle.plan.proofs.Cases.{octets-built-in}
 use Rattle.controller.specs.declared.Running.{Running}
+use Rattle.controller.specs.declared.Last.{Last}
+use Rattle.controller.specs.Memory.{lastFits}
 use Rattle.controller.specs.State.{State, all, runningSound, soundOf, planRecord}
 
 pub four : (a b c d : Bool) → both a (both b (both c d)) ≡ true → (a ≡ true) × (b ≡ true) × (c ≡ true) × (d ≡ true)
@@ -59,10 +63,29 @@ module _ (u : Running) where
       rw (lt-ltb (u .position) (cycleOf (u .copy)) (p .position), le-leb (u .plan) plansMost (p .plan), eq-eqb (standingOf (u .copy)) ready (p .checks))
       (pick-by (λ (t : Bool). t ≡ true) (eqb (u .plan) 0) (λ z. rw (p .zero (eqb-true (u .plan) 0 z)) (is-same kept)) (λ _. refl))
 
+-- what is remembered is of a length that INFO can have, or nothing
+abbrev pub LastFits : Last → Type 0
+LastFits l = (l .len ≡ 0) ⊎ ((infoLeast ≤ l .len) × (l .len ≤ infoMost))
+
+module _ (l : Last) where
+  pub last-parts : lastFits l ≡ true → LastFits l
+  last-parts = by (eqb (l .len) 0) refl
+    where
+      by : (t : Bool) → eqb (l .len) 0 ≡ t → pick t true (both (leb infoLeast (l .len)) (leb (l .len) infoMost)) ≡ true → LastFits l
+      by true e h = inl (eqb-true (l .len) 0 e)
+      by false e h =
+          inr (leb-true infoLeast (l .len) (both-left (leb infoLeast (l .len)) (leb (l .len) infoMost) h), leb-true (l .len) infoMost (both-right (leb infoLeast (l .len)) (leb (l .len) infoMost) h))
+
+  pub parts-last : LastFits l → lastFits l ≡ true
+  parts-last (inl e) = rw (eq-eqb (l .len) 0 e)
+  parts-last (inr h) = rw (ne-eqb (l .len) 0 (λ e. omega (arith, e, h .0)), le-leb infoLeast (l .len) (h .0), le-leb (l .len) infoMost (h .1))
+
 pub record SoundParts (s : State) : Type 0 where
   pub own : s .own ≡ all → ⊥
   pub requested : s .requested ≤ plansMost
   pub info : length (s .decoder .info) ≡ infoMost
+  pub lastInfo : length (s .memory .info) ≡ infoMost
+  pub last : LastFits (s .memory .last)
   pub decoder : possibleOf (s .decoder .head) ≡ true
   pub running : RunningParts (s .running)
 
@@ -70,19 +93,28 @@ module _ (s : State) where
   pub sound-parts : soundOf s ≡ true → SoundParts s
   unfolding soundOf
   sound-parts h =
-      let g = both (possibleOf (s .decoder .head)) (runningSound (s .running)) in
-      let p = four (not (eqb (s .own) all)) (leb (s .requested) plansMost) (eqb (length (s .decoder .info)) infoMost) g h in
+      let o = not (eqb (s .own) all) in
+      let q = leb (s .requested) plansMost in
+      let i = eqb (length (s .decoder .info)) infoMost in
+      let k = eqb (length (s .memory .info)) infoMost in
+      let l = lastFits (s .memory .last) in
+      let d = possibleOf (s .decoder .head) in
+      let u = runningSound (s .running) in
+      let p = four o q i (both k (both l (both d u))) h in
+      let g = four k l d u (p .3) in
       record {
         own = λ e. clash (ap not (eq-eqb (s .own) all e)) (p .0);
         requested = leb-true (s .requested) plansMost (p .1);
         info = eqb-true (length (s .decoder .info)) infoMost (p .2);
-        decoder = both-left (possibleOf (s .decoder .head)) (runningSound (s .running)) (p .3);
-        running = running-parts (s .running) (both-right (possibleOf (s .decoder .head)) (runningSound (s .running)) (p .3));
+        lastInfo = eqb-true (length (s .memory .info)) infoMost (g .0);
+        last = last-parts (s .memory .last) (g .1);
+        decoder = g .2;
+        running = running-parts (s .running) (g .3);
       }
 
   pub parts-sound : SoundParts s → soundOf s ≡ true
   unfolding soundOf
-  parts-sound p = rw (ne-eqb (s .own) all (p .own), le-leb (s .requested) plansMost (p .requested), eq-eqb (length (s .decoder .info)) infoMost (p .info), p .decoder) (parts-running (s .running) (p .running))
+  parts-sound p = rw (ne-eqb (s .own) all (p .own), le-leb (s .requested) plansMost (p .requested), eq-eqb (length (s .decoder .info)) infoMost (p .info), eq-eqb (length (s .memory .info)) infoMost (p .lastInfo), parts-last (s .memory .last) (p .last), p .decoder) (parts-running (s .running) (p .running))
 
 -- The record of a plan is octets
 

@@ -2,12 +2,15 @@
 use Prim.Native.Nat.{ℕ, _+_, _≤_, _<_}
 use mathlib.Core.Path.{_≡_, refl, sym, _∙_}
 use mathlib.Core.Bool.{Bool, true, false, not}
+use mathlib.Core.Logic.{inl}
 use mathlib.Core.List.{List}
+use mathlib.Core.Option.{Option}
 use native.Mathlib.Decide.{decLt, ℕ-discrete}
 use native.Mathlib.Omega.{arith}
 use borrow.Author.Tests.{eq-eqb, ne-eqb, eqb-true, eqb-false, leb-true}
 use lib.Dec.{eqb, ltb, leb}
-use lib.ListN.{length}
+use lib.ListN.{length, drop, length-drop}
+use lib.Seq.{length-take-le}
 use Rattle.octets.specs.Choice.{pick, both}
 use Rattle.octets.specs.Refusal as refusal
 use Rattle.octets.proofs.Laws.{pick-by, clash}
@@ -23,29 +26,32 @@ use Rattle.record.specs.Record.{plansMost, bookLen, empty, ready, cycleOf}
 use Rattle.checks.specs.Standing.{standingOf}
 use Rattle.plan.specs.declared.Which.{Which}
 use Rattle.plan.specs.BuiltIn.{builtIn}
-use Rattle.plan.specs.Reading.{recordAt, same}
+use Rattle.plan.specs.Reading.{recordAt}
 use Rattle.plan.specs.Setting.{setTimesCode, setPlanCode, planIn}
 use Rattle.checks.proofs.Stands.{plan-fits, ready-plan}
 use Rattle.plan.proofs.Cases.{built-in-stands}
 use Rattle.plan.proofs.Reportable.{standing-past}
 use Rattle.controller.specs.declared.Running.{Running}
 use Rattle.controller.specs.declared.Handled.{Handled}
-use Rattle.controller.specs.State.{State, all, outputLen, freshOf, soundOf, readyIn, planRecord, startedAt, withDecoder, withRunning}
+use Rattle.controller.specs.Memory.{Memory, isRepeat}
+use Rattle.controller.specs.State.{State, keptLen, all, outputLen, freshOf, soundOf, readyIn, planRecord, startedAt, withDecoder, withRunning}
 use Rattle.controller.specs.Handling.{Handling, unlessUnread, runCode, queryTimesCode, queryPlanCode, queryRunningCode, setAs, runAs, queryTimesAs, queryPlanAs, queryRunningAs, handlingOf}
-use Rattle.controller.specs.Replies.{Answer, refusedCall, forUs, isAnswer, ResultAndBook, repliedOf, messageOf, broughtOf, doneOf, octetOf, lineIdleOf}
+use Rattle.controller.specs.Replies.{Answer, refusedCall, forUs, isAnswer, ResultAndBook, repliedOf, acceptedOf, messageOf, broughtOf, memoryThen, doneOf, octetOf, lineIdleOf}
 use Rattle.controller.specs.Seconds.{Shown, pickedOf, movedOn, secondShown, noSecond, secondOf}
 use Rattle.controller.specs.Demand1.{SoundKept}
-use Rattle.controller.specs.Demand3.{mayRun, runIn, latestAfter}
+use Rattle.controller.specs.Demand3.{Accepted, isAgain, accepts, mayRun, runIn, latestAfter}
 use Rattle.controller.proofs.Judging.{four, RunningParts, sound-parts, parts-sound}
+use Rattle.controller.proofs.Remembering.{outcome-fits, lastIn, is-again, memory-fits}
 use Rattle.controller.proofs.Laws.{takes, counted-takes, idles, idle-done, moved-within, moved-ends, second-8, second-done}
 
 -- The octet call
 
--- a state with this own address and this running plan, where the decoder and the requested plan are so
-pub record Left (address : ℕ) (u : Running) (d : Decoder) (p : ℕ) (t : State) : Type 0 where
+-- a state with this own address and this running plan, where the decoder, the memory and the requested plan are so
+pub record Left (address : ℕ) (u : Running) (d : Decoder) (m : Memory) (p : ℕ) (t : State) : Type 0 where
   pub own : t .own ≡ address
   pub running : t .running ≡ u
   pub decoder : t .decoder ≡ d
+  pub memory : t .memory ≡ m
   pub requested : t .requested ≡ p
 
 -- what a message leaves requested: the plan of a 5F 18 that is not refused, else what was
@@ -114,32 +120,40 @@ may-run which book p = by (eqb p 0)
     by false = refl
 
 module _ (s : State) (book : List ℕ) where
-  message-asks : (seq addr : ℕ) (info : List ℕ)
-      → messageOf s seq addr info book .result .requested ≡ latestAfter (s .own) book (s .requested) (sound (message seq addr info))
-  unfolding messageOf repliedOf
+  -- the plan of the latest run message carried out, after what the octet ended
+  abbrev latestThen : Outcome → ℕ
+  latestThen o = latestAfter (s .own) book (lastIn (s .memory)) (s .requested) o
+
+  message-asks : (seq addr : ℕ) (info : List ℕ) → messageOf s seq addr info book .result .requested ≡ latestThen (sound (message seq addr info))
+  unfolding messageOf acceptedOf repliedOf
   message-asks seq addr info =
-      let P : ResultAndBook → Type 0 = λ w. w .result .requested ≡ latestAfter (s .own) book (s .requested) (sound (message seq addr info)) in
+      let P : ResultAndBook → Type 0 = λ w. w .result .requested ≡ latestThen (sound (message seq addr info)) in
+      let a = is-again (s .memory) seq info in
       pick-by P (forUs (s .own) addr)
-      (λ f. pick-by P (isAnswer (codeIn info)) (λ a. rw (f, ne-eqb (codeIn info) runCode (answers a))) (λ _. rw (f, may-run (s .running .which) book (planIn (bodyIn info))) (handled-leaves s book info)))
+      (λ f. pick-by P (isRepeat (s .memory) seq info)
+      (λ r. let g : isAgain (lastIn (s .memory)) seq info ≡ true = sym a ∙ r in rw (f, g))
+      (λ r. let g : isAgain (lastIn (s .memory)) seq info ≡ false = sym a ∙ r in
+      pick-by P (isAnswer (codeIn info)) (λ a. rw (f, g, ne-eqb (codeIn info) runCode (answers a)))
+      (λ _. rw (f, g, may-run (s .running .which) book (planIn (bodyIn info))) (handled-leaves s book info))))
       (λ f. rw f)
     where
       answers : isAnswer (codeIn info) ≡ true → codeIn info ≡ runCode → ⊥
       answers a e = clash refl (rw e at a)
 
   -- what an octet brings requests the latest run message carried out
-  brought-asks : (o : Outcome) → broughtOf o s book .result .requested ≡ latestAfter (s .own) book (s .requested) o
+  brought-asks : (o : Outcome) → broughtOf o s book .result .requested ≡ latestThen o
   brought-asks nothing = refl
   brought-asks (refused n k seq addr) = refl
   brought-asks (sound (message seq addr info)) = message-asks seq addr info
   brought-asks (sound (ack seq addr)) = refl
   brought-asks (sound (nak seq addr err)) = refl
 
--- a call that is done: the decoder has taken the octet, and the latest run message carried out is requested
+-- a call that is done: the decoder has taken the octet, a frame accepted is remembered, and the latest run message carried out is requested
 pub done-left : (s : State) (c : Counted) (book out : List ℕ)
-    → Left (s .own) (s .running) (c .taken .decoder) (latestAfter (s .own) book (s .requested) (outcomeOf (c .taken))) (doneOf s c book out .answer .state)
+    → Left (s .own) (s .running) (c .taken .decoder) (memoryThen (outcomeOf (c .taken)) s) (latestThen s book (outcomeOf (c .taken))) (doneOf s c book out .answer .state)
 unfolding doneOf
 done-left s c book out =
-    record { own = refl; running = refl; decoder = refl; requested = brought-asks s book (outcomeOf (c .taken)) }
+    record { own = refl; running = refl; decoder = refl; memory = refl; requested = brought-asks s book (outcomeOf (c .taken)) }
 
 module _ (s : State) (book out : List ℕ) (b : ℕ) where
   -- was the octet taken? Where not, the state is as it was
@@ -175,16 +189,16 @@ may-run-most book p n h =
       | no l ↦ omega arith
     ]
 
-pub latest-most : (own : ℕ) (book : List ℕ) (latest : ℕ) (o : Outcome) → length book ≡ bookLen → latest ≤ plansMost → latestAfter own book latest o ≤ plansMost
-latest-most own book latest nothing n h = h
-latest-most own book latest (refused r k seq addr) n h = h
-latest-most own book latest (sound (message seq addr info)) n h =
+pub latest-most : (own : ℕ) (book : List ℕ) (last : Option Accepted) (latest : ℕ) (o : Outcome) → length book ≡ bookLen → latest ≤ plansMost → latestAfter own book last latest o ≤ plansMost
+latest-most own book last latest nothing n h = h
+latest-most own book last latest (refused r k seq addr) n h = h
+latest-most own book last latest (sound (message seq addr info)) n h =
     let p = planIn (bodyIn info) in
-    pick-by (λ (q : ℕ). q ≤ plansMost) (runIn own book addr info)
-    (λ t. may-run-most book p n (four (forUs own addr) (eqb (codeIn info) runCode) (eqb (readOf info .refusal) refusal.none) (mayRun book p) t .3))
+    pick-by (λ (q : ℕ). q ≤ plansMost) (runIn own book last seq addr info)
+    (λ t. may-run-most book p n (four (accepts own last seq addr info) (eqb (codeIn info) runCode) (eqb (readOf info .refusal) refusal.none) (mayRun book p) t .3))
     (λ _. h)
-latest-most own book latest (sound (ack seq addr)) n h = h
-latest-most own book latest (sound (nak seq addr err)) n h = h
+latest-most own book last latest (sound (ack seq addr)) n h = h
+latest-most own book last latest (sound (nak seq addr err)) n h = h
 
 octet-sound : (s : State) (book out : List ℕ) (b : ℕ) → b < 256 → soundOf s ≡ true → soundOf (octetOf s book out b .answer .state) ≡ true
 octet-sound s book out b l h =
@@ -193,10 +207,13 @@ octet-sound s book out b l h =
     let w = doneOf s (takes s b) book out .answer .state in
     by-octet s book out b (λ _ t. soundOf t ≡ true) h (λ _ n _.
     let k = done-left s (takes s b) book out in
+    let m = memory-fits s g (outcomeOf t) (outcome-fits s b h) in
     parts-sound w (record {
       own = rw (k .own) (g .own);
-      requested = rw (k .requested) (latest-most (s .own) book (s .requested) (outcomeOf t) n (g .requested));
+      requested = rw (k .requested) (latest-most (s .own) book (lastIn (s .memory)) (s .requested) (outcomeOf t) n (g .requested));
       info = rw (k .decoder) (taken-long (s .decoder) (g .info) b);
+      lastInfo = rw (k .memory) (m .0);
+      last = rw (k .memory) (m .1);
       decoder = rw (k .decoder) (possible-kept .1 (s .decoder) .octet b l (g .decoder));
       running = rw (k .running) (g .running);
     }))
@@ -217,6 +234,8 @@ module _ (s : State) where
         own = g .own;
         requested = g .requested;
         info = idled-long (s .decoder) (g .info);
+        lastInfo = g .lastInfo;
+        last = g .last;
         decoder = possible-kept .1 (s .decoder) .lineIdle (g .decoder);
         running = g .running;
       }))
@@ -287,6 +306,8 @@ module _ (s : State) (book : List ℕ) where
         own = g .own;
         requested = g .requested;
         info = g .info;
+        lastInfo = g .lastInfo;
+        last = g .last;
         decoder = g .decoder;
         running = moved-sound (s .running) (s .requested) book (g .requested) (g .running);
       }))
@@ -297,13 +318,15 @@ sound-kept s = record { octet = octet-sound s; lineIdle = idle-sound s; second =
 
 -- The fresh start
 
-pub fresh-sound : (which : Which) (own : ℕ) (kept : List ℕ) → (own ≡ all → ⊥) → length kept ≡ infoMost → soundOf (freshOf which own kept) ≡ true
+pub fresh-sound : (which : Which) (own : ℕ) (kept : List ℕ) → (own ≡ all → ⊥) → keptLen ≤ length kept → soundOf (freshOf which own kept) ≡ true
 unfolding freshOf
 fresh-sound which own kept n long =
     parts-sound (freshOf which own kept) (record {
       own = n;
       requested = omega arith;
-      info = long;
+      info = length-take-le infoMost kept (omega arith);
+      lastInfo = length-take-le infoMost (drop infoMost kept) (omega (arith, length-drop infoMost kept));
+      last = inl refl;
       decoder = possible-kept .0;
       running = record { position = ready-cycle (builtIn which) (built-in-stands which); plan = omega arith; checks = built-in-stands which; zero = λ _. refl };
     })

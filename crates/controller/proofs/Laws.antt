@@ -1,11 +1,12 @@
 -- What follows from the definitions of specs/: one law for each way through.
 use Prim.Native.Nat.{ℕ, _+_, _≤_, _<_}
-use mathlib.Core.Path.{_≡_, ap, _∙_}
+use mathlib.Core.Path.{_≡_, refl, ap, _∙_}
 use mathlib.Core.Bool.{true, false}
 use mathlib.Core.List.{List, []}
 use borrow.Author.Tests.{eq-eqb, ne-eqb, lt-ltb, le-ltb, le-leb, lt-leb}
 use lib.ListN.{length}
 use Rattle.octets.specs.Refusal as refusal
+use Rattle.octets.proofs.Laws.{pick-by}
 use Rattle.frame.specs.Decoder.{Taken, takenOf, idledOf}
 use Rattle.frame.specs.Dropped.{Counted, countedOf, idleCounted}
 use Rattle.frame.specs.Run.{Outcome, outcomeOf}
@@ -15,7 +16,8 @@ use Rattle.controller.specs.declared.Running.{Running}
 use Rattle.controller.specs.declared.Event.the-variants as event
 use Rattle.controller.specs.State.{State, outputLen, soundOf, readyIn, planRecord, startedAt}
 use Rattle.controller.specs.Handling.{handlingOf}
-use Rattle.controller.specs.Replies.{refusedCall, quiet, acks, forUs, isAnswer, unchanged, leaves, handledOf, messageOf, broughtOf, madeOf, doneOf, octetOf, idledAs, lineIdleOf}
+use Rattle.controller.specs.Memory.{isRepeat, remembering}
+use Rattle.controller.specs.Replies.{refusedCall, quiet, forUs, isAnswer, ResultAndBook, unchanged, leaves, handledOf, ackedOf, acceptedOf, messageOf, broughtOf, memoryOf, memoryThen, madeOf, doneOf, octetOf, idledAs, lineIdleOf}
 use Rattle.frame.proofs.Counting.{counted-taken, idle-taken}
 use Rattle.controller.specs.Seconds.{pickedOf, movedOn, noSecond, secondShown, secondOf}
 
@@ -61,7 +63,7 @@ module _ (s : State) (book out : List ℕ) (b : ℕ) where
 
   -- what the octet ended decides what the call makes of the state
   pub octet-brings : soundOf s ≡ true → length book ≡ bookLen → outputLen ≤ length out → {o : Outcome} → outcomeOf (takenOf (s .decoder) b) ≡ o
-      → octetOf s book out b ≡ madeOf s (takes s b) (broughtOf o s book) out
+      → octetOf s book out b ≡ madeOf s (takes s b) (memoryThen o s) (broughtOf o s book) out
   unfolding doneOf
   octet-brings h n l e = octet-done h n l ∙ rw e
 
@@ -72,16 +74,39 @@ module _ (s : State) (seq addr : ℕ) (info book : List ℕ) where
   unfolding messageOf
   message-other f = rw f
 
-  module _ (f : forUs (s .own) addr ≡ true) where
-    pub message-answer : isAnswer (codeIn info) ≡ true
-        → messageOf s seq addr info book ≡ leaves book (unchanged s refusal.none event.Nothing (acks (s .own) seq addr))
-    unfolding messageOf
-    message-answer a = rw (f, a)
+  pub memory-other : forUs (s .own) addr ≡ false → memoryOf s seq addr info ≡ s .memory
+  unfolding memoryOf
+  memory-other f = rw f
 
-    pub message-handled : isAnswer (codeIn info) ≡ false
-        → messageOf s seq addr info book ≡ handledOf s book seq addr (handlingOf s book info)
+  pub accepted-answer : isAnswer (codeIn info) ≡ true → acceptedOf s seq addr info book ≡ ackedOf s seq addr book
+  unfolding acceptedOf
+  accepted-answer a = rw a
+
+  pub accepted-handled : isAnswer (codeIn info) ≡ false → acceptedOf s seq addr info book ≡ handledOf s book seq addr (handlingOf s book info)
+  unfolding acceptedOf
+  accepted-handled a = rw a
+
+  module _ (f : forUs (s .own) addr ≡ true) where
+    pub message-repeat : isRepeat (s .memory) seq info ≡ true → messageOf s seq addr info book ≡ ackedOf s seq addr book
     unfolding messageOf
-    message-handled a = rw (f, a)
+    message-repeat r = rw (f, r)
+
+    pub memory-repeat : isRepeat (s .memory) seq info ≡ true → memoryOf s seq addr info ≡ s .memory
+    unfolding memoryOf
+    memory-repeat r = rw (f, r)
+
+    pub message-new : isRepeat (s .memory) seq info ≡ false → messageOf s seq addr info book ≡ acceptedOf s seq addr info book
+    unfolding messageOf
+    message-new r = rw (f, r)
+
+    pub memory-new : isRepeat (s .memory) seq info ≡ false → memoryOf s seq addr info ≡ remembering (s .memory) seq info
+    unfolding memoryOf
+    memory-new r = rw (f, r)
+
+    -- 0F 80 and 0F 81 get the ACK, sent again or not
+    pub message-answer : isAnswer (codeIn info) ≡ true → messageOf s seq addr info book ≡ ackedOf s seq addr book
+    unfolding messageOf acceptedOf
+    message-answer a = rw (f, a) (pick-by (λ (w : ResultAndBook). w ≡ ackedOf s seq addr book) (isRepeat (s .memory) seq info) (λ _. refl) (λ _. refl))
 
 -- The line-idle call
 

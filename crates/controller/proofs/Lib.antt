@@ -1,6 +1,7 @@
 pub mod Laws
 pub mod Judging
 pub mod Replying
+pub mod Remembering
 pub mod Keeping
 pub mod Answering
 pub mod Serving
@@ -8,5 +9,6 @@ pub mod AsWritten
 pub mod Latest
 pub mod Run
 pub mod OurSeq
+pub mod Repeats
 pub mod Dropped
 pub mod Table

@@ -5,12 +5,13 @@ use mathlib.Core.Path.{_≡_, refl, sym, ap, subst, _∙_}
 use mathlib.Core.Bool.{Bool, true, false}
 use mathlib.Core.Logic.{_⊎_, inl, inr}
 use mathlib.Core.List.{List, [], _∷_, _++_, append-assoc}
+use mathlib.Core.Option.{none}
 use native.Mathlib.Omega.{arith}
 use lib.Dec.{eqb}
 use lib.ListN.{length, take, replicate}
 use Rattle.octets.specs.Choice.{pick}
 use Rattle.octets.specs.Octet.{Octets}
-use Rattle.octets.proofs.Laws.{pick-by}
+use Rattle.octets.proofs.Laws.{pick-by, octets-take, take-sets}
 use Rattle.frame.specs.declared.Kind.{Kind}
 use Rattle.frame.specs.declared.Kind.the-variants.{Message, Ack, Nak}
 use Rattle.frame.specs.declared.decoder.Found.{Found}
@@ -24,8 +25,9 @@ use Rattle.frame.proofs.Held.{HoldsOctets, OutcomeOctets, taken-octets, idled-o
 use Rattle.message.specs.Reader.{codeIn}
 use Rattle.record.specs.Record.{bookLen}
 use Rattle.plan.proofs.Cases.{octets-built-in}
+use Rattle.controller.specs.Memory.{isRepeat}
 use Rattle.controller.specs.State.{State, all, outputLen, freshOf, soundOf}
-use Rattle.controller.specs.Replies.{Answer, Call, CanFind, ResultAndBook, sent, errOf, naks, acks, forUs, isAnswer, repliedOf, messageOf, broughtOf, octetOf, lineIdleOf}
+use Rattle.controller.specs.Replies.{Answer, Call, CanFind, ResultAndBook, sent, errOf, naks, acks, forUs, isAnswer, repliedOf, acceptedOf, messageOf, broughtOf, octetOf, lineIdleOf}
 use Rattle.controller.specs.Seconds.{startedOf, secondOf}
 use Rattle.controller.specs.Demand1.{OctetRefused}
 use Rattle.controller.specs.Demand2.{onLine}
@@ -35,7 +37,7 @@ use Rattle.controller.proofs.Laws.{takes, octet-brings, idle-done}
 use Rattle.controller.proofs.Judging.{RunningParts, sound-parts}
 use Rattle.controller.proofs.Replying.{can-find}
 use Rattle.controller.proofs.AsWritten.{GoodInfo, reply-good}
-use Rattle.controller.proofs.Answering.{octets-answered, octet-refused, octet-right, written-take}
+use Rattle.controller.proofs.Answering.{octets-answered, octet-refused, octet-right}
 use Rattle.controller.proofs.Keeping.{done-left, by-octet, idle-left, second-left, fresh-sound}
 use Rattle.controller.proofs.Latest.{Kept, kept-next}
 
@@ -127,11 +129,12 @@ module _ (n : ℕ) (s : State) (hw : s .own < 65535) (e : s .seq ≡ n % 256) wh
     Sent w = Sends n (w .result .frames) (w .result .seq)
 
     message-sent : (seq addr : ℕ) (info : List ℕ) → seq < 256 → Octets info → Sent (messageOf s seq addr info book)
-    unfolding messageOf repliedOf
+    unfolding messageOf acceptedOf repliedOf
     message-sent seq addr info h o =
         pick-by Sent (forUs (s .own) addr)
+        (λ _. pick-by Sent (isRepeat (s .memory) seq info) (λ _. ack-sent seq addr h)
         (λ _. pick-by Sent (isAnswer (codeIn info)) (λ _. ack-sent seq addr h)
-        (λ _. reply-sent (eqb addr (s .own)) seq _ h (reply-good s book info hb ob oc (p .checks) (p .plan) o)))
+        (λ _. reply-sent (eqb addr (s .own)) seq _ h (reply-good s book info hb ob oc (p .checks) (p .plan) o))))
         (λ _. none-sent)
 
     brought-sent : (f : Found) (kept : List ℕ) → CanFind f → OutcomeOctets (foundMeans f kept) → Sent (broughtOf (foundMeans f kept) s book)
@@ -174,7 +177,7 @@ module _ (own : ℕ) (hw : own < 65535) where
           let v =
           brought-sent n s (rw (a .kept .own) hw) (a .seq) (p .running) (a .kept .octets) book (x .1) o (t .found) (t .decoder .info)
           (can-find (s .decoder) b (p .decoder)) (taken-octets (s .decoder) b l (a .octets) .1) in
-          rw (octet-brings s book out b (x .0) (x .1) (x .2) refl) (record { frames = fs; written = written-take (sent fs) out fits ∙ sent-line fs; sends = v })
+          rw (octet-brings s book out b (x .0) (x .1) (x .2) refl) (record { frames = fs; written = take-sets (sent fs) out fits ∙ sent-line fs; sends = v })
 
   call-sends : (n : ℕ) (s : State) (e : HostCall) → Able n s → CallSends n (writes s e) (next s e .seq)
   call-sends n s (octet b l book out o) a = octet-sends n s b l book out o a
@@ -215,9 +218,9 @@ unfolding startedOf freshOf freshHead
 our-seq-counts which own hw kept each long es =
     let n : own ≡ all → ⊥ = λ e. omega arith in
     let fresh : Able own hw 0 (freshOf which own kept) = record {
-      heard = record { decoder = freshDecoder kept; latest = 0 };
-      kept = record { own = refl; sound = fresh-sound which own kept n long; octets = octets-built-in which; decoder = refl; latest = refl };
-      octets = record { seq = omega arith; info = each };
+      heard = record { decoder = freshDecoder (take 256 kept); last = none; latest = 0 };
+      kept = record { own = refl; sound = fresh-sound which own kept n long; octets = octets-built-in which; decoder = refl; last = refl; latest = refl };
+      octets = record { seq = omega arith; info = octets-take 256 kept each };
       seq = refl;
     } in
     let r = run-sends own hw 0 (freshOf which own kept) es fresh in

@@ -12,7 +12,6 @@ use lib.ListN.{length, drop, length-map, length-drop, length-append, drop-of-len
 use lib.Seq.{drop-cons}
 use Rattle.octets.specs.Octet.{Octets}
 use Rattle.octets.proofs.Laws.{octets-part}
-use Rattle.frame.specs.Frame.{infoMost}
 use Rattle.record.specs.Record.{recordLen, bookLen, ready, cycleOf, Ready}
 use Rattle.checks.specs.Standing.{standingOf, Stands}
 use Rattle.plan.specs.declared.Which.{Which}
@@ -30,7 +29,7 @@ use Rattle.cycles.proofs.Laws.{answers-append}
 use Rattle.cycles.proofs.Run as cycles-run
 use Rattle.cycles.proofs.Window.{window}
 use Rattle.controller.specs.declared.Running.{Running}
-use Rattle.controller.specs.State.{State, all, freshOf, soundOf, readyIn}
+use Rattle.controller.specs.State.{State, keptLen, all, freshOf, soundOf, readyIn}
 use Rattle.controller.specs.Replies.{octetOf, lineIdleOf}
 use Rattle.controller.specs.Seconds.{Shown, startedOf, pickedOf, noSecond, secondOf}
 use Rattle.controller.specs.Demand3.{HostCall, octet, lineIdle, second, next, goesOn, run, WhichKept, PlanZeroThroughout, Second, secondOfPlan, secondAccepted, says, saysOn, SecondsInARow, seconds, latestRun, cycleOfPlan, Chosen, OneChoice, SecondsLeave, CyclesInRun, unfinished, whole, RunsWholeCycles, HoldsWhole, AnyWindow, NoSecond, SetsNeverAlter, leftOf, crossing, CrossingCycles, CrossingHolds}
@@ -134,6 +133,7 @@ seconds-leave s book h hb o =
       requested = ap (λ (t : State). t .requested) e;
       decoder = ap (λ (t : State). t .decoder) e;
       dropped = ap (λ (t : State). t .dropped) e;
+      memory = ap (λ (t : State). t .memory) e;
       which = second-which s book;
       onward = λ l. m ∙ moved-within u (s .requested) book l;
       over = λ l. (
@@ -177,7 +177,7 @@ module _ (which : Which) (own : ℕ) (kept : List ℕ) where
 
 -- The ways that an event goes
 
-module _ (which : Which) (own : ℕ) (kept : List ℕ) (n : own ≡ all → ⊥) (long : length kept ≡ infoMost) where
+module _ (which : Which) (own : ℕ) (kept : List ℕ) (n : own ≡ all → ⊥) (long : keptLen ≤ length kept) where
   abbrev running : List HostCall → Running
   running past = run which own kept past .running
 
@@ -321,7 +321,7 @@ pub crossing-holds : CrossingHolds
 unfolding startedOf freshOf
 crossing-holds which own kept n long es = window 900 (crossing which own kept) (λ past. Unit) (ways which own kept n long) (λ past _. most which own kept n long past) [] tt refl es
 
-holds-whole : (which : Which) (own : ℕ) (kept : List ℕ) → (own ≡ all → ⊥) → length kept ≡ infoMost → (es : List HostCall) (n : ℕ) → HoldsCycle (crossing which own kept) [] es n 900 1799 → HoldsWhole which own kept es n
+holds-whole : (which : Which) (own : ℕ) (kept : List ℕ) → (own ≡ all → ⊥) → keptLen ≤ length kept → (es : List HostCall) (n : ℕ) → HoldsCycle (crossing which own kept) [] es n 900 1799 → HoldsWhole which own kept es n
 holds-whole which own kept a long es n h =
     let M = crossing which own kept in
     let start = after M [] (h .before) in
@@ -355,7 +355,7 @@ any-window which own kept a long es n l = holds-whole which own kept a long es n
 -- Sets
 
 -- what a second shows comes of the running plan alone
-same-shown : (s t : State) (book : List ℕ) → soundOf s ≡ true → soundOf t ≡ true → s .running ≡ t .running
+pub same-shown : (s t : State) (book : List ℕ) → soundOf s ≡ true → soundOf t ≡ true → s .running ≡ t .running
     → secondAccepted (secondOf s book) ≡ secondAccepted (secondOf t book)
 unfolding noSecond
 same-shown s t book h g e =

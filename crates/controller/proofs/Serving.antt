@@ -12,10 +12,10 @@ use lib.ListN.{length}
 use lib.Seq.{sets}
 use Rattle.octets.specs.Octet.{Octets}
 use Rattle.octets.specs.Refusal as refusal
-use Rattle.octets.proofs.Laws.{pick-by}
+use Rattle.octets.proofs.Laws.{pick-by, take-sets}
 use Rattle.frame.specs.declared.Kind.{Kind}
 use Rattle.frame.specs.declared.Kind.the-variants.{Message, Ack, Nak}
-use Rattle.frame.specs.Frame.{Frame, message, ack, nak, infoMost}
+use Rattle.frame.specs.Frame.{Frame, message, ack, nak, infoLeast, infoMost}
 use Rattle.frame.specs.Decoder.{takenOf}
 use Rattle.frame.specs.Dropped.{Counted}
 use Rattle.frame.specs.Run.{Outcome, sound, outcomeOf}
@@ -35,16 +35,17 @@ use Rattle.lamps.proofs.Cycle.{cycle-long}
 use Rattle.controller.specs.declared.Event.the-variants as event
 use Rattle.controller.specs.declared.Reply.{Reply}
 use Rattle.controller.specs.declared.Reply.the-variants as reply
+use Rattle.controller.specs.Memory.{Memory, isRepeat}
 use Rattle.controller.specs.State.{State, all, outputLen, planRecord, soundOf}
 use Rattle.controller.specs.Handling as handling
 use Rattle.controller.specs.Handling.{Handling, carriedOutCode, refusedCode, runCode, queryTimesCode, queryPlanCode, queryRunningCode, replyInfo, setAs, runAs, queryTimesAs, queryPlanAs, handlingOf}
-use Rattle.controller.specs.Replies.{Call, sent, errOf, naks, forUs, isAnswer, repliesOf, ResultAndBook, repliedOf, handledOf, messageOf, broughtOf, madeOf, octetOf}
-use Rattle.controller.specs.Demand2.{Wrote, Err, IsAnswer, RecordOfPlan, RepliesSo, Replies, Answers, CarriedOut, Reported, Refused, HandledSo, Handles, SecondsShow}
+use Rattle.controller.specs.Replies.{Call, sent, errOf, naks, forUs, isAnswer, repliesOf, ResultAndBook, repliedOf, handledOf, ackedOf, acceptedOf, messageOf, broughtOf, memoryOf, memoryThen, madeOf, octetOf}
+use Rattle.controller.specs.Demand2.{Repeats, Wrote, Err, IsAnswer, RecordOfPlan, RepliesSo, Replies, Answers, CarriedOut, Reported, Refused, HandledSo, Handles, SecondsShow}
 use Rattle.controller.proofs.Judging.{sound-parts, record-octets}
 use Rattle.controller.proofs.Keeping.{second-left}
-use Rattle.controller.proofs.Laws.{takes, octet-brings, message-other, message-answer, message-handled, second-done}
+use Rattle.controller.proofs.Laws.{takes, octet-brings, message-other, message-repeat, message-new, message-answer, accepted-handled, memory-other, memory-repeat, memory-new, second-done}
+use Rattle.controller.proofs.Remembering.{OutcomeFits, outcome-fits, is-repeat, repeat-is, no-repeat, remembers}
 use Rattle.controller.proofs.Replying.{reply-fits, nak-fits, ack-fits, sent-most}
-use Rattle.controller.proofs.Answering.{written-take}
 
 -- Whom a message is for
 
@@ -59,10 +60,12 @@ module _ (own addr : ℕ) where
 -- whatever a message does, it is no event
 message-event : (s : State) (seq addr : ℕ) (info book : List ℕ)
     → messageOf s seq addr info book .result .event ≡ event.Nothing
-unfolding messageOf repliedOf
+unfolding messageOf acceptedOf repliedOf
 message-event s seq addr info book =
     let P : ResultAndBook → Type 0 = λ w. w .result .event ≡ event.Nothing in
-    pick-by P (forUs (s .own) addr) (λ _. pick-by P (isAnswer (codeIn info)) (λ _. refl) (λ _. refl)) (λ _. refl)
+    pick-by P (forUs (s .own) addr)
+    (λ _. pick-by P (isRepeat (s .memory) seq info) (λ _. refl) (λ _. pick-by P (isAnswer (codeIn info)) (λ _. refl) (λ _. refl)))
+    (λ _. refl)
 
 -- 0F 80 and 0F 81
 is-answer : (info : List ℕ) → IsAnswer info → isAnswer (codeIn info) ≡ true
@@ -81,7 +84,7 @@ err-so Err.len = refl
 
 wrote : {w : Call} (out : List ℕ) (fs : List Frame) → outputLen ≤ length out → length (sent fs) ≤ outputLen
     → w .answer .told .count ≡ length (sent fs) → w .out ≡ sets out 0 (sent fs) → Wrote w fs
-wrote out fs ho h c e = record { count = c; octets = rw (c, e) (written-take (sent fs) out (omega arith)) }
+wrote out fs ho h c e = record { count = c; octets = rw (c, e) (take-sets (sent fs) out (omega arith)) }
 
 wrote-none : {w : Call} → w .answer .told .count ≡ 0 → Wrote w []
 wrote-none c = record { count = c; octets = rw c }
@@ -95,9 +98,9 @@ pub record Served (s : State) (before : List ℕ) (seq addr : ℕ) (h : Handling
   pub reply : addr ≡ s .own → Wrote w (repliesOf seq (s .seq) (s .own) (replyInfo s before (h .handled .reply))) × (w .answer .state .seq ≡ (s .seq + 1) % 256)
   pub silent : (addr ≡ s .own → ⊥) → Wrote w [] × (w .answer .state .seq ≡ s .seq)
 
-module _ (s : State) (c : Counted) (before : List ℕ) (seq addr : ℕ) (h : Handling) (out : List ℕ) (ho : outputLen ≤ length out) where
+module _ (s : State) (c : Counted) (m : Memory) (before : List ℕ) (seq addr : ℕ) (h : Handling) (out : List ℕ) (ho : outputLen ≤ length out) where
   abbrev made : Call
-  made = madeOf s c (handledOf s before seq addr h) out
+  made = madeOf s c m (handledOf s before seq addr h) out
 
   served : length (replyInfo s before (h .handled .reply)) ≤ infoMost → Served s before seq addr h made
   unfolding repliedOf
@@ -125,17 +128,43 @@ module _ (s : State) (book out : List ℕ) (b : ℕ) (h : soundOf s ≡ true) (h
   abbrev Ends : Outcome → Type 0
   Ends o = outcomeOf (takenOf (s .decoder) b) ≡ o
 
-  brings : {o : Outcome} → Ends o → w ≡ madeOf s t (broughtOf o s book) out
+  brings : {o : Outcome} → Ends o → w ≡ madeOf s t (memoryThen o s) (broughtOf o s book) out
   brings e = octet-brings s book out b h hb ho e
 
   other : all ≡ s .own → ⊥
   other e = sound-parts s h .own (sym e)
 
+  -- INFO of the frame is of a length that INFO can have
+  long-enough : {seq addr : ℕ} {info : List ℕ} → Ends (sound (message seq addr info)) → (infoLeast ≤ length info) × (length info ≤ infoMost)
+  long-enough e = subst OutcomeFits e (outcome-fits s b h)
+
+  pub new : {seq : ℕ} {info : List ℕ} → (Repeats (s .memory) seq info → ⊥) → isRepeat (s .memory) seq info ≡ false
+  new {seq} {info} n = let p = sound-parts s h in no-repeat (s .memory) seq info (p .lastInfo) (p .last) n
+
   pub message-served : (seq addr : ℕ) (info : List ℕ) → Ends (sound (message seq addr info)) → (addr ≡ s .own) ⊎ (addr ≡ all)
-      → isAnswer (codeIn info) ≡ false → Served s book seq addr (handlingOf s book info) w
-  message-served seq addr info e a n =
-      rw (brings e, message-handled s seq addr info book (for-us (s .own) addr a) n)
-      (served s t book seq addr (handlingOf s book info) out ho (reply-fits s book info (sound-parts s h .running .checks)))
+      → isRepeat (s .memory) seq info ≡ false → isAnswer (codeIn info) ≡ false → Served s book seq addr (handlingOf s book info) w
+  message-served seq addr info e a r n =
+      rw (brings e, message-new s seq addr info book (for-us (s .own) addr a) r, accepted-handled s seq addr info book n)
+      (served s t (memoryOf s seq addr info) book seq addr (handlingOf s book info) out ho (reply-fits s book info (sound-parts s h .running .checks)))
+
+  -- a repeat, and what is remembered after it
+  repeat-acked : {seq addr : ℕ} {info : List ℕ} → Ends (sound (message seq addr info)) → (addr ≡ s .own) ⊎ (addr ≡ all) → isRepeat (s .memory) seq info ≡ true
+      → w ≡ madeOf s t (s .memory) (ackedOf s seq addr book) out
+  repeat-acked {seq} {addr} {info} e a r =
+      let f = for-us (s .own) addr a in
+      brings e ∙ rw (message-repeat s seq addr info book f r, memory-repeat s seq addr info book f r)
+
+  -- a frame for us or for all is remembered then
+  frame-remembered : (seq addr : ℕ) (info : List ℕ) → Ends (sound (message seq addr info)) → (addr ≡ s .own) ⊎ (addr ≡ all) → Repeats (w .answer .state .memory) seq info
+  frame-remembered seq addr info e a = rw (brings e) (by (isRepeat (s .memory) seq info) refl)
+    where
+      by : (x : Bool) → isRepeat (s .memory) seq info ≡ x → Repeats (memoryOf s seq addr info) seq info
+      by true r =
+          let p = sound-parts s h in
+          rw (memory-repeat s seq addr info book (for-us (s .own) addr a) r) (repeat-is (s .memory) seq info (p .lastInfo) (p .last) r)
+      by false r =
+          let l = long-enough e in
+          rw (memory-new s seq addr info book (for-us (s .own) addr a) r) (remembers (s .memory) seq info (sound-parts s h .lastInfo) (l .0) (l .1))
 
   no-naks : (n : ℕ) (k : Kind) (seq addr : ℕ) → (k ≡ Message → ⊥) ⊎ (addr ≡ s .own → ⊥) → naks k (s .own) n seq addr ≡ []
   no-naks n Message seq addr (inl g) = absurd (g refl)
@@ -143,9 +172,11 @@ module _ (s : State) (book out : List ℕ) (b : ℕ) (h : soundOf s ≡ true) (h
   no-naks n Ack seq addr g = refl
   no-naks n Nak seq addr g = refl
 
-  for-all : (seq : ℕ) (info : List ℕ) → Ends (sound (message seq all info)) → (t : Bool) → isAnswer (codeIn info) ≡ t → Wrote w [] × (w .answer .state .seq ≡ s .seq)
-  for-all seq info e true a = rw (brings e, message-answer s seq all info book (for-us (s .own) all (inr refl)) a, ne-eqb all (s .own) other) (wrote-none refl, refl)
-  for-all seq info e false a = message-served seq all info e (inr refl) a .silent other
+  for-all : (seq : ℕ) (info : List ℕ) → Ends (sound (message seq all info)) → (r t : Bool) → isRepeat (s .memory) seq info ≡ r → isAnswer (codeIn info) ≡ t
+      → Wrote w [] × (w .answer .state .seq ≡ s .seq)
+  for-all seq info e true t r a = rw (repeat-acked e (inr refl) r, ne-eqb all (s .own) other) (wrote-none refl, refl)
+  for-all seq info e false true r a = rw (brings e, message-answer s seq all info book (for-us (s .own) all (inr refl)) a, ne-eqb all (s .own) other) (wrote-none refl, refl)
+  for-all seq info e false false r a = message-served seq all info e (inr refl) r a .silent other
 
   octet-replies : RepliesSo s book b (outcomeOf (takenOf (s .decoder) b)) w
   octet-replies =
@@ -157,12 +188,21 @@ module _ (s : State) (book out : List ℕ) (b : ℕ) (h : soundOf s ≡ true) (h
         ackOnly = λ seq info e a.
             rw (brings e, message-answer s seq (s .own) info book (for-us (s .own) (s .own) (inl refl)) (is-answer info a), eq-eqb (s .own) (s .own) refl)
             (wrote out (ack seq (s .own) ∷ []) ho (ack-fits seq (s .own)) refl refl, refl, record { state = refl; book = refl; parameter = refl });
-        replied = λ seq info e a.
-            let v = message-served seq (s .own) info e (inl refl) (no-answer info a) .reply refl in
+        replied = λ seq info e a n.
+            let v = message-served seq (s .own) info e (inl refl) (new n) (no-answer info a) .reply refl in
             (replyInfo s book (handlingOf s book info .handled .reply), v .0, v .1);
-        forAll = λ seq info e. for-all seq info e (isAnswer (codeIn info)) refl;
+        forAll = λ seq info e. for-all seq info e (isRepeat (s .memory) seq info) (isAnswer (codeIn info)) refl refl;
         answerForAll = λ seq info e a. rw (brings e, message-answer s seq all info book (for-us (s .own) all (inr refl)) (is-answer info a)) (refl, record { state = refl; book = refl; parameter = refl });
-        dropped = λ seq addr info e n m. rw (brings e, message-other s seq addr info book (for-another (s .own) addr n m)) (wrote-none refl, refl, record { state = refl; book = refl; parameter = refl });
+        dropped = λ seq addr info e n m.
+            let f = for-another (s .own) addr n m in
+            rw (brings e, message-other s seq addr info book f, memory-other s seq addr info book f) (wrote-none refl, refl, record { state = refl; book = refl; parameter = refl });
+        repeated = λ seq info e r.
+            rw (repeat-acked e (inl refl) (is-repeat (s .memory) seq info (long-enough e .0) r), eq-eqb (s .own) (s .own) refl)
+            (wrote out (ack seq (s .own) ∷ []) ho (ack-fits seq (s .own)) refl refl, refl, record { state = refl; book = refl; parameter = refl });
+        repeatedForAll = λ seq info e r.
+            rw (repeat-acked e (inr refl) (is-repeat (s .memory) seq info (long-enough e .0) r), ne-eqb all (s .own) other)
+            (wrote-none refl, refl, record { state = refl; book = refl; parameter = refl });
+        remembered = frame-remembered;
         noEvent = λ seq addr info e. rw (brings e, message-event s seq addr info book);
         ackEvent = λ seq e. rw (brings e, eq-eqb (s .own) (s .own) refl);
         nakEvent = λ seq err e. rw (brings e, eq-eqb (s .own) (s .own) refl);
@@ -358,5 +398,5 @@ module _ (s : State) (seq addr : ℕ) (book info : List ℕ) (w : Call) where
         }
 
 pub handles : Handles
-handles s book out b seq addr info h hb ho ob oc e a n =
-    handled-so s seq addr book info (octetOf s book out b) hb ob (message-served s book out b h hb ho seq addr info e a (no-answer info n))
+handles s book out b seq addr info h hb ho ob oc e a n r =
+    handled-so s seq addr book info (octetOf s book out b) hb ob (message-served s book out b h hb ho seq addr info e a (new s book out b h hb ho r) (no-answer info n))

@@ -8,6 +8,7 @@ use lib.ListN.{replicate, length-replicate}
 use Rattle.octets.specs.ExclusiveOr.{xor, exclusiveOr}
 use Rattle.octets.specs.First.{firstOf}
 use Rattle.octets.specs.Octet.{Octets}
+use Rattle.octets.specs.Same.{same}
 use Rattle.diagram.specs.Rows as table
 use Rattle.diagram.specs.Table as diagram
 use Rattle.frame.specs.Frame.{frontOf, bodyOf, sentOf, cksOf, twice, doubled, written}
@@ -22,9 +23,10 @@ use Rattle.plan.specs.declared.Which.the-variants.{New, Old}
 use Rattle.plan.specs.BuiltIn.{padded, builtIn}
 use Rattle.plan.specs.Reporting.{planInfo}
 use Rattle.lamps.specs.Rows.{phaseTable, secondsOf}
+use Rattle.controller.specs.Memory.{isRepeat, remembering}
 use Rattle.controller.specs.State.{State, outputLen, freshOf, soundOf}
 use Rattle.controller.specs.Handling.{replyInfo, runAs, handlingOf}
-use Rattle.controller.specs.Replies.{repliedOf, messageOf, doneOf, octetOf}
+use Rattle.controller.specs.Replies.{repliedOf, acceptedOf, messageOf, memoryOf, doneOf, octetOf}
 use Rattle.controller.specs.Table.{emptyOut, writtenBy, cameOut, stateAfter, p1, p4, stepRow, rows, due, OneTable}
 use Rattle.controller.proofs.Laws.{takes, octet-done}
 use Rattle.controller.proofs.Keeping.{sound-kept, fresh-sound}
@@ -53,10 +55,10 @@ all-done s (b ∷ bs) o h =
 
 module _ (which : Which) where
   abbrev start : State
-  start = freshOf which 0x0001 (replicate 256 0)
+  start = freshOf which 0x0001 (replicate 512 0)
 
   after-p1 : AllDone start p1
-  after-p1 = all-done start p1 (omega arith) (fresh-sound which 0x0001 (replicate 256 0) (λ e. omega arith) (length-replicate {A = ℕ} 256 0))
+  after-p1 = all-done start p1 (omega arith) (fresh-sound which 0x0001 (replicate 512 0) (λ e. omega arith) (omega (arith, length-replicate {A = ℕ} 512 0)))
 
   after-p4 : AllDone (stateAfter start p1) p4
   after-p4 = all-done (stateAfter start p1) p4 (omega arith) (after-p1 .sound)
@@ -74,7 +76,7 @@ rowsDone which =
     ∷ []
 
 computed : rowsDone New ++ rowsDone Old ≡ due
-unfolding xor exclusiveOr firstOf diagram.find table.directory diagram.diagramOf table.lampRows diagram.rowNumber diagram.lampRowOf frontOf bodyOf sentOf cksOf twice doubled written freshHead possibleOf frontIn cksIn stepOf takenOf layouts layoutAt known numberOf rowsAt layoutRows zeros placed firstOut noMessage notRead partOf rangedOf readPartOf readOf timesDisagree planDisagree ranged timesStand planStands readyStands allZero standingOf padded builtIn planInfo phaseTable secondsOf freshOf replyInfo runAs handlingOf repliedOf messageOf doneOf doneWith due
+unfolding xor exclusiveOr firstOf same isRepeat remembering diagram.find table.directory diagram.diagramOf table.lampRows diagram.rowNumber diagram.lampRowOf frontOf bodyOf sentOf cksOf twice doubled written freshHead possibleOf frontIn cksIn stepOf takenOf layouts layoutAt known numberOf rowsAt layoutRows zeros placed firstOut noMessage notRead partOf rangedOf readPartOf readOf timesDisagree planDisagree ranged timesStand planStands readyStands allZero standingOf padded builtIn planInfo phaseTable secondsOf freshOf replyInfo runAs handlingOf repliedOf acceptedOf messageOf memoryOf doneOf doneWith due
 computed = refl
 
 pub one-table : OneTable

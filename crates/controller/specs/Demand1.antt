@@ -34,12 +34,15 @@ pub record RunningSound (u : Running) : Type 0 where
   pub checks : Ready (u .copy)
   pub zero : u .plan ≡ 0 → u .copy ≡ builtIn (u .which)
 
--- nor "own address FFFF, requested plan over 48, .. impossible decoder place"; its decoder has its 256 octets of INFO
+-- nor "own address FFFF, requested plan over 48, .. impossible decoder place"; its decoder has its 256 octets of INFO; 02, E4: so has what it
+-- remembers, which is no frame, or one whose INFO is 2 to 256 long
 pub record Sound (s : State) : Type 0 where
   pub own : s .own ≡ 0xFFFF → ⊥
   pub requested : s .requested ≤ 48
   pub decoder : possibleOf (s .decoder .head) ≡ true
   pub info : length (s .decoder .info) ≡ 256
+  pub last : (s .memory .last .len ≡ 0) ⊎ ((2 ≤ s .memory .last .len) × (s .memory .last .len ≤ 256))
+  pub lastInfo : length (s .memory .info) ≡ 256
   pub running : RunningSound (s .running)
 
 pub record SoundJudged (s : State) : Type 0 where
@@ -112,7 +115,7 @@ SecondsAnswered = (s : State) (book : List ℕ) → SecondAnswered s book
 -- Line-idle calls
 
 -- "A line-idle call .. returns the decoder to idle and changes nothing else", in the decoder too; 02, E5: but for the octets that are counted, on which
--- `Dropped` has its own word
+-- `Dropped` has its own word; E4: "line-idle keeps the memory"
 abbrev pub AtIdle : State → State → Type 0
 AtIdle s t =
     let h = s .decoder .head in
@@ -125,6 +128,7 @@ AtIdle s t =
         info = s .decoder .info;
       };
       dropped = t .dropped;
+      memory = s .memory;
       running = s .running;
     }
 
@@ -142,16 +146,17 @@ IdlesAnswered = (s : State) → IdleAnswered s
 
 -- The fresh start
 
--- "A fresh start runs and requests plan 0 at position 0"; "Our SEQ starts at 0"; its decoder is idle, whatever its octets of INFO hold, and no octet
--- is dropped; 02, E1: "The state keeps which one", and plan 0 is that one
+-- "A fresh start runs and requests plan 0 at position 0"; "Our SEQ starts at 0"; its decoder is idle, and no octet is dropped; 02, E1: "The state
+-- keeps which one", and plan 0 is that one; E4: "A fresh start remembers none"; whatever the octets kept hold
 abbrev pub FreshAt : Which → ℕ → List ℕ → State → Type 0
 FreshAt which own kept t =
     t ≡ record {
       own = own;
       seq = 0;
       requested = 0;
-      decoder = record { head = record { place = Idle; kind = Message; seq = 0; err = 0; addr = 0; len = 0; filled = 0 }; info = kept };
+      decoder = record { head = record { place = Idle; kind = Message; seq = 0; err = 0; addr = 0; len = 0; filled = 0 }; info = take 256 kept };
       dropped = 0;
+      memory = record { last = record { seq = 0; len = 0 }; info = take 256 (drop 256 kept) };
       running = record { which = which; plan = 0; position = 0; copy = builtIn which };
     }
 
@@ -161,7 +166,7 @@ pub record StartAnswered (which : Which) (own : ℕ) (kept : List ℕ) (a : Answ
   pub state : FreshAt which own kept (a .state)
   pub others : a ≡ record { state = a .state; told = record { refusal = a .told .refusal; parameter = 0; event = event.Nothing; count = 0; dropped = 0 } }
   pub refused : own ≡ 0xFFFF → (a .told .refusal ≡ 6) × (soundOf (a .state) ≡ false)
-  pub done : (own ≡ 0xFFFF → ⊥) → (a .told .refusal ≡ 0) × (length kept ≡ 256 → soundOf (a .state) ≡ true)
+  pub done : (own ≡ 0xFFFF → ⊥) → (a .told .refusal ≡ 0) × (512 ≤ length kept → soundOf (a .state) ≡ true)
   -- and what runs and listings begin with
   pub fresh : FreshAt which own kept (freshOf which own kept)
   pub started : startedOf which own kept ≡ a
@@ -199,38 +204,41 @@ SoundKept = (s : State) → SoundKeptBy s
 -- The state by parts
 
 pub record ByParts : Type 0 where
-  -- the code's struct and the octets lent make the state: each field is the struct's, and the octets of INFO are the first 256 of those lent
+  -- the code's struct and the octets lent make the state: each field is the struct's, the decoder's octets of INFO are the first 256 of those lent, and
+  -- those of the last frame accepted the next 256
   pub state : (s : Held) (kept : List ℕ) → joined s kept ≡ record {
     own = s .own;
     seq = s .seq;
     requested = s .requested;
     decoder = record { head = s .receiver .head; info = take 256 kept };
     dropped = s .receiver .dropped;
+    memory = record { last = s .last; info = take 256 (drop 256 kept) };
     running = s .running;
   }
   pub answer : (r : HeldAnswer) (kept : List ℕ) → answerWith r kept ≡ record { state = joined (r .state) kept; told = r .told }
   -- what the contract of a start says: whatever octets are kept, it answers what is due, and these stay
   pub start : (w : List ℕ → Answer) (r : HeldAnswer) → StartsWith w r → (kept : List ℕ)
-      → (joined (r .state) kept ≡ w (take 256 kept) .state) × (r .told ≡ w (take 256 kept) .told)
-  -- and that of a second: whatever 256 octets or more are kept
-  pub second : (s : Held) (book : List ℕ) (r : HeldShown) → ShowsWith s book r → (kept : List ℕ) → 256 ≤ length kept
+      → (joined (r .state) kept ≡ w kept .state) × (r .told ≡ w kept .told)
+  -- and that of a second: whatever 512 octets or more are kept
+  pub second : (s : Held) (book : List ℕ) (r : HeldShown) → ShowsWith s book r → (kept : List ℕ) → 512 ≤ length kept
       → (let w = secondOf (joined s kept) book in
       (joined (r .state) kept ≡ w .state) × (r .told ≡ w .told) × (r .plan ≡ w .plan) × (r .row ≡ w .row))
 
 abbrev pub JoinedSo : Type 0
 JoinedSo = ByParts
 
--- What the contract of the octet call says: it answers what is due, the event too, and leaves the octets of INFO, the book and the output
--- that are due; of more octets than 256 lent for INFO those beyond are as they came.
+-- What the contract of the octet call says: it answers what is due, the event too, and leaves the octets of both INFO, the book and the output
+-- that are due; of more octets lent than 512 those beyond are as they came.
 pub record LeavesSo (w : Call) (lent : List ℕ) (r : HeldAnswer) (k b o : List ℕ) : Type 0 where
   pub own : r .state .own ≡ w .answer .state .own
   pub seq : r .state .seq ≡ w .answer .state .seq
   pub requested : r .state .requested ≡ w .answer .state .requested
   pub head : r .state .receiver .head ≡ w .answer .state .decoder .head
   pub dropped : r .state .receiver .dropped ≡ w .answer .state .dropped
+  pub last : r .state .last ≡ w .answer .state .memory .last
   pub running : r .state .running ≡ w .answer .state .running
   pub told : r .told ≡ w .answer .told
-  pub info : k ≡ w .answer .state .decoder .info ++ drop 256 lent
+  pub info : k ≡ w .answer .state .decoder .info ++ (w .answer .state .memory .info ++ drop 512 lent)
   pub book : b ≡ w .book
   pub out : o ≡ w .out
 
@@ -238,7 +246,7 @@ abbrev pub CallsLeaveSo : Type 0
 CallsLeaveSo = (w : Call) (lent : List ℕ) (r : HeldAnswer) (k b o : List ℕ) → CallLeaves w lent r k b o → LeavesSo w lent r k b o
 
 -- "A refused call gives back its state and leaves book and output as they came": the struct, every octet that was lent, the book and the
--- output; fewer than 256 octets lent are refused so
+-- output; fewer than 512 octets lent are refused so
 pub record AsCame (s : Held) (lent book out : List ℕ) (r : HeldAnswer) (k b o : List ℕ) : Type 0 where
   pub state : r .state ≡ s
   pub octets : k ≡ lent
@@ -251,9 +259,9 @@ RefusedAsCame =
     → CallLeaves (octetOf (joined s lent) book out b) lent r k b′ o → AsCame s lent book out r k b′ o
 
 abbrev pub FewerRefused : Type 0
-FewerRefused = (s : Held) (lent : List ℕ) → length lent < 256 → soundOf (joined s lent) ≡ false
+FewerRefused = (s : Held) (lent : List ℕ) → length lent < 512 → soundOf (joined s lent) ≡ false
 
--- The numbers that have names: "Plan p, 1 to 48, has 80 octets", "plan book is not 3,840 octets", INFO of 256, "544 for an octet call", "FFFF is
+-- The numbers that have names: "Plan p, 1 to 48, has 80 octets", "plan book is not 3,840 octets", two INFO of 256, "544 for an octet call", "FFFF is
 -- for all"
 abbrev pub NumbersAsSaid : Type 0
-NumbersAsSaid = (recordLen ≡ 80) × (plansMost ≡ 48) × (bookLen ≡ 3840) × (keptLen ≡ 256) × (outputLen ≡ 544) × (all ≡ 0xFFFF)
+NumbersAsSaid = (recordLen ≡ 80) × (plansMost ≡ 48) × (bookLen ≡ 3840) × (keptLen ≡ 512) × (outputLen ≡ 544) × (all ≡ 0xFFFF)

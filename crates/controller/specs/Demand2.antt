@@ -27,6 +27,7 @@ use Rattle.lamps.specs.Rows.{secondsOf, stepsOfPlan}
 use Rattle.lamps.specs.Promises.{Due}
 use Rattle.controller.specs.declared.Event.{Event}
 use Rattle.controller.specs.declared.Event.the-variants as event
+use Rattle.controller.specs.Memory.{Memory}
 use Rattle.controller.specs.State.{State, soundOf}
 use Rattle.controller.specs.Replies.{Call, octetOf}
 use Rattle.controller.specs.Seconds.{secondOf}
@@ -53,10 +54,17 @@ pub data Err : ℕ → ℕ → Type 0 where
 abbrev pub IsAnswer : List ℕ → Type 0
 IsAnswer info = (codeIn info ≡ 0x0F80) ⊎ (codeIn info ≡ 0x0F81)
 
--- nothing but the decoder, and the octets that are counted, has changed: the book is as it came, and no parameter is named
-pub record OnlyTaken (s : State) (before : List ℕ) (b : ℕ) (w : Call) : Type 0 where
+-- 02, E4: "A sound message frame whose SEQ and INFO both equal those of the last one accepted .. is a repeat": m is the memory of one with SEQ
+-- n, whose INFO is as long and has the same octets
+pub record Repeats (m : Memory) (n : ℕ) (info : List ℕ) : Type 0 where
+  pub seq : m .last .seq ≡ n
+  pub long : m .last .len ≡ length info
+  pub octets : take (length info) (m .info) ≡ info
+
+-- nothing but the decoder, and the octets that are counted, has changed, and m is remembered: the book is as it came, and no parameter is named
+pub record OnlyTaken (s : State) (m : Memory) (before : List ℕ) (b : ℕ) (w : Call) : Type 0 where
   pub state : w .answer .state
-      ≡ record { own = s .own; seq = s .seq; requested = s .requested; decoder = takenOf (s .decoder) b .decoder; dropped = w .answer .state .dropped; running = s .running }
+      ≡ record { own = s .own; seq = s .seq; requested = s .requested; decoder = takenOf (s .decoder) b .decoder; dropped = w .answer .state .dropped; memory = m; running = s .running }
   pub book : w .book ≡ before
   pub parameter : w .answer .told .parameter ≡ 0
 
@@ -72,39 +80,46 @@ Hands s fs w = eventFrames (s .own) (w .answer .told .event) ≡ fs
 
 -- an octet call that is done, by what the octet brought, `o`
 pub record RepliesSo (s : State) (book : List ℕ) (b : ℕ) (o : Outcome) (w : Call) : Type 0 where
-  pub quiet : o ≡ nothing → Wrote w [] × (w .answer .told .refusal ≡ 0) × OnlyTaken s book b w × Hands s [] w
+  pub quiet : o ≡ nothing → Wrote w [] × (w .answer .told .refusal ≡ 0) × OnlyTaken s (s .memory) book b w × Hands s [] w
   -- "Refusals 1 to 3 of a message frame write one NAK with the received SEQ, if the received ADDR is ours"
   pub nakForUs : (n err seq : ℕ) → Err n err → o ≡ refused n Message seq (s .own) → Wrote w (nak seq (s .own) err ∷ [])
   -- "Faulty ACK and NAK frames are never replied to."
   pub noNak : (n : ℕ) (k : Kind) (seq addr : ℕ) → o ≡ refused n k seq addr → ((k ≡ Message → ⊥) ⊎ (addr ≡ s .own → ⊥)) → Wrote w []
   -- "the result names the refusal for any address"
-  pub named : (n : ℕ) (k : Kind) (seq addr : ℕ) → o ≡ refused n k seq addr → (w .answer .told .refusal ≡ n) × OnlyTaken s book b w × Hands s [] w
+  pub named : (n : ℕ) (k : Kind) (seq addr : ℕ) → o ≡ refused n k seq addr → (w .answer .told .refusal ≡ n) × OnlyTaken s (s .memory) book b w × Hands s [] w
   -- "A received 0F 80 or 0F 81 of any length gets the ACK only (nothing for FFFF) and is no refusal."
   pub ackOnly : (seq : ℕ) (info : List ℕ) → o ≡ sound (message seq (s .own) info) → IsAnswer info
-      → Wrote w (ack seq (s .own) ∷ []) × (w .answer .told .refusal ≡ 0) × OnlyTaken s book b w
+      → Wrote w (ack seq (s .own) ∷ []) × (w .answer .told .refusal ≡ 0) × OnlyTaken s (w .answer .state .memory) book b w
   -- "A sound message frame for us writes an ACK with the received SEQ, then one message frame with our next SEQ .. grows by one per
-  -- message frame written, and after 255 comes 0."
-  pub replied : (seq : ℕ) (info : List ℕ) → o ≡ sound (message seq (s .own) info) → (IsAnswer info → ⊥)
+  -- message frame written, and after 255 comes 0."; 02, E4: unless it is a repeat
+  pub replied : (seq : ℕ) (info : List ℕ) → o ≡ sound (message seq (s .own) info) → (IsAnswer info → ⊥) → (Repeats (s .memory) seq info → ⊥)
       → (reply : List ℕ) × Wrote w (ack seq (s .own) ∷ message (s .seq) (s .own) reply ∷ []) × (w .answer .state .seq ≡ (s .seq + 1) % 256)
   -- "FFFF is for all: carried out, never replied to."
   pub forAll : (seq : ℕ) (info : List ℕ) → o ≡ sound (message seq 0xFFFF info) → Wrote w [] × (w .answer .state .seq ≡ s .seq)
   -- of 0F 80 and 0F 81: "(nothing for FFFF) and is no refusal"
-  pub answerForAll : (seq : ℕ) (info : List ℕ) → o ≡ sound (message seq 0xFFFF info) → IsAnswer info → (w .answer .told .refusal ≡ 0) × OnlyTaken s book b w
+  pub answerForAll : (seq : ℕ) (info : List ℕ) → o ≡ sound (message seq 0xFFFF info) → IsAnswer info → (w .answer .told .refusal ≡ 0) × OnlyTaken s (w .answer .state .memory) book b w
   -- "A sound frame for another address is dropped silently."; "Address is judged after CKS."
   pub dropped : (seq addr : ℕ) (info : List ℕ) → o ≡ sound (message seq addr info) → (addr ≡ s .own → ⊥) → (addr ≡ 0xFFFF → ⊥)
-      → Wrote w [] × (w .answer .told .refusal ≡ 0) × OnlyTaken s book b w
+      → Wrote w [] × (w .answer .told .refusal ≡ 0) × OnlyTaken s (s .memory) book b w
+  -- a repeat "gets the ACK (none for FFFF) and nothing else"
+  pub repeated : (seq : ℕ) (info : List ℕ) → o ≡ sound (message seq (s .own) info) → Repeats (s .memory) seq info
+      → Wrote w (ack seq (s .own) ∷ []) × (w .answer .told .refusal ≡ 0) × OnlyTaken s (s .memory) book b w
+  pub repeatedForAll : (seq : ℕ) (info : List ℕ) → o ≡ sound (message seq 0xFFFF info) → Repeats (s .memory) seq info
+      → Wrote w [] × (w .answer .told .refusal ≡ 0) × OnlyTaken s (s .memory) book b w
+  -- "the last one accepted (for us or FFFF, refused 10 to 14 or not)", whatever was answered: sent again it is a repeat
+  pub remembered : (seq addr : ℕ) (info : List ℕ) → o ≡ sound (message seq addr info) → (addr ≡ s .own) ⊎ (addr ≡ 0xFFFF) → Repeats (w .answer .state .memory) seq info
   -- no message is an event
   pub noEvent : (seq addr : ℕ) (info : List ℕ) → o ≡ sound (message seq addr info) → Hands s [] w
   -- "A sound ACK or NAK for us is handed to the host as an event and changes nothing; one to FFFF is dropped."
   pub ackEvent : (seq : ℕ) → o ≡ sound (ack seq (s .own)) → Hands s (ack seq (s .own) ∷ []) w
   pub nakEvent : (seq err : ℕ) → o ≡ sound (nak seq (s .own) err) → Hands s (nak seq (s .own) err ∷ []) w
-  pub ackQuiet : (seq addr : ℕ) → o ≡ sound (ack seq addr) → Wrote w [] × (w .answer .told .refusal ≡ 0) × OnlyTaken s book b w
-  pub nakQuiet : (seq addr err : ℕ) → o ≡ sound (nak seq addr err) → Wrote w [] × (w .answer .told .refusal ≡ 0) × OnlyTaken s book b w
+  pub ackQuiet : (seq addr : ℕ) → o ≡ sound (ack seq addr) → Wrote w [] × (w .answer .told .refusal ≡ 0) × OnlyTaken s (s .memory) book b w
+  pub nakQuiet : (seq addr err : ℕ) → o ≡ sound (nak seq addr err) → Wrote w [] × (w .answer .told .refusal ≡ 0) × OnlyTaken s (s .memory) book b w
   pub ackOther : (seq addr : ℕ) → o ≡ sound (ack seq addr) → (addr ≡ s .own → ⊥) → Hands s [] w
   pub nakOther : (seq addr err : ℕ) → o ≡ sound (nak seq addr err) → (addr ≡ s .own → ⊥) → Hands s [] w
   -- whatever it brought: the octet is taken, and own address and running plan stay
   pub rest : w .answer .state
-      ≡ record { own = s .own; seq = w .answer .state .seq; requested = w .answer .state .requested; decoder = takenOf (s .decoder) b .decoder; dropped = w .answer .state .dropped; running = s .running }
+      ≡ record { own = s .own; seq = w .answer .state .seq; requested = w .answer .state .requested; decoder = takenOf (s .decoder) b .decoder; dropped = w .answer .state .dropped; memory = w .answer .state .memory; running = s .running }
 
 abbrev pub Replies : Type 0
 Replies =
@@ -150,7 +165,7 @@ pub data RecordOfPlan (which : Which) (book : List ℕ) : ℕ → List ℕ → T
   zero : RecordOfPlan which book 0 (builtIn which)
   other : (p : ℕ) → (p ≡ 0 → ⊥) → RecordOfPlan which book p (recordAt book p)
 
--- a sound message frame for us or for all, in an octet call that is done
+-- a sound message frame for us or for all that is no repeat, in an octet call that is done
 pub record HandledSo (s : State) (seq addr : ℕ) (book info : List ℕ) (w : Call) : Type 0 where
   -- 5F 14: stored and replied to with 0F 80 exactly when the listed checks pass; else refused by the first that fails
   pub times : codeIn info ≡ 0x5F14 → Fit14 (bodyIn info) → CarriedOut s seq addr (s .requested) (setTimesOf book info .book) info w
@@ -188,7 +203,7 @@ abbrev pub Handles : Type 0
 Handles =
     (s : State) (book out : List ℕ) (b seq addr : ℕ) (info : List ℕ) → soundOf s ≡ true → length book ≡ 3840 → 544 ≤ length out
     → Octets book → Octets (s .running .copy)
-    → outcomeOf (takenOf (s .decoder) b) ≡ sound (message seq addr info) → (addr ≡ s .own) ⊎ (addr ≡ 0xFFFF) → (IsAnswer info → ⊥)
+    → outcomeOf (takenOf (s .decoder) b) ≡ sound (message seq addr info) → (addr ≡ s .own) ⊎ (addr ≡ 0xFFFF) → (IsAnswer info → ⊥) → (Repeats (s .memory) seq info → ⊥)
     → HandledSo s seq addr book info (octetOf s book out b)
 
 -- 02, E3: "Write the octets straight into the output. Every octet and refusal stays the same." No message value is made of a reply, and yet
@@ -205,7 +220,7 @@ abbrev pub RepliesAsWritten : Type 0
 RepliesAsWritten =
     (s : State) (book out : List ℕ) (b seq : ℕ) (info : List ℕ) → soundOf s ≡ true → length book ≡ 3840 → 544 ≤ length out
     → Octets book → Octets (s .running .copy) → Octets info
-    → outcomeOf (takenOf (s .decoder) b) ≡ sound (message seq (s .own) info) → (IsAnswer info → ⊥)
+    → outcomeOf (takenOf (s .decoder) b) ≡ sound (message seq (s .own) info) → (IsAnswer info → ⊥) → (Repeats (s .memory) seq info → ⊥)
     → (reply : List ℕ) × Wrote (octetOf s book out b) (ack seq (s .own) ∷ message (s .seq) (s .own) reply ∷ []) × AsWritten reply
 
 -- What a second shows
@@ -216,7 +231,7 @@ pub record ShowsStep (s : State) (book : List ℕ) : Type 0 where
   pub plan : secondOf s book .plan ≡ s .running .plan
   pub row : Due (secondsOf (s .running .copy)) (orderOf (s .running .copy)) (stepsOfPlan (s .running .copy)) (s .running .position) (secondOf s book .row)
   pub rest : secondOf s book .state
-      ≡ record { own = s .own; seq = s .seq; requested = s .requested; decoder = s .decoder; dropped = s .dropped; running = secondOf s book .state .running }
+      ≡ record { own = s .own; seq = s .seq; requested = s .requested; decoder = s .decoder; dropped = s .dropped; memory = s .memory; running = secondOf s book .state .running }
 
 abbrev pub SecondsShow : Type 0
 SecondsShow = (s : State) (book : List ℕ) → soundOf s ≡ true → length book ≡ 3840 → Octets (s .running .copy) → ShowsStep s book

@@ -8,13 +8,14 @@
 -- plan 0 of a run is that of its start.
 use Prim.Native.Nat.{ℕ, _+_, _≤_, _<_}
 use mathlib.Core.Path.{_≡_}
-use mathlib.Core.Bool.{Bool, true}
+use mathlib.Core.Bool.{Bool, true, false, not}
 use mathlib.Core.List.{List, [], _∷_, _++_, map}
 use mathlib.Core.Option.{Option, none, some}
 use lib.Dec.{eqb, leb}
-use lib.ListN.{length, drop}
+use lib.ListN.{length, take, drop}
 use Rattle.octets.specs.Choice.{pick, both}
 use Rattle.octets.specs.Octet.{Octets}
+use Rattle.octets.specs.Same.{same}
 use Rattle.frame.specs.Frame.{message, ack, nak}
 use Rattle.frame.specs.Decoder.{Decoder, Taken, freshDecoder, takenOf, idledOf}
 use Rattle.frame.specs.Run.{Outcome, nothing, refused, sound, outcomeOf}
@@ -43,7 +44,7 @@ pub data HostCall : Type 0 where
   lineIdle : HostCall
   second : (book : List ℕ) → Octets book → HostCall
 
--- "states handed back as given": the state after the events, from a fresh start with any 256 octets kept for INFO
+-- "states handed back as given": the state after the events, from a fresh start with any 512 octets or more kept
 abbrev pub next : State → HostCall → State
 next s (octet b _ book out _) = octetOf s book out b .answer .state
 next s lineIdle = lineIdleOf s .state
@@ -98,55 +99,87 @@ WhichKept =
 -- "and plan 0 means that one throughout": whenever plan 0 runs, after whatever calls, its record is that of the start
 abbrev pub PlanZeroThroughout : Type 0
 PlanZeroThroughout =
-    (which : Which) (own : ℕ) (kept : List ℕ) → (own ≡ 0xFFFF → ⊥) → length kept ≡ 256 → (es : List HostCall)
+    (which : Which) (own : ℕ) (kept : List ℕ) → (own ≡ 0xFFFF → ⊥) → 512 ≤ length kept → (es : List HostCall)
     → run which own kept es .running .plan ≡ 0 → run which own kept es .running .copy ≡ builtIn which
 
 -- "The latest run message carried out", told from the octets handed in
 
--- what was heard so far: where the decoder is, and the plan of the latest run message carried out, 0 if none
+-- 02, E4: a message frame that was accepted, by its SEQ and INFO
+pub record Accepted : Type 0 where
+  pub seq : ℕ
+  pub info : List ℕ
+
+-- what was heard so far: where the decoder is, the last message frame accepted, and the plan of the latest run message carried out, 0 if none
 pub record Heard : Type 0 where
   pub decoder : Decoder
+  pub last : Option Accepted
   pub latest : ℕ
+
+-- "whose SEQ and INFO both equal those of the last one accepted": it is carried out no second time
+abbrev pub isAgain : Option Accepted → ℕ → List ℕ → Bool
+isAgain none seq info = false
+isAgain (some a) seq info = both (eqb seq (a .seq)) (same info (a .info))
+
+-- a sound message frame is accepted: it is for us or for all, and no repeat
+abbrev pub accepts : ℕ → Option Accepted → ℕ → ℕ → List ℕ → Bool
+accepts own last seq addr info = both (pick (eqb addr own) true (eqb addr 0xFFFF)) (not (isAgain last seq info))
 
 -- "if it is plan 0 or ready in the book"
 abbrev pub mayRun : List ℕ → ℕ → Bool
 mayRun book p = pick (eqb p 0) true (eqb (standingOf (recordAt book p)) 2)
 
--- a sound message frame, for us or for all, with a 5F 18 that is not refused: its plan is the latest
-abbrev pub runIn : ℕ → List ℕ → ℕ → List ℕ → Bool
-runIn own book addr info =
-    both (pick (eqb addr own) true (eqb addr 0xFFFF))
+-- a message frame accepted with a 5F 18 that is not refused: its plan is the latest
+abbrev pub runIn : ℕ → List ℕ → Option Accepted → ℕ → ℕ → List ℕ → Bool
+runIn own book last seq addr info =
+    both (accepts own last seq addr info)
     (both (eqb (codeIn info) 0x5F18)
     (both (eqb (readOf info .refusal) 0)
     (mayRun book (planIn (bodyIn info)))))
 
-abbrev pub latestAfter : ℕ → List ℕ → ℕ → Outcome → ℕ
-latestAfter own book latest nothing = latest
-latestAfter own book latest (refused n k seq addr) = latest
-latestAfter own book latest (sound (message seq addr info)) = pick (runIn own book addr info) (planIn (bodyIn info)) latest
-latestAfter own book latest (sound (ack seq addr)) = latest
-latestAfter own book latest (sound (nak seq addr err)) = latest
+abbrev pub latestAfter : ℕ → List ℕ → Option Accepted → ℕ → Outcome → ℕ
+latestAfter own book last latest nothing = latest
+latestAfter own book last latest (refused n k seq addr) = latest
+latestAfter own book last latest (sound (message seq addr info)) = pick (runIn own book last seq addr info) (planIn (bodyIn info)) latest
+latestAfter own book last latest (sound (ack seq addr)) = latest
+latestAfter own book last latest (sound (nak seq addr err)) = latest
+
+-- the last one accepted then, whatever was answered; faulty frames, frames for others, ACK and NAK frames are not
+abbrev pub lastAfter : ℕ → Option Accepted → Outcome → Option Accepted
+lastAfter own last nothing = last
+lastAfter own last (refused n k seq addr) = last
+lastAfter own last (sound (message seq addr info)) = pick (accepts own last seq addr info) (some (record { seq = seq; info = info })) last
+lastAfter own last (sound (ack seq addr)) = last
+lastAfter own last (sound (nak seq addr err)) = last
 
 abbrev pub hearsOctet : ℕ → List ℕ → Heard → Taken → Heard
-hearsOctet own book h t = record { decoder = t .decoder; latest = latestAfter own book (h .latest) (outcomeOf t) }
+hearsOctet own book h t =
+    record {
+      decoder = t .decoder;
+      last = lastAfter own (h .last) (outcomeOf t);
+      latest = latestAfter own book (h .last) (h .latest) (outcomeOf t);
+    }
 
 -- an octet is taken where book and output are long enough; a line-idle call returns the decoder to idle
 abbrev pub hears : ℕ → Heard → HostCall → Heard
 hears own h (octet b _ book out _) =
     pick (both (eqb (length book) 3840) (leb 544 (length out))) (hearsOctet own book h (takenOf (h .decoder) b)) h
-hears own h lineIdle = record { decoder = idledOf (h .decoder) .decoder; latest = h .latest }
+hears own h lineIdle = record { decoder = idledOf (h .decoder) .decoder; last = h .last; latest = h .latest }
 hears own h (second book _) = h
 
 abbrev pub hearsOn : ℕ → Heard → List HostCall → Heard
 hearsOn own h [] = h
 hearsOn own h (e ∷ es) = hearsOn own (hears own h e) es
 
+-- from a fresh start: "A fresh start remembers none", and no run message was carried out
+abbrev pub heardIn : ℕ → List ℕ → List HostCall → Heard
+heardIn own kept es = hearsOn own (record { decoder = freshDecoder (take 256 kept); last = none; latest = 0 }) es
+
 abbrev pub latestRun : ℕ → List ℕ → List HostCall → ℕ
-latestRun own kept es = hearsOn own (record { decoder = freshDecoder kept; latest = 0 }) es .latest
+latestRun own kept es = heardIn own kept es .latest
 
 -- it is what the state keeps
 abbrev pub LatestKept : Type 0
-LatestKept = (which : Which) (own : ℕ) (kept : List ℕ) → (own ≡ 0xFFFF → ⊥) → length kept ≡ 256 → (es : List HostCall) → run which own kept es .requested ≡ latestRun own kept es
+LatestKept = (which : Which) (own : ℕ) (kept : List ℕ) → (own ≡ 0xFFFF → ⊥) → 512 ≤ length kept → (es : List HostCall) → run which own kept es .requested ≡ latestRun own kept es
 
 -- Whole cycles
 
@@ -175,6 +208,7 @@ pub record SecondLeft (s : State) (book : List ℕ) (t : State) : Type 0 where
   pub requested : t .requested ≡ s .requested
   pub decoder : t .decoder ≡ s .decoder
   pub dropped : t .dropped ≡ s .dropped
+  pub memory : t .memory ≡ s .memory
   pub which : t .running .which ≡ s .running .which
   pub onward : s .running .position + 1 < cycleOf (s .running .copy)
       → t .running ≡ record { which = s .running .which; plan = s .running .plan; position = s .running .position + 1; copy = s .running .copy }
@@ -200,7 +234,7 @@ pub data CyclesInRun (which : Which) (own : ℕ) (kept : List ℕ) : ℕ → Lis
 
 -- "The first is plan 0", that of its start
 abbrev pub RunsWholeCycles : Type 0
-RunsWholeCycles = (which : Which) (own : ℕ) (kept : List ℕ) → (own ≡ 0xFFFF → ⊥) → length kept ≡ 256 → (es : List HostCall) → CyclesInRun which own kept 0 (builtIn which) [] es
+RunsWholeCycles = (which : Which) (own : ℕ) (kept : List ℕ) → (own ≡ 0xFFFF → ⊥) → 512 ≤ length kept → (es : List HostCall) → CyclesInRun which own kept 0 (builtIn which) [] es
 
 -- Any 1,799
 
@@ -220,7 +254,7 @@ pub record HoldsWhole (which : Which) (own : ℕ) (kept : List ℕ) (es : List H
 
 abbrev pub AnyWindow : Type 0
 AnyWindow =
-    (which : Which) (own : ℕ) (kept : List ℕ) → (own ≡ 0xFFFF → ⊥) → length kept ≡ 256 → (es : List HostCall) (n : ℕ) → n + 1799 ≤ length (seconds which own kept [] es) → HoldsWhole which own kept es n
+    (which : Which) (own : ℕ) (kept : List ℕ) → (own ≡ 0xFFFF → ⊥) → 512 ≤ length kept → (es : List HostCall) (n : ℕ) → n + 1799 ≤ length (seconds which own kept [] es) → HoldsWhole which own kept es n
 
 -- Sets
 
@@ -235,7 +269,7 @@ NoSecond (second book _ ∷ es) = ⊥
 -- without them
 abbrev pub SetsNeverAlter : Type 0
 SetsNeverAlter =
-    (which : Which) (own : ℕ) (kept : List ℕ) → (own ≡ 0xFFFF → ⊥) → length kept ≡ 256 → (past between : List HostCall) (book : List ℕ) (o : Octets book) → NoSecond between
+    (which : Which) (own : ℕ) (kept : List ℕ) → (own ≡ 0xFFFF → ⊥) → 512 ≤ length kept → (past between : List HostCall) (book : List ℕ) (o : Octets book) → NoSecond between
     → says (run which own kept (past ++ between)) (second book o) ≡ says (run which own kept past) (second book o)
 
 -- The controller as a machine of the crate `cycles`, from whose theorems whole cycles and the window follow
@@ -268,9 +302,9 @@ crossing which own kept = record {
 }
 
 abbrev pub CrossingCycles : Type 0
-CrossingCycles = (which : Which) (own : ℕ) (kept : List ℕ) → (own ≡ 0xFFFF → ⊥) → length kept ≡ 256 → (es : List HostCall) → Cycles (crossing which own kept) [] es
+CrossingCycles = (which : Which) (own : ℕ) (kept : List ℕ) → (own ≡ 0xFFFF → ⊥) → 512 ≤ length kept → (es : List HostCall) → Cycles (crossing which own kept) [] es
 
 abbrev pub CrossingHolds : Type 0
 CrossingHolds =
-    (which : Which) (own : ℕ) (kept : List ℕ) → (own ≡ 0xFFFF → ⊥) → length kept ≡ 256 → (es : List HostCall) (n : ℕ) → n + 1799 ≤ length (answers (crossing which own kept) [] es)
+    (which : Which) (own : ℕ) (kept : List ℕ) → (own ≡ 0xFFFF → ⊥) → 512 ≤ length kept → (es : List HostCall) (n : ℕ) → n + 1799 ≤ length (answers (crossing which own kept) [] es)
     → HoldsCycle (crossing which own kept) [] es n 900 1799

@@ -77,4 +77,4 @@ pub data NoiseInRun : (since : List ℕ) (s : State) → List HostCall → Type 
 
 -- From a fresh start, states handed back as given, octets, line-idle calls and seconds mixed at will.
 abbrev pub NoiseTold : Type 0
-NoiseTold = (which : Which) (own : ℕ) (kept : List ℕ) → (own ≡ 0xFFFF → ⊥) → length kept ≡ 256 → (es : List HostCall) → NoiseInRun [] (startedOf which own kept .state) es
+NoiseTold = (which : Which) (own : ℕ) (kept : List ℕ) → (own ≡ 0xFFFF → ⊥) → 512 ≤ length kept → (es : List HostCall) → NoiseInRun [] (startedOf which own kept .state) es

@@ -1,3 +1,4 @@
+pub mod Memory
 pub mod State
 pub mod Handling
 pub mod Replies
@@ -6,5 +7,6 @@ pub mod Demand1
 pub mod Demand2
 pub mod Demand3
 pub mod OurSeq
+pub mod Repeats
 pub mod Dropped
 pub mod Table

@@ -1,6 +1,6 @@
 -- 01, "Replies": "Our SEQ starts at 0, grows by one per message frame written, and after 255 comes 0.": over any run, told from the
 -- octets that the controller writes.
-use Prim.Native.Nat.{ℕ, _+_, _%_, _<_}
+use Prim.Native.Nat.{ℕ, _+_, _%_, _≤_, _<_}
 use mathlib.Core.Path.{_≡_}
 use mathlib.Core.List.{List, [], _∷_, _++_}
 use lib.ListN.{length, take}
@@ -54,4 +54,4 @@ pub record SeqCounted (which : Which) (own : ℕ) (kept : List ℕ) (es : List H
 -- "Own address is 0 to 65,534."
 abbrev pub OurSeqCounts : Type 0
 OurSeqCounts =
-    (which : Which) (own : ℕ) → own < 0xFFFF → (kept : List ℕ) → Octets kept → length kept ≡ 256 → (es : List HostCall) → SeqCounted which own kept es
+    (which : Which) (own : ℕ) → own < 0xFFFF → (kept : List ℕ) → Octets kept → 512 ≤ length kept → (es : List HostCall) → SeqCounted which own kept es

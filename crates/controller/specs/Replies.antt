@@ -23,6 +23,7 @@ use Rattle.controller.specs.declared.Event.the-variants as event
 use Rattle.controller.specs.declared.Told.{Told}
 use Rattle.controller.specs.declared.HeldAnswer.{HeldAnswer}
 use Rattle.controller.specs.declared.Handled.{Handled}
+use Rattle.controller.specs.Memory.{Memory, isRepeat, remembering}
 use Rattle.controller.specs.State.{State, joined, keptLen, all, outputLen, soundOf, withDecoder}
 use Rattle.controller.specs.Handling.{Handling, carriedOutCode, refusedCode, replyInfo, handlingOf}
 
@@ -39,11 +40,11 @@ pub record Call : Type 0 where
   pub book : List ℕ
   pub out : List ℕ
 
--- the answer of the code, with the octets that are then kept for INFO
+-- the answer of the code, with the octets that are then kept
 abbrev pub answerWith : HeldAnswer → List ℕ → Answer
 answerWith r kept = record { state = joined (r .state) kept; told = r .told }
 
--- the call answered r and left k of the octets lent for INFO, b in the book and o in the output, as it should; of more octets than are
+-- the call answered r and left k of the octets lent, b in the book and o in the output, as it should; of more octets than are
 -- wanted those beyond stay
 pub record CallLeaves (w : Call) (lent : List ℕ) (r : HeldAnswer) (k b o : List ℕ) : Type 0 where
   pub answer : answerWith r k ≡ w .answer
@@ -143,12 +144,19 @@ repliedOf s book seq addr h =
 abbrev pub handledOf : State → List ℕ → ℕ → ℕ → Handling → ResultAndBook
 handledOf s book seq addr h = record { result = repliedOf s book seq addr (h .handled); book = h .book }
 
--- a sound message frame; "A sound frame for another address is dropped silently."
+-- the ACK, none for FFFF, and nothing else
+abbrev pub ackedOf : State → ℕ → ℕ → List ℕ → ResultAndBook
+ackedOf s seq addr book = leaves book (unchanged s refusal.none event.Nothing (acks (s .own) seq addr))
+
+-- a message frame that is accepted
+unfoldable pub acceptedOf : State → ℕ → ℕ → List ℕ → List ℕ → ResultAndBook
+acceptedOf s seq addr info book = pick (isAnswer (codeIn info)) (ackedOf s seq addr book) (handledOf s book seq addr (handlingOf s book info))
+
+-- a sound message frame; "A sound frame for another address is dropped silently."; 02, E4: a repeat "gets the ACK (none for FFFF) and nothing else"
 unfoldable pub messageOf : State → ℕ → ℕ → List ℕ → List ℕ → ResultAndBook
 messageOf s seq addr info book =
     pick (forUs (s .own) addr)
-    (pick (isAnswer (codeIn info)) (leaves book (unchanged s refusal.none event.Nothing (acks (s .own) seq addr)))
-    (handledOf s book seq addr (handlingOf s book info)))
+    (pick (isRepeat (s .memory) seq info) (ackedOf s seq addr book) (acceptedOf s seq addr info book))
     (leaves book (unchanged s refusal.none event.Nothing []))
 
 -- "A sound ACK or NAK for us is handed to the host as an event and changes nothing; one to FFFF is dropped."
@@ -163,15 +171,27 @@ broughtOf (sound (message seq addr info)) s book = messageOf s seq addr info boo
 broughtOf (sound (ack seq addr)) s book = leaves book (unchanged s refusal.none (eventFor (s .own) addr (event.Ack seq)) [])
 broughtOf (sound (nak seq addr err)) s book = leaves book (unchanged s refusal.none (eventFor (s .own) addr (event.Nak seq err)) [])
 
--- the call that the state s makes of it, c being what the octet does to the decoder and to the number of octets dropped
-abbrev pub madeOf : State → Counted → ResultAndBook → List ℕ → Call
-madeOf s c w out =
+-- 02, E4: what is then remembered: a message frame "(for us or FFFF, refused 10 to 14 or not)" that is no repeat; all else leaves the memory
+unfoldable pub memoryOf : State → ℕ → ℕ → List ℕ → Memory
+memoryOf s seq addr info =
+    pick (forUs (s .own) addr) (pick (isRepeat (s .memory) seq info) (s .memory) (remembering (s .memory) seq info)) (s .memory)
+
+abbrev pub memoryThen : Outcome → State → Memory
+memoryThen nothing s = s .memory
+memoryThen (refused n k seq addr) s = s .memory
+memoryThen (sound (message seq addr info)) s = memoryOf s seq addr info
+memoryThen (sound (ack seq addr)) s = s .memory
+memoryThen (sound (nak seq addr err)) s = s .memory
+
+-- the call that the state s makes of it, c being what the octet does to the decoder and to the number of octets dropped, m what is then remembered
+abbrev pub madeOf : State → Counted → Memory → ResultAndBook → List ℕ → Call
+madeOf s c m w out =
     let r = w .result in
-    let t : State = record { own = s .own; seq = r .seq; requested = r .requested; decoder = c .taken .decoder; dropped = c .kept; running = s .running } in
+    let t : State = record { own = s .own; seq = r .seq; requested = r .requested; decoder = c .taken .decoder; dropped = c .kept; memory = m; running = s .running } in
     callOf t (r .refusal) (r .parameter) (r .event) (r .frames) (c .told) (w .book) out
 
 unfoldable pub doneOf : State → Counted → List ℕ → List ℕ → Call
-doneOf s c book out = madeOf s c (broughtOf (outcomeOf (c .taken)) s book) out
+doneOf s c book out = let o = outcomeOf (c .taken) in madeOf s c (memoryThen o s) (broughtOf o s book) out
 
 -- "Order: 7, 8, 9 in a call"
 unfoldable pub octetOf : State → List ℕ → List ℕ → ℕ → Call

@@ -4,7 +4,7 @@ use mathlib.Core.Path.{_≡_}
 use mathlib.Core.Bool.{not}
 use mathlib.Core.List.{List}
 use lib.Dec.{eqb, ltb}
-use lib.ListN.{length, take}
+use lib.ListN.{length}
 use Rattle.octets.specs.Choice.{pick}
 use Rattle.octets.specs.Refusal as refusal
 use Rattle.record.specs.Record.{bookLen, cycleOf}
@@ -28,18 +28,18 @@ abbrev pub tells : ℕ → Told
 tells n = record { refusal = n; parameter = 0; event = event.Nothing; count = 0; dropped = 0 }
 
 unfoldable pub startedOf : Which → ℕ → List ℕ → Answer
-startedOf which own info = record { state = freshOf which own info; told = tells (pick (eqb own all) refusal.startWrong refusal.none) }
+startedOf which own kept = record { state = freshOf which own kept; told = tells (pick (eqb own all) refusal.startWrong refusal.none) }
 
 -- 02, E1: "the plain start takes the new one"; "A start call that names the old built-in plan stays"
 abbrev pub plainStartOf : ℕ → List ℕ → Answer
-plainStartOf own info = startedOf New own info
+plainStartOf own kept = startedOf New own kept
 
 abbrev pub oldStartOf : ℕ → List ℕ → Answer
-oldStartOf own info = startedOf Old own info
+oldStartOf own kept = startedOf Old own kept
 
 -- a start is lent no octets: it answers so with whatever octets are kept
 abbrev pub StartsWith : (List ℕ → Answer) → HeldAnswer → Type 0
-StartsWith w r = (kept : List ℕ) → answerWith r kept ≡ w (take keptLen kept)
+StartsWith w r = (kept : List ℕ) → answerWith r kept ≡ w kept
 
 -- The second call
 
@@ -77,7 +77,7 @@ secondOf s book =
     (pick (not (eqb (length book) bookLen)) (noSecond s refusal.bookWrong)
     (secondShown s book))
 
--- a second is lent no octets of INFO: it answers so with whatever 256 or more are kept, which stay
+-- a second is lent no octets: it answers so with whatever 512 or more are kept, which stay
 abbrev pub shownWith : HeldShown → List ℕ → Shown
 shownWith r kept = record { state = joined (r .state) kept; told = r .told; plan = r .plan; row = r .row }
 

@@ -1,38 +1,51 @@
 -- 01, "Replies" and "Lamps and seconds": the state, a fresh one, and which are sound.
-use Prim.Native.Nat.{ℕ}
+use Prim.Native.Nat.{ℕ, _*_}
 use mathlib.Core.Bool.{Bool, true, not}
 use mathlib.Core.List.{List}
 use lib.Dec.{eqb, ltb, leb}
-use lib.ListN.{length}
+use lib.ListN.{length, take}
 use Rattle.octets.specs.Choice.{pick, both}
+use Rattle.octets.specs.Same.{same}
 use Rattle.frame.specs.Frame.{infoMost}
 use Rattle.frame.specs.Decoder.{Decoder, freshDecoder, possibleOf, joinedDecoder}
 use Rattle.record.specs.Record.{plansMost, ready, cycleOf}
 use Rattle.checks.specs.Standing.{standingOf}
 use Rattle.plan.specs.declared.Which.{Which}
 use Rattle.plan.specs.BuiltIn.{builtIn}
-use Rattle.plan.specs.Reading.{recordAt, same}
+use Rattle.plan.specs.Reading.{recordAt}
 use Rattle.controller.specs.declared.Running.{Running}
 use Rattle.controller.specs.declared.Held.{Held}
+use Rattle.controller.specs.Memory.{Memory, joinedMemory, noneAccepted, lastFits}
 
--- own address, our SEQ, the requested plan, the decoder with the octets that it keeps for INFO, the octets dropped, the running plan
+-- own address, our SEQ, the requested plan, the decoder with the octets that it keeps for INFO, the octets dropped, the last message frame accepted,
+-- the running plan
 pub record State : Type 0 where
   pub own : ℕ
   pub seq : ℕ
   pub requested : ℕ
   pub decoder : Decoder
   pub dropped : ℕ
+  pub memory : Memory
   pub running : Running
 
--- In the code the state is a struct and octets that the host lends. So many of these are wanted: the 256 that the decoder keeps for INFO.
+-- In the code the state is a struct and octets that the host lends. So many of these are wanted: the 256 that the decoder keeps for INFO, and
+-- behind them 256 for INFO of the last frame accepted.
 abbrev pub keptLen : ℕ
-keptLen = infoMost
+keptLen = 2 * infoMost
 
 -- the state that the struct and the octets lent are; where more are lent, those beyond are no part of it
 abbrev pub joined : Held → List ℕ → State
 joined s kept =
     let r = s .receiver in
-    record { own = s .own; seq = s .seq; requested = s .requested; decoder = joinedDecoder (r .head) kept; dropped = r .dropped; running = s .running }
+    record {
+      own = s .own;
+      seq = s .seq;
+      requested = s .requested;
+      decoder = joinedDecoder (r .head) kept;
+      dropped = r .dropped;
+      memory = joinedMemory (s .last) kept;
+      running = s .running;
+    }
 
 -- "FFFF is for all"
 abbrev pub all : ℕ
@@ -47,16 +60,26 @@ abbrev pub startedAt : Which → ℕ → List ℕ → Running
 startedAt which plan rec = record { which = which; plan = plan; position = 0; copy = rec }
 
 -- "A fresh start runs and requests plan 0 at position 0"; "Our SEQ starts at 0"; 02, E1: "A start call that names the old built-in plan
--- stays .. the plain start takes the new one. The state keeps which one"; what the octets of INFO hold does not matter; E5: no octet is dropped
+-- stays .. the plain start takes the new one. The state keeps which one"; E5: no octet is dropped; E4: "A fresh start remembers none"; what the
+-- octets kept hold does not matter
 unfoldable pub freshOf : Which → ℕ → List ℕ → State
-freshOf which own info = record { own = own; seq = 0; requested = 0; decoder = freshDecoder info; dropped = 0; running = startedAt which 0 (builtIn which) }
+freshOf which own kept =
+    record {
+      own = own;
+      seq = 0;
+      requested = 0;
+      decoder = freshDecoder (take infoMost kept);
+      dropped = 0;
+      memory = joinedMemory noneAccepted kept;
+      running = startedAt which 0 (builtIn which);
+    }
 
 -- the state with another decoder and number of octets dropped, another running plan
 abbrev pub withDecoder : State → Decoder → ℕ → State
-withDecoder s d n = record { own = s .own; seq = s .seq; requested = s .requested; decoder = d; dropped = n; running = s .running }
+withDecoder s d n = record { own = s .own; seq = s .seq; requested = s .requested; decoder = d; dropped = n; memory = s .memory; running = s .running }
 
 abbrev pub withRunning : State → Running → State
-withRunning s u = record { own = s .own; seq = s .seq; requested = s .requested; decoder = s .decoder; dropped = s .dropped; running = u }
+withRunning s u = record { own = s .own; seq = s .seq; requested = s .requested; decoder = s .decoder; dropped = s .dropped; memory = s .memory; running = u }
 
 -- the record of plan p: "Plan 0 is built in", all others stand in the book; "plan 0 means that one throughout"
 abbrev pub recordWith : List ℕ → List ℕ → ℕ → List ℕ
@@ -71,7 +94,7 @@ readyIn which book p = eqb (standingOf (planRecord which book p)) ready
 
 -- "state handed in is unsound (own address FFFF, requested plan over 48, position outside the cycle, running plan over 48,
 -- failing the checks, or numbered 0 and unlike the built-in, impossible decoder place)"; the built-in is the one that is kept, and a
--- decoder without its 256 octets of INFO is impossible
+-- decoder without its 256 octets of INFO is impossible; 02, E4: so is a memory without its own, or of a length that INFO can't have
 unfoldable pub runningSound : Running → Bool
 runningSound u =
     both (ltb (u .position) (cycleOf (u .copy)))
@@ -84,5 +107,7 @@ soundOf s =
     both (not (eqb (s .own) all))
     (both (leb (s .requested) plansMost)
     (both (eqb (length (s .decoder .info)) infoMost)
+    (both (eqb (length (s .memory .info)) infoMost)
+    (both (lastFits (s .memory .last))
     (both (possibleOf (s .decoder .head))
-    (runningSound (s .running)))))
+    (runningSound (s .running)))))))

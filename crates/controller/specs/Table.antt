@@ -45,8 +45,8 @@ abbrev pub rowsOfStart : Which → List (List ℕ)
 rowsOfStart which =
     let step = stepRow which in
     step 1 ∷ step 2 ∷ step 3 ∷ step 4 ∷ step 5 ∷ step 6 ∷ step 7 ∷ step 8 ∷ step 9 ∷ step 10
-    ∷ cameOut (freshOf which 0x0001 (replicate 256 0)) p1
-    ∷ cameOut (stateAfter (freshOf which 0x0001 (replicate 256 0)) p1) p4
+    ∷ cameOut (freshOf which 0x0001 (replicate 512 0)) p1
+    ∷ cameOut (stateAfter (freshOf which 0x0001 (replicate 512 0)) p1) p4
     ∷ []
 
 unfoldable pub rows : List (List ℕ)

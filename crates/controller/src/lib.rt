@@ -13,9 +13,9 @@ pub const ALL: u16 = 0xFFFF;
 // The output that an octet call is lent, at least.
 pub const OUTPUT_LEN: usize = 544;
 
-// The octets that a host lends with the struct, at least: those that the decoder keeps for INFO. 02, E4 and E6: each will keep another INFO
-// behind them.
-pub const KEPT_LEN: usize = INFO_MOST;
+// The octets that a host lends with the struct, at least: those that the decoder keeps for INFO, and behind them those that INFO of the last
+// message frame accepted is kept in (02, E4). E6 will keep another INFO behind these.
+pub const KEPT_LEN: usize = 2 * INFO_MOST;
 
 // What the stepper owns: "The running plan is a copy"; 02, E1: "The state keeps which one, and plan 0 means that one throughout".
 pub struct Running {
@@ -25,12 +25,23 @@ pub struct Running {
     pub copy: [u8; RECORD_LEN],
 }
 
-// The state, but for the decoder's octets of INFO: these are lent to the calls, and both together are the state of 01.
+// 02, E4: of the last message frame accepted its SEQ and how long its INFO is, 0 where there is none.
+pub struct Last {
+    pub seq: u8,
+    pub len: u16,
+}
+
+// "A fresh start remembers none".
+pub const NONE_ACCEPTED: Last = Last { seq: 0, len: 0 };
+
+// The state, but for the octets of INFO, the decoder's and those of the last frame accepted: these are lent to the calls, and all together are
+// the state of 01.
 pub struct Held {
     pub own: u16,
     pub seq: u8,
     pub requested: u8,
     pub receiver: Receiver,
+    pub last: Last,
     pub running: Running,
 }
 

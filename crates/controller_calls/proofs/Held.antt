@@ -1,14 +1,15 @@
 -- The code's struct and the octets lent are the state: what is said of the struct is so of the state.
 use Prim.Native.Nat.{ℕ, _+_, _≤_, _<_}
 use mathlib.Core.Path.{_≡_, refl, sym, ap, subst, _∙_}
-use mathlib.Core.Bool.{Bool, true, false}
+use mathlib.Core.Bool.{Bool, true, false, not}
 use mathlib.Core.List.{List}
 use native.Mathlib.Decide.{decLt}
 use native.Mathlib.Omega.{arith}
 use borrow.Author.Tests.{eq-eqb, ne-eqb, le-leb, lt-leb}
 use lib.Dec.{eqb, leb}
-use lib.ListN.{length, set, replicate, length-replicate}
+use lib.ListN.{length, take, drop, set, replicate, length-drop, length-replicate}
 use lib.Seq.{take-set-lt, drop-set-lt}
+use Rattle.octets.specs.Choice.{both}
 use Rattle.frame.specs.Frame.{infoMost}
 use Rattle.frame.specs.declared.decoder.Head.{Head}
 use Rattle.frame.specs.declared.decoder.Received.{Received}
@@ -16,12 +17,13 @@ use Rattle.frame.specs.Decoder.{Decoder, Taken, idleDrops, infoGoesOn, possible
 use Rattle.frame.specs.Dropped.{Counted, countedOf, octetLent, idleLent, receivedWith, ReceivedLeaves}
 use Rattle.frame.proofs.Laws.{room-info}
 use Rattle.frame.proofs.Counting.{counted-dropped, counted-taken}
-use Rattle.frame.proofs.Lent.{take-short, taken-long, enough, short, octets-lent, info-goes-on, counted-goes}
+use Rattle.frame.proofs.Lent.{take-short, enough, short, octets-lent, info-goes-on, counted-goes}
 use Rattle.record.specs.Record.{plansMost}
 use Rattle.checks.proofs.Stands.{plan-fits, ready-plan}
 use Rattle.controller.specs.declared.Held.{Held}
 use Rattle.controller.specs.declared.HeldAnswer.{HeldAnswer}
-use Rattle.controller.specs.State.{joined, all, runningSound, soundOf}
+use Rattle.controller.specs.Memory.{lastFits}
+use Rattle.controller.specs.State.{joined, keptLen, all, runningSound, soundOf}
 use Rattle.controller.specs.Replies.{CanFind, CallLeaves, answerWith, refusedCall, doneOf, idledAs, lineIdleOf}
 use Rattle.controller.proofs.Judging.{sound-parts}
 use Rattle.controller.proofs.Laws.{counted-idles, idle-done}
@@ -42,39 +44,64 @@ module _ (s : Held) (lent : ℕ) where
     requested-over h = rw (ne-eqb (s .own) all ho, lt-leb (s .requested) plansMost h)
 
     module _ (hr : s .requested ≤ plansMost) where
-      pub too-few : lent < infoMost → false ≡ heldSound s lent
+      pub too-few : lent < keptLen → false ≡ heldSound s lent
       unfolding heldSound
-      too-few h = rw (ne-eqb (s .own) all ho, le-leb (s .requested) plansMost hr, lt-leb infoMost lent h)
+      too-few h = rw (ne-eqb (s .own) all ho, le-leb (s .requested) plansMost hr, lt-leb keptLen lent h)
 
-      module _ (hl : infoMost ≤ lent) {p : Bool} (ep : p ≡ possibleOf (s .receiver .head)) where
-        pub impossible : p ≡ false → false ≡ heldSound s lent
+      module _ (hl : keptLen ≤ lent) {f : Bool} (ef : f ≡ lastFits (s .last)) where
+        pub unfit : f ≡ false → false ≡ heldSound s lent
         unfolding heldSound
-        impossible h = rw (ne-eqb (s .own) all ho, le-leb (s .requested) plansMost hr, le-leb infoMost lent hl, ← ep, h)
+        unfit h = rw (ne-eqb (s .own) all ho, le-leb (s .requested) plansMost hr, le-leb keptLen lent hl, ← ef, h)
 
-        pub by-running : p ≡ true → {r : Bool} → r ≡ runningSound (s .running) → r ≡ heldSound s lent
-        unfolding heldSound
-        by-running h e = rw (ne-eqb (s .own) all ho, le-leb (s .requested) plansMost hr, le-leb infoMost lent hl, ← ep, h) e
+        module _ (hf : f ≡ true) {p : Bool} (ep : p ≡ possibleOf (s .receiver .head)) where
+          pub impossible : p ≡ false → false ≡ heldSound s lent
+          unfolding heldSound
+          impossible h = rw (ne-eqb (s .own) all ho, le-leb (s .requested) plansMost hr, le-leb keptLen lent hl, ← ef, hf, ← ep, h)
+
+          pub by-running : p ≡ true → {r : Bool} → r ≡ runningSound (s .running) → r ≡ heldSound s lent
+          unfolding heldSound
+          by-running h e = rw (ne-eqb (s .own) all ho, le-leb (s .requested) plansMost hr, le-leb keptLen lent hl, ← ef, hf, ← ep, h) e
 
 -- It is the state's
 
-enough-lent : (s : Held) (kept : List ℕ) → leb infoMost (length kept) ≡ eqb (length (joinedDecoder (s .receiver .head) kept .info)) infoMost
-enough-lent s kept =
-    elim (decLt (length kept) infoMost) [
-      | yes l ↦ lt-leb infoMost (length kept) l ∙ sym (short (s .receiver .head) kept l)
-      | no l ↦ le-leb infoMost (length kept) (omega arith) ∙ sym (enough (s .receiver .head) kept (omega arith))
-    ]
+-- as many octets are lent as the state wants
+module _ (h : Head) (kept : List ℕ) where
+  abbrev bothLong : Bool → Bool
+  bothLong t = both (eqb (length (take infoMost kept)) infoMost) (both (eqb (length (take infoMost (drop infoMost kept))) infoMost) t)
+
+  long-both : keptLen ≤ length kept → (t : Bool) → bothLong t ≡ t
+  long-both l t = rw (enough h kept (omega arith), enough h (drop infoMost kept) (omega (arith, length-drop infoMost kept)))
+
+  short-both : length kept < keptLen → (t : Bool) → bothLong t ≡ false
+  short-both l t =
+      elim (decLt (length kept) infoMost) [
+        | yes g ↦ rw (short h kept g)
+        | no g ↦ rw (enough h kept (omega arith), short h (drop infoMost kept) (omega (arith, length-drop infoMost kept)))
+      ]
+
+  enough-lent : (t : Bool) → both (leb keptLen (length kept)) t ≡ bothLong t
+  enough-lent t =
+      elim (decLt (length kept) keptLen) [
+        | yes l ↦ rw (lt-leb keptLen (length kept) l) (sym (short-both l t))
+        | no l ↦ rw (le-leb keptLen (length kept) (omega arith)) (sym (long-both (omega arith) t))
+      ]
 
 module _ (s : Held) (kept : List ℕ) where
+  abbrev rest : Bool
+  rest = both (lastFits (s .last)) (both (possibleOf (s .receiver .head)) (runningSound (s .running)))
+
   pub sound-joined : heldSound s (length kept) ≡ soundOf (joined s kept)
   unfolding heldSound soundOf
-  sound-joined = rw (enough-lent s kept)
+  sound-joined = ap (λ (t : Bool). both (not (eqb (s .own) all)) (both (leb (s .requested) plansMost) t)) (enough-lent (s .receiver .head) kept rest)
 
-  pub sound-lent : infoMost ≤ length kept → heldSound s infoMost ≡ soundOf (joined s kept)
+  pub sound-lent : keptLen ≤ length kept → heldSound s keptLen ≡ soundOf (joined s kept)
   unfolding heldSound soundOf
-  sound-lent l = rw (enough (s .receiver .head) kept l)
+  sound-lent l = ap (λ (t : Bool). both (not (eqb (s .own) all)) (both (leb (s .requested) plansMost) t)) (sym (long-both (s .receiver .head) kept l rest))
 
-  pub lent-enough : soundOf (joined s kept) ≡ true → infoMost ≤ length kept
-  lent-enough h = omega (arith, sound-parts (joined s kept) h .info, take-short infoMost kept)
+  pub lent-enough : soundOf (joined s kept) ≡ true → keptLen ≤ length kept
+  lent-enough h =
+      let p = sound-parts (joined s kept) h in
+      omega (arith, p .info, p .lastInfo, take-short infoMost kept, take-short infoMost (drop infoMost kept), length-drop infoMost kept)
 
 -- the head with one more octet of INFO in
 abbrev filledHead : Head → Head
@@ -103,17 +130,15 @@ module _ (s : Held) (lent : List ℕ) where
   d = joinedDecoder (s .receiver .head) lent
 
   pub taken-lent : soundOf (joined s lent) ≡ true → (b : ℕ) → octetLent d n b ≡ countedOf d n b
-  taken-lent h b = octets-lent .0 h₀ lent .octetEnough n b (lent-enough s lent h)
+  taken-lent h b = octets-lent .0 h₀ lent .octetEnough n b (omega (arith, lent-enough s lent h))
 
   -- the decoder's call leaves as many octets as the state wants, and finds what it can find
   module _ (b : ℕ) {t : Received} {k : List ℕ} (h : soundOf (joined s lent) ≡ true) (l : ReceivedLeaves (octetLent d n b) lent t k) where
     taken-so : receivedWith t k .taken ≡ takenOf d b
     taken-so = ap (λ (c : Counted). c .taken) (l .answer ∙ taken-lent h b) ∙ counted-taken d n b
 
-    pub left-enough : infoMost ≤ length k
-    left-enough =
-        let i = taken-long d (sound-parts (joined s lent) h .info) b in
-        omega (arith, take-short infoMost k, ap (λ (w : Taken). length (w .decoder .info)) taken-so, i)
+    pub left-enough : keptLen ≤ length k
+    left-enough = omega (arith, ap length (l .beyond), length-drop infoMost k, length-drop infoMost lent, lent-enough s lent h)
 
     pub found-fits : CanFind (t .found)
     found-fits = subst (λ (w : Taken). CanFind (w .found)) (sym taken-so) (can-find d b (sound-parts (joined s lent) h .decoder))
@@ -130,8 +155,8 @@ module _ (s : Held) (lent : List ℕ) where
         let p = sound-parts (joined s lent) h in
         rw (counted-goes d n b o l (p .info) (p .decoder) g, info-goes-on d b .kept (p .decoder) g, e)
         (record {
-          answer = rw (take-set-lt infoMost lent (h₀ .filled) b kept-room);
-          beyond = drop-set-lt infoMost lent (h₀ .filled) b kept-room;
+          answer = rw (take-set-lt infoMost lent (h₀ .filled) b kept-room, drop-set-lt infoMost lent (h₀ .filled) b kept-room);
+          beyond = drop-set-lt keptLen lent (h₀ .filled) b (omega (arith, kept-room));
           book = refl;
           out = refl;
         })
@@ -139,13 +164,13 @@ module _ (s : Held) (lent : List ℕ) where
   pub idle-answered : {t : Received} → soundOf (joined s lent) ≡ true → receivedWith t lent ≡ idleLent d n
       → answerWith (heldCounted (withReceiver s (t .receiver)) (t .dropped)) lent ≡ lineIdleOf (joined s lent)
   idle-answered h e =
-      let f = e ∙ octets-lent .0 h₀ lent .idleEnough n (lent-enough s lent h) ∙ counted-idles (joined s lent) in
+      let f = e ∙ octets-lent .0 h₀ lent .idleEnough n (omega (arith, lent-enough s lent h)) ∙ counted-idles (joined s lent) in
       ap (idledAs (joined s lent)) f ∙ sym (idle-done (joined s lent) h)
 
 -- The next second
 
 -- a sound position is within a cycle of at most 900 seconds, so the next one is a number of two octets
-pub sound-position : (s : Held) → heldSound s infoMost ≡ true → s .running .position < 65535
+pub sound-position : (s : Held) → heldSound s keptLen ≡ true → s .running .position < 65535
 sound-position s h =
-    let p = sound-parts (joined s (replicate infoMost 0)) (sym (sound-lent s (replicate infoMost 0) (omega (arith, length-replicate {A = ℕ} infoMost 0))) ∙ h) .running in
+    let p = sound-parts (joined s (replicate keptLen 0)) (sym (sound-lent s (replicate keptLen 0) (omega (arith, length-replicate {A = ℕ} keptLen 0))) ∙ h) .running in
     omega (arith, p .position, plan-fits (s .running .copy) (ready-plan (s .running .copy) (p .checks)) .most)

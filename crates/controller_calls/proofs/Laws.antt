@@ -15,7 +15,8 @@ use Rattle.octets.specs.Choice.{pick, both}
 use Rattle.octets.specs.Part.{PartOf}
 use Rattle.octets.specs.Put.{Put}
 use Rattle.octets.specs.Refusal as refusal
-use Rattle.octets.proofs.Laws.{put-stored}
+use Rattle.octets.specs.Same.{same}
+use Rattle.octets.proofs.Laws.{put-stored, same-is}
 use Rattle.message.specs.declared.Read.{Read}
 use Rattle.message.specs.Reader.{codeIn, bodyIn, readOf}
 use Rattle.plan.specs.declared.setting.Answered.{Answered}
@@ -23,10 +24,10 @@ use Rattle.record.specs.Record.{recordLen, plansMost, bookLen, empty, ready, cy
 use Rattle.checks.specs.Standing.{standingOf}
 use Rattle.plan.specs.declared.Which.{Which}
 use Rattle.plan.specs.BuiltIn.{builtIn}
-use Rattle.plan.specs.Reading.{recordStart, recordAt, same, eitherBuiltIn, readRefusal, PartRead}
+use Rattle.plan.specs.Reading.{recordStart, recordAt, eitherBuiltIn, readRefusal, PartRead}
 use Rattle.plan.specs.Setting.{setTimesCode, setPlanCode, setTimesOf, setPlanOf, planIn}
 use Rattle.plan.specs.Setting as setting
-use Rattle.plan.proofs.Laws.{same-is, length-built-in, is-either, refused-range, read-zero, refused-empty, read-set}
+use Rattle.plan.proofs.Laws.{length-built-in, is-either, refused-range, read-zero, refused-empty, read-set}
 use Rattle.checks.proofs.Stands.{some-long, some-state}
 use Rattle.plan.proofs.Reportable.{standing-none, standing-past}
 use Rattle.plan.proofs.Cases.{built-in-stands}

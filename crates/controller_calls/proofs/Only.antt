@@ -29,6 +29,6 @@ only-line-idle κs a r s x y p q = answer-one-to-one r s (now (a .1 .0)) (now (a
 
 only-second : (κs : _) (a : _) (r s : _) (x y : _) → second.Post κs a r x → second.Post κs a s y → r ≡ s
 only-second κs a r s x y p q =
-    let kept : List ℕ = replicate 256 0 in
-    let l = length-replicate {A = ℕ} 256 0 in
+    let kept : List ℕ = replicate 512 0 in
+    let l = length-replicate {A = ℕ} 512 0 in
     shown-one r s kept (p kept (omega (arith, l)) ∙ sym (q kept (omega (arith, l))))

@@ -6,8 +6,8 @@ use mathlib.Core.List.{List, [], _∷_, append-nil}
 use native.Mathlib.Omega.{arith}
 use borrow.Author.Tests.{eq-eqb, ne-eqb, le-leb}
 use lib.Dec.{eqb}
-use lib.ListN.{length, take, length-append}
-use lib.Seq.{sets, length-sets, length-take-le}
+use lib.ListN.{length, take, drop, length-append}
+use lib.Seq.{sets, length-sets, length-take-le, drop-drop}
 use Rattle.octets.specs.Part.{codeLen}
 use Rattle.octets.specs.Put.{Stored}
 use Rattle.octets.specs.Refusal as refusal
@@ -22,7 +22,7 @@ use Rattle.frame.specs.declared.decoder.Found.the-variants as found
 use Rattle.frame.specs.declared.decoder.Received.{Received}
 use Rattle.frame.specs.Run.{foundMeans, outcomeOf}
 use Rattle.frame.specs.Writer as frame
-use Rattle.frame.specs.Dropped.{Counted, ReceivedLeaves}
+use Rattle.frame.specs.Dropped.{Counted, receivedWith, ReceivedLeaves}
 use Rattle.record.specs.Record.{ready}
 use Rattle.checks.specs.Standing.{standingOf}
 use Rattle.plan.specs.Reporting.{reportPlanCode, reportRunningCode, timesInfo, planInfo}
@@ -34,19 +34,21 @@ use Rattle.controller.specs.declared.Held.{Held}
 use Rattle.controller.specs.declared.HeldAnswer.{HeldAnswer}
 use Rattle.controller.specs.declared.Reply.{Reply}
 use Rattle.controller.specs.declared.Reply.the-variants as reply
-use Rattle.controller.specs.State.{State, joined, outputLen, planRecord}
+use Rattle.controller.specs.Memory.{Memory, joinedMemory}
+use Rattle.controller.specs.State.{State, joined, keptLen, outputLen, planRecord}
 use Rattle.controller.specs.Handling.{Handling, replyInfo, handlingOf}
-use Rattle.controller.specs.Replies.{Answer, CallLeaves, CanFind, sent, naks, acks, errOf, repliesOf, unchanged, repliedOf, handledOf, doneOf}
+use Rattle.controller.specs.Replies.{Answer, CallLeaves, CanFind, sent, naks, acks, errOf, repliesOf, ResultAndBook, unchanged, repliedOf, handledOf, doneOf}
 use Rattle.controller.proofs.Replying.{by-reply, by-left, reply-as-came, ack-fits, nak-fits, sent-most}
+use Rattle.controller_calls.specs.declared.replies.Brought.{Brought}
 use Rattle.controller_calls.specs.declared.replies.ResultCounted.{ResultCounted}
 use Rattle.controller_calls.specs.Handling.{HandlingLeaves, Reportable}
-use Rattle.controller_calls.specs.Replies.{ResultWritten, ResultAndBookLeft, unchangedAs, ReplyWritten, ReplyStored, RepliedWith, BroughtWith}
+use Rattle.controller_calls.specs.Replies.{ResultWritten, ResultAndBookLeft, unchangedAs, ReplyWritten, ReplyStored, broughtStill, RepliedWith, BroughtLeft, BroughtWith}
 
 -- What the decoder finds
 
--- INFO of a message that is found is as long as it says
-pub info-found : {f : Found} {seq addr n : ℕ} (kept : List ℕ) → f ≡ found.Message seq addr n → CanFind f → length kept ≡ infoMost → (codeLen ≤ n) × (length (take n kept) ≡ n)
-info-found kept e c l = let h = subst CanFind e c in (h .0, length-take-le _ kept (omega (arith, h .1, l)))
+-- INFO of a message that is found is of a length that INFO can have
+pub can-take : {f : Found} {seq addr n : ℕ} → f ≡ found.Message seq addr n → CanFind f → (infoLeast ≤ n) × (n ≤ infoMost)
+can-take e c = subst CanFind e c
 
 -- Frames
 
@@ -91,34 +93,59 @@ module _ (s : Held) (n : ℕ) (e : Event) (fs : List Frame) {out o : List ℕ} {
   stored-tells p h kept = record { told = h ∙ stored-count p (λ k. unchangedAs s n e k); out = p .holds }
 
 -- what the call answers of it, t being what the decoder's own call answered
-abbrev heldBy : Held → Received → ResultCounted → HeldAnswer
-heldBy s t r =
+abbrev heldBy : Held → Received → Brought → HeldAnswer
+heldBy s t w =
+    let r = w .result in
     record {
-      state = record { own = s .own; seq = r .seq; requested = r .requested; receiver = t .receiver; running = s .running };
+      state = record { own = s .own; seq = r .seq; requested = r .requested; receiver = t .receiver; last = w .last; running = s .running };
       told = record { refusal = r .refusal; parameter = r .parameter; event = r .event; count = r .count; dropped = t .dropped };
     }
 
-abbrev answeredBy : State → Counted → ResultCounted → Answer
-answeredBy s c r =
+abbrev answeredBy : State → Counted → Memory → ResultCounted → Answer
+answeredBy s c m r =
     record {
-      state = record { own = s .own; seq = r .seq; requested = r .requested; decoder = c .taken .decoder; dropped = c .kept; running = s .running };
+      state = record { own = s .own; seq = r .seq; requested = r .requested; decoder = c .taken .decoder; dropped = c .kept; memory = m; running = s .running };
       told = record { refusal = r .refusal; parameter = r .parameter; event = r .event; count = r .count; dropped = c .told };
     }
 
--- a call tells of the state what was brought; t is what the decoder took, k the octets that it left
-pub done-did : (s : Held) (lent book out : List ℕ) {w : Counted} {t : Received} {k : List ℕ} {r : ResultCounted} {b o : List ℕ}
-    → ReceivedLeaves w lent t k → BroughtWith (foundMeans (t .found) (take infoMost k)) s book out r b o
-    → CallLeaves (doneOf (joined s lent) w book out) lent (heldBy s t r) k b o
-unfolding doneOf
-done-did s lent book out {w} {t} {k} h f =
-    let e : outcomeOf (w .taken) ≡ foundMeans (t .found) (take infoMost k) = ap (λ (c : Counted). outcomeOf (c .taken)) (sym (h .answer)) in
-    let g = rw (← e) at (f lent) in
+-- the decoder has what its own octets are
+received-info : (t : Received) (k l : List ℕ) → take infoMost k ≡ take infoMost l → receivedWith t k ≡ receivedWith t l
+received-info t k l e i =
     record {
-      answer = (λ i. answeredBy (joined s lent) (h .answer i) (g .tells .told i));
-      beyond = h .beyond;
-      book = g .book;
-      out = g .tells .out;
+      taken = record { refusal = t .refusal; decoder = record { head = t .receiver .head; info = e i }; found = t .found };
+      told = t .dropped;
+      kept = t .receiver .dropped;
     }
+
+beyond-both : (k l : List ℕ) → drop infoMost k ≡ drop infoMost l → drop keptLen k ≡ drop keptLen l
+beyond-both k l e = sym (drop-drop infoMost infoMost k) ∙ ap (λ (m : List ℕ). drop infoMost m) e ∙ drop-drop infoMost infoMost l
+
+-- a call tells of the state what was brought; t is what the decoder took, k the octets that it left, and k′ those that are left then
+pub done-did : (s : Held) (lent book out : List ℕ) {w : Counted} {t : Received} {k k′ : List ℕ} {r : Brought} {b o : List ℕ}
+    → ReceivedLeaves w lent t k → BroughtWith (foundMeans (t .found) (take infoMost k)) s k book out r k′ b o
+    → CallLeaves (doneOf (joined s lent) w book out) lent (heldBy s t r) k′ b o
+unfolding doneOf
+done-did s lent book out {w} {t} {k} {k′} {r} h f =
+    let e : outcomeOf (w .taken) ≡ foundMeans (t .found) (take infoMost k) = ap (λ (c : Counted). outcomeOf (c .taken)) (sym (h .answer)) in
+    let g = rw (← e) at (f lent (sym (h .beyond))) in
+    let c : receivedWith t k′ ≡ w = received-info t k′ k (g .info) ∙ h .answer in
+    record {
+      answer = (λ i. answeredBy (joined s lent) (c i) (g .memory i) (g .result .tells .told i));
+      beyond = g .beyond ∙ beyond-both k lent (h .beyond);
+      book = g .result .book;
+      out = g .result .tells .out;
+    }
+
+-- What is brought
+
+-- what is remembered was so before the decoder's own call
+pub memory-came : (s : Held) (came lent : List ℕ) → drop infoMost came ≡ drop infoMost lent → joinedMemory (s .last) came ≡ joinedMemory (s .last) lent
+memory-came s came lent e i = record { last = s .last; info = take infoMost (e i) }
+
+-- no message frame is accepted
+module _ (s : Held) (lent : List ℕ) {m : Memory} {w : ResultAndBook} {before b after : List ℕ} {r : ResultCounted} {q : Brought} where
+  pub brought-still : q ≡ broughtStill s r → m ≡ joinedMemory (s .last) lent → ResultAndBookLeft w before r b after → BroughtLeft w m lent before q lent b after
+  brought-still e f l = rw (e, f) (record { result = l; memory = refl; info = refl; beyond = refl })
 
 -- ACK and NAK
 

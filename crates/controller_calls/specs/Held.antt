@@ -13,17 +13,19 @@ use Rattle.controller.specs.declared.Event.the-variants as event
 use Rattle.controller.specs.declared.Held.{Held}
 use Rattle.controller.specs.declared.HeldAnswer.{HeldAnswer}
 use Rattle.controller.specs.declared.HeldShown.{HeldShown}
+use Rattle.controller.specs.Memory.{lastFits}
 use Rattle.controller.specs.State.{keptLen, all, runningSound}
 use Rattle.controller.specs.Seconds.{tells}
 
--- is the state sound, with so many octets lent for INFO?
+-- is the state sound, with so many octets lent?
 unfoldable pub heldSound : Held → ℕ → Bool
 heldSound s lent =
     both (not (eqb (s .own) all))
     (both (leb (s .requested) plansMost)
     (both (leb keptLen lent)
+    (both (lastFits (s .last))
     (both (possibleOf (s .receiver .head))
-    (runningSound (s .running)))))
+    (runningSound (s .running))))))
 
 abbrev pub heldQuiet : Held → ℕ → HeldAnswer
 heldQuiet s n = record { state = s; told = tells n }
@@ -34,7 +36,7 @@ heldCounted s n = record { state = s; told = record { refusal = refusal.none; pa
 
 -- another receiver
 abbrev pub withReceiver : Held → Receiver → Held
-withReceiver s r = record { own = s .own; seq = s .seq; requested = s .requested; receiver = r; running = s .running }
+withReceiver s r = record { own = s .own; seq = s .seq; requested = s .requested; receiver = r; last = s .last; running = s .running }
 
 -- one octet more is dropped
 unfoldable pub heldDropped : Held → HeldAnswer

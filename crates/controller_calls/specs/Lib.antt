@@ -1,4 +1,5 @@
 pub mod Held
+pub mod Memory
 pub mod Handling
 pub mod Replies
 pub mod Stepper

@@ -2,6 +2,7 @@
 // can meet, or done.
 mod handling;
 mod info;
+mod memory;
 mod replies;
 mod soundness;
 mod stepper;
@@ -17,6 +18,7 @@ use controller::Held;
 use controller::HeldAnswer;
 use controller::HeldShown;
 use controller::KEPT_LEN;
+use controller::NONE_ACCEPTED;
 use controller::OUTPUT_LEN;
 use controller::Told;
 use frame_calls::decoder;
@@ -50,6 +52,7 @@ fn fresh_with(which: Which, own: u16) -> HeldAnswer
         seq: 0,
         requested: 0,
         receiver: receiver::fresh(),
+        last: NONE_ACCEPTED,
         running,
     };
     if own == ALL {
@@ -58,7 +61,7 @@ fn fresh_with(which: Which, own: u16) -> HeldAnswer
     quiet(state, refusal::NONE)
 }
 
-// Takes one octet from the line; the first 256 of `kept` are the state's octets of INFO. What it ends is carried out on the book and
+// Takes one octet from the line; the first 512 of `kept` are the state's octets of INFO. What it ends is carried out on the book and
 // replied to in the output.
 pub fn octet(s: Held, kept: &mut [u8], book: &mut [u8], out: &mut [u8], b: u8) -> HeldAnswer
     ensures { λ r. ⌜ CallLeaves (octetOf (joined s (now (kept .entry))) (now (book .entry)) (now (out .entry)) b) (now (kept .entry)) r (now (kept .exit)) (now (book .exit)) (now (out .exit)) ⌝ }

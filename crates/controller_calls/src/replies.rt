@@ -2,30 +2,32 @@
 ghost use mathlib.Core.Path.{_≡_};
 ghost use mathlib.Core.Bool.{true};
 ghost use Prim.Native.Nat.{_≤_};
-ghost use lib.ListN.{length};
+ghost use lib.ListN.{length, take};
 ghost use Rattle.octets.specs.Part.{codeLen};
 ghost use Rattle.octets.specs.Put.{Stored};
-ghost use Rattle.frame.specs.Frame.{infoMost};
+ghost use Rattle.frame.specs.Frame.{infoLeast, infoMost, message};
 ghost use Rattle.frame.specs.Decoder.{infoGoesOn, joinedDecoder};
 ghost use Rattle.frame.specs.Dropped.{countedOf};
-ghost use Rattle.frame.specs.Run.{foundMeans};
+ghost use Rattle.frame.specs.Run.{sound, foundMeans};
 ghost use Rattle.record.specs.Record.{plansMost, bookLen, ready};
 ghost use Rattle.checks.specs.Standing.{standingOf};
-ghost use Rattle.controller.specs.State.{joined, outputLen, soundOf};
+ghost use Rattle.controller.specs.Memory.{lastFits};
+ghost use Rattle.controller.specs.State.{joined, keptLen, outputLen, soundOf};
 ghost use Rattle.controller.specs.Replies.{CallLeaves, sent, errOf, naks, acks, forUs, isAnswer, eventFor, CanFind, doneOf};
 ghost use Rattle.controller_calls.specs.Handling.{Reportable};
 ghost use Rattle.controller_calls.specs.Held.{heldDropped};
-ghost use Rattle.controller_calls.specs.Replies.{unchangedAs, ReplyStored, RepliedWith, MessageWith, BroughtWith, KeptWith};
+ghost use Rattle.controller_calls.specs.Replies.{unchangedAs, broughtStill, ReplyStored, RepliedWith, AcceptedWith, BroughtWith, KeptWith};
 use crate::handling;
 use crate::info;
+use crate::memory;
 use controller::ALL;
 use controller::Event;
 use controller::Handled;
 use controller::Held;
 use controller::HeldAnswer;
+use controller::Last;
 use controller::Reply;
 use controller::Told;
-use frame::INFO_MOST;
 use frame::Kind;
 use frame::decoder::Found;
 use frame::decoder::Head;
@@ -46,6 +48,12 @@ pub struct ResultCounted {
     pub count: usize,
     pub seq: u8,
     pub requested: u8,
+}
+
+// The same, and what is remembered then.
+pub struct Brought {
+    pub result: ResultCounted,
+    pub last: Last,
 }
 
 // "Idle: .. all else is dropped": one octet more.
@@ -83,13 +91,16 @@ pub(crate) fn taken(s: Held, kept: &mut [u8], book: &mut [u8], out: &mut [u8], b
     let t = receiver::octet(s.receiver, &mut *kept, b);
     let receiver = t.receiver;
     let found = t.found;
-    let r = by_found(found, s, &kept[0..INFO_MOST], book, out);
+    let w = by_found(found, s, kept, book, out);
+    let last = w.last;
+    let r = w.result;
     let event = r.event;
     HeldAnswer {
         state: Held {
             seq: r.seq,
             requested: r.requested,
             receiver,
+            last,
             ..s
         },
         told: Told {
@@ -102,30 +113,35 @@ pub(crate) fn taken(s: Held, kept: &mut [u8], book: &mut [u8], out: &mut [u8], b
     }
 }
 
-// What the decoder found, with the octets kept for INFO.
-fn by_found(found: Found, s: Held, kept: &[u8], book: &mut [u8], out: &mut [u8]) -> ResultCounted
-    requires { ⌜ (CanFind found) × (length (now kept) ≡ infoMost) × (standingOf (s .running .copy) ≡ ready) × (s .running .plan ≤ plansMost) × (length (now book) ≡ bookLen) × (outputLen ≤ length (now out)) ⌝ }
-    ensures { λ r. ⌜ BroughtWith (foundMeans found (now (kept .entry))) s (now (book .entry)) (now (out .entry)) r (now (book .exit)) (now (out .exit)) ⌝ }
+// What the decoder found, with the octets kept.
+fn by_found(found: Found, s: Held, kept: &mut [u8], book: &mut [u8], out: &mut [u8]) -> Brought
+    requires { ⌜ (CanFind found) × (lastFits (s .last) ≡ true) × (keptLen ≤ length (now kept)) × (standingOf (s .running .copy) ≡ ready) × (s .running .plan ≤ plansMost) × (length (now book) ≡ bookLen) × (outputLen ≤ length (now out)) ⌝ }
+    ensures { λ r. ⌜ BroughtWith (foundMeans found (take infoMost (now (kept .entry)))) s (now (kept .entry)) (now (book .entry)) (now (out .entry)) r (now (kept .exit)) (now (book .exit)) (now (out .exit)) ⌝ }
 {
     match found {
-        Found::Nothing => unchanged(s, refusal::NONE, Event::Nothing, 0),
+        Found::Nothing => still(s, unchanged(s, refusal::NONE, Event::Nothing, 0)),
         Found::Refused(n, kind, seq, addr) => {
             let count = nak(kind, s.own, n, seq, addr, out);
-            unchanged(s, n, Event::Nothing, count)
+            still(s, unchanged(s, n, Event::Nothing, count))
         }
-        Found::Message(seq, addr, n) => {
-            let end = n as usize;
-            message_taken(s, seq, addr, &kept[..end], book, out)
-        }
+        Found::Message(seq, addr, n) => message_taken(s, seq, addr, n, kept, book, out),
         Found::Ack(seq, addr) => {
             let e = event_for(s.own, addr, Event::Ack(seq));
-            unchanged(s, refusal::NONE, e, 0)
+            still(s, unchanged(s, refusal::NONE, e, 0))
         }
         Found::Nak(seq, addr, err) => {
             let e = event_for(s.own, addr, Event::Nak(seq, err));
-            unchanged(s, refusal::NONE, e, 0)
+            still(s, unchanged(s, refusal::NONE, e, 0))
         }
     }
+}
+
+// What is remembered stays.
+fn still(s: Held, result: ResultCounted) -> Brought
+    ensures { λ r. ⌜ r ≡ broughtStill s result ⌝ }
+{
+    let last = s.last;
+    Brought { result, last }
 }
 
 // No message was handled: there is no parameter, and SEQ and request stay.
@@ -173,8 +189,35 @@ fn err(n: u8) -> u8
     if n == refusal::LEN_WRONG { ERR_LEN } else { n }
 }
 
-// A sound message frame. "A sound frame for another address is dropped silently."
+// A sound message frame, with n octets of INFO. "A sound frame for another address is dropped silently."; 02, E4: a repeat "gets the ACK (none for
+// FFFF) and nothing else"; any other is accepted, and remembered.
 fn message_taken(
+    s: Held,
+    seq: u8,
+    addr: u16,
+    n: u16,
+    kept: &mut [u8],
+    book: &mut [u8],
+    out: &mut [u8],
+) -> Brought
+    requires { ⌜ (infoLeast ≤ n) × (n ≤ infoMost) × (lastFits (s .last) ≡ true) × (keptLen ≤ length (now kept)) × (standingOf (s .running .copy) ≡ ready) × (s .running .plan ≤ plansMost) × (length (now book) ≡ bookLen) × (outputLen ≤ length (now out)) ⌝ }
+    ensures { λ r. ⌜ BroughtWith (sound (message seq addr (take n (now (kept .entry))))) s (now (kept .entry)) (now (book .entry)) (now (out .entry)) r (now (kept .exit)) (now (book .exit)) (now (out .exit)) ⌝ }
+{
+    if !for_us(s.own, addr) {
+        return still(s, unchanged(s, refusal::NONE, Event::Nothing, 0));
+    }
+    if memory::is_repeat(s.last, seq, n, kept) {
+        let count = ack(s.own, seq, addr, out);
+        return still(s, unchanged(s, refusal::NONE, Event::Nothing, count));
+    }
+    let last = memory::remember(seq, n, &mut *kept);
+    let end = n as usize;
+    let result = accepted(s, seq, addr, &kept[0..end], book, out);
+    Brought { result, last }
+}
+
+// A message frame that is no repeat.
+fn accepted(
     s: Held,
     seq: u8,
     addr: u16,
@@ -183,11 +226,8 @@ fn message_taken(
     out: &mut [u8],
 ) -> ResultCounted
     requires { ⌜ (codeLen ≤ length (now info)) × (standingOf (s .running .copy) ≡ ready) × (s .running .plan ≤ plansMost) × (length (now book) ≡ bookLen) × (outputLen ≤ length (now out)) ⌝ }
-    ensures { λ r. ⌜ MessageWith s seq addr (now (info .entry)) (now (book .entry)) (now (out .entry)) r (now (book .exit)) (now (out .exit)) ⌝ }
+    ensures { λ r. ⌜ AcceptedWith s seq addr (now (info .entry)) (now (book .entry)) (now (out .entry)) r (now (book .exit)) (now (out .exit)) ⌝ }
 {
-    if !for_us(s.own, addr) {
-        return unchanged(s, refusal::NONE, Event::Nothing, 0);
-    }
     if is_answer(octets::word(info[0], info[1])) {
         let count = ack(s.own, seq, addr, out);
         return unchanged(s, refusal::NONE, Event::Nothing, count);
@@ -214,7 +254,7 @@ fn is_answer(code: u16) -> bool
     code == message::REFUSED
 }
 
-// "A received 0F 80 or 0F 81 of any length gets the ACK only (nothing for FFFF) and is no refusal."
+// "A received 0F 80 or 0F 81 of any length gets the ACK only (nothing for FFFF) and is no refusal."; 02, E4: and so does a repeat.
 fn ack(own: u16, seq: u8, addr: u16, out: &mut [u8]) -> usize
     requires { ⌜ outputLen ≤ length (now out) ⌝ }
     ensures { λ r. ⌜ Stored (sent (acks own seq addr)) 0 (now (out .entry)) r (now (out .exit)) ⌝ }

@@ -3,6 +3,7 @@
 ghost use mathlib.Core.Path.{_≡_};
 ghost use Rattle.controller.specs.State.{runningSound};
 ghost use Rattle.controller_calls.specs.Held.{heldSound};
+use crate::memory;
 use controller::ALL;
 use controller::Held;
 use controller::KEPT_LEN;
@@ -22,6 +23,10 @@ pub(crate) fn stands(s: Held, lent: usize) -> bool
         return false;
     }
     if lent < KEPT_LEN {
+        return false;
+    }
+    let last = s.last;
+    if !memory::last_stands(last) {
         return false;
     }
     let h = s.receiver.head;

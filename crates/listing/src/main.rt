@@ -3,7 +3,7 @@
 // is, so that somebody who types lines sees each answered at once. 02, E1: with no word it takes the plain start, and with the
 // word `old` the one that names the old built-in plan. Output that can't be written and input that can't be read end the listing
 // and are told on standard error.
-ghost use Prim.Native.Nat.{_≤_};
+ghost use Prim.Native.Nat.{_≤_, _<_};
 ghost use mathlib.Core.Path.{_≡_};
 ghost use lib.ListN.{length};
 ghost use Rattle.octets.specs.Put.{Stored};
@@ -38,15 +38,10 @@ struct Printing {
     lost: bool,
 }
 
-// The line under way, and what the lines before it made.
+// The line under way, what the lines before it made, and whether there is more to read.
 struct Reading {
     line: Line,
     printing: Printing,
-}
-
-// A reading, and whether it goes on.
-struct Turn {
-    reading: Reading,
     more: bool,
 }
 
@@ -87,6 +82,7 @@ fn list(which: Which) {
             },
             lost: false,
         },
+        more: true,
     };
     read_all(start, &mut kept, &mut book, &mut out, &mut text);
 }
@@ -99,26 +95,36 @@ fn read_all(start: Reading, kept: &mut [u8], book: &mut [u8], out: &mut [u8], te
     let mut g = start;
     let mut turns = u64::MAX;
     while turns > 0 {
-        let t = read_next(g, &mut *kept, &mut *book, &mut *out, &mut *text);
-        g = t.reading;
-        if !t.more {
-            return;
-        }
-        turns -= 1;
+        g = read_next(g, &mut *kept, &mut *book, &mut *out, &mut *text);
+        turns = turns_left(turns, g.more);
     }
 }
 
+// One less, or none where there is no more to read.
+fn turns_left(turns: u64, more: bool) -> u64
+    requires { ⌜ 0 < turns ⌝ }
+    ensures { λ r. ⌜ r < turns ⌝ }
+{
+    if more { turns - 1 } else { 0 }
+}
+
 // A read may wait for somebody to type, so all there is to see is written out before it.
-fn read_next(g: Reading, kept: &mut [u8], book: &mut [u8], out: &mut [u8], text: &mut [u8]) -> Turn
+fn read_next(
+    g: Reading,
+    kept: &mut [u8],
+    book: &mut [u8],
+    out: &mut [u8],
+    text: &mut [u8],
+) -> Reading
     requires { ⌜ Room (g .printing .run) (now text) ⌝ }
-    ensures { λ r. ⌜ Room (r .reading .printing .run) (now (text .exit)) ⌝ }
+    ensures { λ r. ⌜ Room (r .printing .run) (now (text .exit)) ⌝ }
 {
     let printing = written(g.printing, &*text);
     let shown = Reading { printing, ..g };
     if printing.lost {
-        return Turn {
-            reading: shown,
+        return Reading {
             more: false,
+            ..shown
         };
     }
     read_once(shown, kept, book, out, text)
@@ -126,30 +132,28 @@ fn read_next(g: Reading, kept: &mut [u8], book: &mut [u8], out: &mut [u8], text:
 
 // At the end of the input its last line may lack a line feed. Where a read fails the line under way was cut off, and nobody
 // knows what it was to be.
-fn read_once(g: Reading, kept: &mut [u8], book: &mut [u8], out: &mut [u8], text: &mut [u8]) -> Turn
+fn read_once(
+    g: Reading,
+    kept: &mut [u8],
+    book: &mut [u8],
+    out: &mut [u8],
+    text: &mut [u8],
+) -> Reading
     requires { ⌜ Room (g .printing .run) (now text) ⌝ }
-    ensures { λ r. ⌜ Room (r .reading .printing .run) (now (text .exit)) ⌝ }
+    ensures { λ r. ⌜ Room (r .printing .run) (now (text .exit)) ⌝ }
 {
     let mut block = [0u8; BLOCK_LEN];
     let got = libc::read(STDIN_FILENO, &mut block);
     if got < 0 {
         io::write_all(STDERR_FILENO, b"listing: the input can't be read\n");
-        return Turn {
-            reading: g,
-            more: false,
-        };
+        return Reading { more: false, ..g };
     }
     let n = io::count(got, &block);
     if n == 0 {
-        return Turn {
-            reading: last(g, kept, book, out, text),
-            more: false,
-        };
+        let r = last(g, kept, book, out, text);
+        return Reading { more: false, ..r };
     }
-    Turn {
-        reading: taken(g, &block[..n], kept, book, out, text),
-        more: true,
-    }
+    taken(g, &block[..n], kept, book, out, text)
 }
 
 // Takes the octets of one read.
@@ -180,6 +184,7 @@ fn taken(
     Reading {
         line: l,
         printing: p,
+        more: true,
     }
 }
 

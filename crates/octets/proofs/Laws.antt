@@ -4,14 +4,14 @@ use mathlib.Core.Path.{_≡_, refl, sym, ap, subst, _∙_}
 use mathlib.Core.Bool.{Bool, true, false, not}
 use mathlib.Core.List.{List, [], _∷_, _++_}
 use native.Mathlib.Decide.{decLe, decLt}
-use native.Mathlib.Nat.{add-zero, add-suc, suc-add}
+use native.Mathlib.Nat.{add-zero, zero-add, add-suc, suc-add}
 use native.Mathlib.Numerals.{add-one}
 use native.Mathlib.Omega.{arith}
-use borrow.Author.Tests.{le-leb, lt-leb}
+use borrow.Author.Tests.{eq-eqb, ne-eqb, le-leb, lt-leb, eqb-true}
 use lib.Bits.{xor-self, xor-lt}
-use lib.Dec.{T, leb}
+use lib.Dec.{T, eqb, leb}
 use lib.ListN.{length, set, take, drop, getD, replicate, length-append, length-drop, take-append-drop, drop-of-length-le}
-use lib.Seq.{sets, drop-cons, drop-length, getD-append-add, length-sets, take-all}
+use lib.Seq.{sets, drop-cons, drop-length, getD-append-add, length-sets, sets-eq, take-all, take-at, drop-at, take-set-le, take-set-lt, drop-set-lt, drop-set-add}
 use Rattle.octets.specs.Choice.{pick, both}
 use Rattle.octets.specs.Octet.{Octets}
 use Rattle.octets.specs.Word.{highOf, lowOf, wordOf}
@@ -20,6 +20,7 @@ use Rattle.octets.specs.Put.{Stored, Put}
 use Rattle.octets.specs.Refusal.{outputShort}
 use Rattle.octets.specs.Writing.{WriterLeaves, nothingWritten, writtenAs}
 use Rattle.octets.specs.First.{First}
+use Rattle.octets.specs.Same.{same}
 
 -- Lists
 
@@ -123,6 +124,36 @@ pub sets-append : (xs ys l : List ℕ) (i : ℕ) → sets l i (xs ++ ys) ≡ set
 sets-append [] ys l i = rw (add-zero i)
 sets-append (x ∷ xs) ys l i = rw (add-suc i (length xs), ← suc-add i (length xs)) (sets-append xs ys (set l i x) (suc i))
 
+-- a run of octets stored before a place, and from a place on
+pub take-sets-past : (n : ℕ) (l : List ℕ) (i : ℕ) (vs : List ℕ) → n ≤ i → take n (sets l i vs) ≡ take n l
+take-sets-past n l i [] h = refl
+take-sets-past n l i (v ∷ vs) h = take-sets-past n (set l i v) (suc i) vs (omega arith) ∙ take-set-le n l i v h
+
+pub take-sets-within : (n : ℕ) (l : List ℕ) (i : ℕ) (vs : List ℕ) → i + length vs ≤ n → take n (sets l i vs) ≡ sets (take n l) i vs
+take-sets-within n l i [] h = refl
+take-sets-within n l i (v ∷ vs) h =
+    take-sets-within n (set l i v) (suc i) vs (omega arith) ∙ ap (λ (m : List ℕ). sets m (suc i) vs) (take-set-lt n l i v (omega arith))
+
+pub drop-sets-within : (n : ℕ) (l : List ℕ) (i : ℕ) (vs : List ℕ) → i + length vs ≤ n → drop n (sets l i vs) ≡ drop n l
+drop-sets-within n l i [] h = refl
+drop-sets-within n l i (v ∷ vs) h = drop-sets-within n (set l i v) (suc i) vs (omega arith) ∙ drop-set-lt n l i v (omega arith)
+
+pub drop-sets-past : (n : ℕ) (l : List ℕ) (i : ℕ) (vs : List ℕ) → drop n (sets l (n + i) vs) ≡ sets (drop n l) i vs
+drop-sets-past n l i [] = refl
+drop-sets-past n l i (v ∷ vs) =
+    rw (← add-suc n i) (drop-sets-past n (set l (n + i) v) (suc i) vs ∙ ap (λ (m : List ℕ). sets m (suc i) vs) (drop-set-add n l i v))
+
+-- a run of octets stored from the start on stands there, and the rest stays
+module _ (vs l : List ℕ) (h : length vs ≤ length l) where
+  sets-front : sets l 0 vs ≡ vs ++ drop (length vs) l
+  sets-front = sets-eq vs l 0 (omega arith) ∙ ap (λ (n : ℕ). vs ++ drop n l) (zero-add (length vs))
+
+  pub take-sets : take (length vs) (sets l 0 vs) ≡ vs
+  take-sets = rw sets-front (take-at vs (drop (length vs) l) (length vs) refl)
+
+  pub drop-sets : drop (length vs) (sets l 0 vs) ≡ drop (length vs) l
+  drop-sets = rw sets-front (drop-at vs (drop (length vs) l) (length vs) refl)
+
 -- Part
 
 -- the part that reaches to the end is what is left from its start on
@@ -207,3 +238,40 @@ module _ {t : ℕ → Bool} {n : ℕ} where
       by (yes l) d = absurd (less p q l)
       by (no g) (yes l) = absurd (less q p l)
       by (no g) (no g′) = omega arith
+
+-- Same
+
+-- the next octet of two lists
+module _ (xs ys : List ℕ) (i : ℕ) (hx : i < length xs) (hy : i < length ys) where
+  pub same-stops : (getD xs i 0 ≡ getD ys i 0 → ⊥) → false ≡ same (drop i xs) (drop i ys)
+  unfolding same
+  same-stops n = rw (drop-next xs i hx, drop-next ys i hy, ne-eqb (getD xs i 0) (getD ys i 0) n)
+
+  pub same-goes : getD xs i 0 ≡ getD ys i 0 → same (drop (i + 1) xs) (drop (i + 1) ys) ≡ same (drop i xs) (drop i ys)
+  unfolding same
+  same-goes e = rw (drop-next xs i hx, drop-next ys i hy, eq-eqb (getD xs i 0) (getD ys i 0) e)
+
+pub same-ends : (xs ys : List ℕ) (i : ℕ) → length xs ≤ i → length ys ≤ i → true ≡ same (drop i xs) (drop i ys)
+unfolding same
+same-ends xs ys i hx hy = rw (drop-of-length-le xs hx, drop-of-length-le ys hy)
+
+-- octets are the same exactly where they are equal
+pub same-is : (xs ys : List ℕ) → same xs ys ≡ true → xs ≡ ys
+unfolding same
+same-is [] [] h = refl
+same-is [] (y ∷ ys) h = absurd (clash refl h)
+same-is (x ∷ xs) [] h = absurd (clash refl h)
+same-is (x ∷ xs) (y ∷ ys) h =
+    ap (λ (z : ℕ). z ∷ xs) (eqb-true x y (both-left (eqb x y) (same xs ys) h)) ∙ ap (λ (zs : List ℕ). y ∷ zs) (same-is xs ys (both-right (eqb x y) (same xs ys) h))
+
+pub is-same : (xs : List ℕ) → same xs xs ≡ true
+unfolding same
+is-same [] = refl
+is-same (x ∷ xs) = rw (eq-eqb x x refl) (is-same xs)
+
+pub same-not : (xs ys : List ℕ) → (length xs ≡ length ys → ⊥) → false ≡ same xs ys
+same-not xs ys n = by (same xs ys) refl
+  where
+    by : (t : Bool) → same xs ys ≡ t → false ≡ t
+    by true e = absurd (n (ap length (same-is xs ys e)))
+    by false e = refl

@@ -7,6 +7,7 @@ use Rattle.octets.proofs.word.Reads as word
 use Rattle.octets.proofs.octet_at.Reads as octet-at
 use Rattle.octets.proofs.word_at.Reads as word-at
 use Rattle.octets.proofs.exclusive_or.Reads as exclusive-or
+use Rattle.octets.proofs.same.Reads as same
 use Rattle.octets.proofs.put.Reads as put
 use Rattle.octets.proofs.room.Reads as room
 use Rattle.octets.proofs.body.Reads as body
@@ -28,6 +29,9 @@ only-word-at κs a r s x y p q = p ∙ sym q
 
 only-exclusive-or : (κs : _) (a : _) (r s : _) (x y : _) → exclusive-or.Post κs a r x → exclusive-or.Post κs a s y → r ≡ s
 only-exclusive-or κs a r s x y p q = p ∙ sym q
+
+only-same : (κs : _) (a : _) (r s : _) (x y : _) → same.Post κs a r x → same.Post κs a s y → r ≡ s
+only-same κs a r s x y p q = p ∙ sym q
 
 only-put : (κs : _) (a : _) (r s : _) (x y : _) → put.Post κs a r x → put.Post κs a s y → (r ≡ s) × (now (x .1 .0) ≡ now (y .1 .0))
 only-put κs a r s x y p q = (p .place ∙ sym (q .place), p .holds ∙ sym (q .holds))

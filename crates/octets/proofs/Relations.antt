@@ -10,6 +10,7 @@ use lib.Seq.{sets-eq}
 use Rattle.octets.specs.First.{First}
 use Rattle.octets.specs.Put.{Put}
 use Rattle.octets.specs.Promises.{PutSo, FirstSo, RelationsAsSaid}
+use Rattle.octets.proofs.Laws.{same-is, is-same}
 
 put-so : (vs : List ℕ) (i : ℕ) (l : List ℕ) (r : ℕ) (l′ : List ℕ) → Put vs i l r l′ → PutSo vs i l r l′
 put-so vs i l r l′ p =
@@ -29,4 +30,5 @@ relations-as-said =
       part = λ s r a n p. (p .place, p .octets);
       rest = λ s r a p. (p .place, p .octets);
       first = first-so;
+      same = λ xs ys. (same-is xs ys, λ e. rw e (is-same ys));
     }

@@ -7,4 +7,5 @@ pub mod Put
 pub mod Writing
 pub mod Part
 pub mod First
+pub mod Same
 pub mod Promises

@@ -12,6 +12,7 @@ use Rattle.octets.specs.declared.Written.{Written}
 use Rattle.octets.specs.First.{First}
 use Rattle.octets.specs.Part.{codeLen, PartOf, PartFrom}
 use Rattle.octets.specs.Put.{Put}
+use Rattle.octets.specs.Same.{same}
 use Rattle.octets.specs.Word.{highOf, lowOf, wordOf}
 use Rattle.octets.specs.Writing.{Writing, WriterLeaves}
 
@@ -54,6 +55,8 @@ pub record EachRelation : Type 0 where
   pub rest : (s r : RefT (List ℕ)) (a : ℕ) → PartFrom s a r → (r .ptr ≡ (s .ptr .0, min a (length (now s)) + s .ptr .1)) × (now r ≡ drop a (now s))
   -- "The search .. stops at the first that fails and yields its number."
   pub first : (test : ℕ → Bool) (n r : ℕ) → First test n r → FirstSo test n r
+  -- octets pass as the same exactly when they are equal, in length and in every octet
+  pub same : (xs ys : List ℕ) → (same xs ys ≡ true → xs ≡ ys) × (xs ≡ ys → same xs ys ≡ true)
 
 abbrev pub RelationsAsSaid : Type 0
 RelationsAsSaid = EachRelation

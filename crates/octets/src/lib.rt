@@ -10,6 +10,7 @@ ghost use Rattle.octets.specs.Word.{highOf, lowOf, wordOf, wordAt};
 ghost use Rattle.octets.specs.ExclusiveOr.{exclusiveOr};
 ghost use Rattle.octets.specs.Put.{Put, Stored};
 ghost use Rattle.octets.specs.Part.{PartFrom, codeLen};
+ghost use Rattle.octets.specs.Same.{same};
 
 // The octets of a message's code, before its fields.
 pub const CODE_LEN: usize = 2;
@@ -64,6 +65,28 @@ pub fn exclusive_or(start: u8, s: &[u8]) -> u8
         x = x ^ s[i];
     }
     x
+}
+
+// Are the octets the same, as many and each of them?
+pub fn same(a: &[u8], b: &[u8]) -> bool
+    ensures { λ r. ⌜ r ≡ same (now (a .entry)) (now (b .entry)) ⌝ }
+{
+    if a.len() != b.len() {
+        return false;
+    }
+    alike(a, b)
+}
+
+fn alike(a: &[u8], b: &[u8]) -> bool
+    requires { ⌜ length (now a) ≡ length (now b) ⌝ }
+    ensures { λ r. ⌜ r ≡ same (now (a .entry)) (now (b .entry)) ⌝ }
+{
+    for i in 0..a.len() {
+        if a[i] != b[i] {
+            return false;
+        }
+    }
+    true
 }
 
 // Stores the octets of `s` in `out` from `at` on and gives the place after them; where they do not fit, nothing is

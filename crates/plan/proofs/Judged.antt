@@ -13,7 +13,7 @@ use denote.Ref.{RefT, now}
 use Rattle.octets.specs.Octet.{Octets}
 use Rattle.octets.specs.Part.{PartOf}
 use Rattle.octets.specs.Refusal as refusal
-use Rattle.octets.proofs.Laws.{clash, octets-part}
+use Rattle.octets.proofs.Laws.{clash, octets-part, same-is, is-same}
 use Rattle.record.specs.Record.{recordLen, plansMost, bookLen, empty}
 use Rattle.checks.specs.Standing.{standingOf}
 use Rattle.plan.specs.declared.Which.{Which}
@@ -22,7 +22,7 @@ use Rattle.plan.specs.BuiltIn.{builtIn}
 use Rattle.plan.specs.Reading.{recordStart, recordAt, eitherBuiltIn, readRefusal, PartRead}
 use Rattle.plan.specs.Promises.{ReadingJudged, wrongLength, overRange, unlike, emptyPlan, builtInRead, bookRead, BuiltInKnown, PlansReadSo, PartsGivenSo}
 use Rattle.plan.proofs.Readying.{stands-has, has-stands}
-use Rattle.plan.proofs.Laws.{same-is, is-same, length-built-in, either-is, is-either, refused-book, refused-copy, refused-range, read-zero, refused-zero, refused-empty, read-set, read-sound}
+use Rattle.plan.proofs.Laws.{length-built-in, either-is, is-either, refused-book, refused-copy, refused-range, read-zero, refused-zero, refused-empty, read-set, read-sound}
 
 module _ (book copy : List ℕ) (p : ℕ) (o : Octets book) where
   octets : Octets (recordAt book p)

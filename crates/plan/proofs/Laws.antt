@@ -2,58 +2,24 @@
 use Prim.Native.Nat.{ℕ, _+_, _-_, _≤_, _<_}
 use mathlib.Core.Path.{_≡_, refl, sym, ap, _∙_}
 use mathlib.Core.Bool.{Bool, true, false, not, _||_, or-true}
-use mathlib.Core.List.{List, [], _∷_}
+use mathlib.Core.List.{List}
 use native.Mathlib.Omega.{arith}
 use borrow.Author.Tests.{eq-eqb, ne-eqb, le-leb, lt-leb, eqb-true, leb-true}
 use lib.Dec.{eqb, leb}
-use lib.ListN.{length, take, drop, getD, drop-of-length-le, length-drop}
+use lib.ListN.{length, take, drop, length-drop}
 use lib.Seq.{length-take-le}
 use Rattle.octets.specs.Choice.{pick, both}
 use Rattle.octets.specs.Refusal as refusal
-use Rattle.octets.proofs.Laws.{both-left, both-right, clash, drop-next}
+use Rattle.octets.specs.Same.{same}
+use Rattle.octets.proofs.Laws.{same-is, is-same}
 use Rattle.record.specs.Record.{recordLen, plansMost, bookLen, empty}
 use Rattle.checks.specs.Standing.{standingOf}
 use Rattle.plan.specs.declared.Which.{Which}
 use Rattle.plan.specs.declared.Which.the-variants.{New, Old}
 use Rattle.plan.specs.BuiltIn.{padded, builtIn}
-use Rattle.plan.specs.Reading.{recordStart, recordAt, same, eitherBuiltIn, readRefusal}
+use Rattle.plan.specs.Reading.{recordStart, recordAt, eitherBuiltIn, readRefusal}
 
 -- Reading
-
--- the next octet of two lists
-module _ (xs ys : List ℕ) (i : ℕ) (hx : i < length xs) (hy : i < length ys) where
-  pub same-stops : (getD xs i 0 ≡ getD ys i 0 → ⊥) → false ≡ same (drop i xs) (drop i ys)
-  unfolding same
-  same-stops n = rw (drop-next xs i hx, drop-next ys i hy, ne-eqb (getD xs i 0) (getD ys i 0) n)
-
-  pub same-goes : getD xs i 0 ≡ getD ys i 0 → same (drop (i + 1) xs) (drop (i + 1) ys) ≡ same (drop i xs) (drop i ys)
-  unfolding same
-  same-goes e = rw (drop-next xs i hx, drop-next ys i hy, eq-eqb (getD xs i 0) (getD ys i 0) e)
-
-pub same-ends : (xs ys : List ℕ) (i : ℕ) → length xs ≤ i → length ys ≤ i → true ≡ same (drop i xs) (drop i ys)
-unfolding same
-same-ends xs ys i hx hy = rw (drop-of-length-le xs hx, drop-of-length-le ys hy)
-
--- octets are the same exactly where they are equal
-pub same-is : (xs ys : List ℕ) → same xs ys ≡ true → xs ≡ ys
-unfolding same
-same-is [] [] h = refl
-same-is [] (y ∷ ys) h = absurd (clash refl h)
-same-is (x ∷ xs) [] h = absurd (clash refl h)
-same-is (x ∷ xs) (y ∷ ys) h =
-    ap (λ (z : ℕ). z ∷ xs) (eqb-true x y (both-left (eqb x y) (same xs ys) h)) ∙ ap (λ (zs : List ℕ). y ∷ zs) (same-is xs ys (both-right (eqb x y) (same xs ys) h))
-
-pub is-same : (xs : List ℕ) → same xs xs ≡ true
-unfolding same
-is-same [] = refl
-is-same (x ∷ xs) = rw (eq-eqb x x refl) (is-same xs)
-
-pub same-not : (xs ys : List ℕ) → (length xs ≡ length ys → ⊥) → false ≡ same xs ys
-same-not xs ys n = by (same xs ys) refl
-  where
-    by : (t : Bool) → same xs ys ≡ t → false ≡ t
-    by true e = absurd (n (ap length (same-is xs ys e)))
-    by false e = refl
 
 pub length-built-in : (which : Which) → length (builtIn which) ≡ recordLen
 unfolding builtIn padded

@@ -7,6 +7,7 @@ use mathlib.Core.List.{List, [], _∷_, _++_}
 use lib.ListN.{length, take, drop, replicate}
 use denote.Ref.{RefT, now}
 use Rattle.octets.specs.Octet.{Octets}
+use Rattle.octets.specs.Same.{same}
 use Rattle.diagram.specs.Table.{phasesOf}
 use Rattle.message.specs.declared.Message.{Message}
 use Rattle.message.specs.Reader.{codeIn, bodyIn, readOf}
@@ -15,7 +16,7 @@ use Rattle.checks.specs.Standing.{standingOf}
 use Rattle.plan.specs.declared.Which.{Which}
 use Rattle.plan.specs.declared.Which.the-variants.{New, Old}
 use Rattle.plan.specs.BuiltIn.{builtIn}
-use Rattle.plan.specs.Reading.{recordAt, same, readRefusal, PlanRead}
+use Rattle.plan.specs.Reading.{recordAt, readRefusal, PlanRead}
 use Rattle.plan.specs.Reporting.{timesInfo, planInfo, reportTimesOf, reportPlanOf}
 use Rattle.plan.specs.declared.setting.Answered.{Answered}
 use Rattle.plan.specs.Setting.{planIn, countIn, Setting, SetLeaves, setTimesOf, setPlanOf}

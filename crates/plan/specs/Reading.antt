@@ -5,14 +5,15 @@
 -- plan, or for plan 0 where the copy differs from the built-in record." 02, E1: "reading a plan takes a copy of either"
 use Prim.Native.Nat.{ℕ, _*_, _-_}
 use mathlib.Core.Path.{_≡_}
-use mathlib.Core.Bool.{Bool, true, false, not, _||_}
-use mathlib.Core.List.{List, [], _∷_}
+use mathlib.Core.Bool.{Bool, not, _||_}
+use mathlib.Core.List.{List}
 use lib.Dec.{eqb, leb}
 use lib.ListN.{length, take, drop}
 use denote.Ref.{RefT, now}
 use Rattle.octets.specs.Choice.{pick, both}
 use Rattle.octets.specs.Part.{PartOf}
 use Rattle.octets.specs.Refusal as refusal
+use Rattle.octets.specs.Same.{same}
 use Rattle.record.specs.Record.{recordLen, plansMost, bookLen, empty}
 use Rattle.checks.specs.Standing.{standingOf}
 use Rattle.plan.specs.declared.Which.the-variants.{New, Old}
@@ -24,13 +25,6 @@ recordStart p = recordLen * (p - 1)
 
 abbrev pub recordAt : List ℕ → ℕ → List ℕ
 recordAt book p = take recordLen (drop (recordStart p) book)
-
--- are the octets the same?
-unfoldable pub same : List ℕ → List ℕ → Bool
-same [] [] = true
-same [] (y ∷ ys) = false
-same (x ∷ xs) [] = false
-same (x ∷ xs) (y ∷ ys) = both (eqb x y) (same xs ys)
 
 -- "a copy of either": the new built-in record, or the old one
 unfoldable pub eitherBuiltIn : List ℕ → Bool

@@ -12,6 +12,7 @@ use lib.ListN.{length, take}
 use Rattle.octets.specs.Choice.{pick, both}
 use Rattle.octets.specs.ExclusiveOr.{xor, exclusiveOr}
 use Rattle.octets.specs.First.{firstOf}
+use Rattle.octets.specs.Same.{same}
 use Rattle.octets.proofs.Laws.{pick-by, both-left, both-right, clash}
 use Rattle.diagram.specs.Rows as table
 use Rattle.diagram.specs.Table as diagram
@@ -27,15 +28,15 @@ use Rattle.record.specs.Record.{bookLen, orderOf}
 use Rattle.checks.specs.Standing.{timesDisagree, planDisagree, ranged, timesStand, planStands, readyStands, allZero, standingOf}
 use Rattle.plan.specs.declared.Which.the-variants.{Old}
 use Rattle.plan.specs.BuiltIn.{padded, builtIn}
-use Rattle.plan.specs.Reading.{same}
 use Rattle.plan.specs.Reporting.{planInfo}
 use Rattle.lamps.specs.Rows.{phaseTable, secondsOf, rowAt}
 use Rattle.lamps.specs.Rows as lamps
 use Rattle.lamps.specs.declared.Row.{Row}
 use Rattle.lamps.proofs.Second.{lamps-of-step, dark-past}
+use Rattle.controller.specs.Memory.{isRepeat, remembering}
 use Rattle.controller.specs.State.{State, freshOf, runningSound, soundOf}
 use Rattle.controller.specs.Handling.{replyInfo, handlingOf}
-use Rattle.controller.specs.Replies.{repliedOf, messageOf, doneOf, octetOf}
+use Rattle.controller.specs.Replies.{repliedOf, acceptedOf, messageOf, memoryOf, doneOf, octetOf}
 use Rattle.controller.specs.Seconds.{Shown, movedOn, noSecond, secondOf}
 use Rattle.text.specs.Text.{digits, placesWithin, places, decimal, blankHex2, spaced, octetsHex}
 use Rattle.text.proofs.Means.{hex-means}
@@ -143,5 +144,5 @@ unfolding firstOf diagram.find table.directory diagram.diagramOf table.lampRows 
 two-seconds = (refl, refl)
 
 pub reply-and-bad : ReplyAndBad
-unfolding xor exclusiveOr firstOf diagram.find table.directory diagram.diagramOf table.lampRows diagram.rowNumber diagram.lampRowOf frontOf bodyOf sentOf cksOf twice doubled written freshHead possibleOf frontIn cksIn stepOf takenOf openOf stopped numberThen countedOf layouts layoutAt known numberOf rowsAt message.layoutRows zeros placed firstOut noMessage notRead partOf rangedOf readPartOf readOf timesDisagree planDisagree ranged timesStand planStands readyStands allZero standingOf padded builtIn same planInfo phaseTable secondsOf freshOf runningSound soundOf replyInfo handlingOf repliedOf messageOf doneOf octetOf digits line.hexOf line.lineOctet line.endOf founds lineAfter foundIn header placesWithin places decimal blankHex2 spaced octetsHex replyLine badLine octetMade badSaid lineMade listingFrom listingOf
+unfolding xor exclusiveOr firstOf diagram.find table.directory diagram.diagramOf table.lampRows diagram.rowNumber diagram.lampRowOf frontOf bodyOf sentOf cksOf twice doubled written freshHead possibleOf frontIn cksIn stepOf takenOf openOf stopped numberThen countedOf layouts layoutAt known numberOf rowsAt message.layoutRows zeros placed firstOut noMessage notRead partOf rangedOf readPartOf readOf timesDisagree planDisagree ranged timesStand planStands readyStands allZero standingOf padded builtIn same planInfo phaseTable secondsOf freshOf runningSound soundOf replyInfo handlingOf repliedOf isRepeat remembering acceptedOf messageOf memoryOf doneOf octetOf digits line.hexOf line.lineOctet line.endOf founds lineAfter foundIn header placesWithin places decimal blankHex2 spaced octetsHex replyLine badLine octetMade badSaid lineMade listingFrom listingOf
 reply-and-bad = (refl, refl)

@@ -1,9 +1,8 @@
 -- The statements of specs/Puts.antt: a text that is put is added behind what was used, where there is room for it.
 use mathlib.Core.Path.{refl, sym, _∙_}
 use mathlib.Core.List.{_++_}
-use lib.ListN.{take-append-drop}
 use Rattle.octets.proofs.Relations.{relations-as-said}
-use Rattle.frame.specs.Frame.{infoMost}
+use Rattle.controller.proofs.Answering.{in-three}
 use Rattle.printout.specs.Listing.{header, badLine}
 use Rattle.printout.specs.Puts.{PutsAsSaid, LinesLeave}
 use Rattle.printout.proofs.Promised.{second-printed, reply-printed}
@@ -24,7 +23,7 @@ pub lines-leave : LinesLeave
 lines-leave m lent used t r k b o t′ l =
     record {
       state = l .said .state;
-      octets = sym (take-append-drop infoMost k) ∙ (λ i. l .said .state i .decoder .info ++ l .beyond i);
+      octets = sym (in-three k) ∙ (λ i. l .said .state i .decoder .info ++ (l .said .state i .memory .info ++ l .beyond i));
       seconds = l .said .seconds;
       text = relations-as-said .put (m .said .text) used t (r .used) t′ (l .said .text);
       short = l .said .short;

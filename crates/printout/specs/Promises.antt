@@ -105,12 +105,12 @@ StartsAsked = WordsAsk
 -- "starts fresh at address 0001 with an empty book", no second so far; "It prints a header", then what each line prints, one after
 -- another, each with what the one before it made
 pub record ListingStarts (which : Which) : Type 0 where
-  pub state : (kept : List ℕ) → joined (runStart which .state) kept ≡ freshOf which 0x0001 (take 256 kept)
+  pub state : (kept : List ℕ) → joined (runStart which .state) kept ≡ freshOf which 0x0001 kept
   pub seconds : runStart which .seconds ≡ 0
   pub used : runStart which .used ≡ 0
   pub listing : (input : List ℕ) → listingOf which input
       ≡ ascii "second\tplan\tstep\tleft\tsteady\tflashing\n"
-      ++ listingFrom (freshOf which 0x0001 (replicate 256 0x00)) 0 (replicate 3840 0x00) (replicate 544 0x00) (foundIn firstLine input)
+      ++ listingFrom (freshOf which 0x0001 (replicate 512 0x00)) 0 (replicate 3840 0x00) (replicate 544 0x00) (foundIn firstLine input)
   pub ended : (s : State) (n : ℕ) (b o : List ℕ) → listingFrom s n b o [] ≡ []
   pub next : (s : State) (n : ℕ) (b o : List ℕ) (f : LineFound) (fs : List LineFound) → listingFrom s n b o (f ∷ fs)
       ≡ lineMade f s n b o .said .text

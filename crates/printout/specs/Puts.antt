@@ -28,11 +28,11 @@ PutsAsSaid = EachPut
 
 -- What a line leaves
 
--- the run r, the octets k that were lent for INFO, the book b and the output o are those that the line makes, and its text, never longer than
+-- the run r, the octets k that were lent, the book b and the output o are those that the line makes, and its text, never longer than
 -- 1,644, is put behind what was used
 pub record Left (m : Making) (lent : List ℕ) (used : ℕ) (t : List ℕ) (r : Run) (k b o t′ : List ℕ) : Type 0 where
   pub state : joined (r .state) k ≡ m .said .state
-  pub octets : k ≡ m .said .state .decoder .info ++ drop 256 lent
+  pub octets : k ≡ m .said .state .decoder .info ++ (m .said .state .memory .info ++ drop 512 lent)
   pub seconds : r .seconds ≡ m .said .seconds
   pub text : PutSo (m .said .text) used t (r .used) t′
   pub short : length (m .said .text) ≤ 1644

@@ -12,6 +12,7 @@ use Rattle.record.specs.Record.{emptyBook}
 use Rattle.plan.specs.declared.Which.{Which}
 use Rattle.plan.specs.declared.Which.the-variants.{New, Old}
 use Rattle.plan.specs.BuiltIn.{builtIn}
+use Rattle.controller.specs.Memory.{noneAccepted}
 use Rattle.controller.specs.State.{State, joined, keptLen, outputLen, startedAt, freshOf}
 use Rattle.controller.specs.Replies.{octetOf}
 use Rattle.controller.specs.Seconds.{secondOf}
@@ -31,7 +32,7 @@ own = 0x0001
 unfoldable pub runStart : Which → Run
 runStart which =
     record {
-      state = record { own = own; seq = 0; requested = 0; receiver = freshReceiver; running = startedAt which 0 (builtIn which) };
+      state = record { own = own; seq = 0; requested = 0; receiver = freshReceiver; last = noneAccepted; running = startedAt which 0 (builtIn which) };
       seconds = 0;
       used = 0;
     }
@@ -62,7 +63,7 @@ pub record Making : Type 0 where
   pub book : List ℕ
   pub out : List ℕ
 
--- r is the run so, with these octets kept for INFO, and the text, filled up to `used`, t before and t′ now, has the line's behind it where
+-- r is the run so, with these octets kept, and the text, filled up to `used`, t before and t′ now, has the line's behind it where
 -- there is room
 pub record Said (w : Saying) (kept : List ℕ) (used : ℕ) (t : List ℕ) (r : Run) (t′ : List ℕ) : Type 0 where
   pub state : joined (r .state) kept ≡ w .state
@@ -70,7 +71,7 @@ pub record Said (w : Saying) (kept : List ℕ) (used : ℕ) (t : List ℕ) (r : 
   pub text : Put (w .text) used t (r .used) t′
   pub short : length (w .text) ≤ textMost
 
--- the octets lent for INFO are k now, those beyond as they came
+-- the octets lent are k now, those beyond as they came
 pub record Listed (m : Making) (lent : List ℕ) (used : ℕ) (t : List ℕ) (r : Run) (k b o t′ : List ℕ) : Type 0 where
   pub said : Said (m .said) k used t r t′
   pub beyond : drop keptLen k ≡ drop keptLen lent
@@ -116,6 +117,6 @@ listingFrom s n book out (f ∷ fs) =
     let m = lineMade f s n book out in
     m .said .text ++ listingFrom (m .said .state) (m .said .seconds) (m .book) (m .out) fs
 
--- "starts fresh at address 0001 with an empty book"; the octets that are lent for INFO are 0 at first
+-- "starts fresh at address 0001 with an empty book"; the octets that are lent are 0 at first
 unfoldable pub listingOf : Which → List ℕ → List ℕ
 listingOf which input = header ++ listingFrom (freshOf which own (replicate keptLen 0)) 0 emptyBook (replicate outputLen 0) (foundIn firstLine input)

@@ -32,7 +32,7 @@ moved-on-requires c κs =
 
 returns-3 : tie.Need-returns-3
 returns-3 c kept l =
-    let m = c .before .before in
+    let m = c .before .before .before in
     let r = m .before .before .before .before .before in
     let j = r .before .before .before .before .before in
     let t = j .before .before in

@@ -1,6 +1,7 @@
 -- `cost::made` is safe and ends: it stays within the events, two octets a turn.
 use Prim.Native.Nat.{_-_, _≤_}
 use mathlib.Core.Path.{_≡_}
+use native.Mathlib.Omega.{arith}
 use borrow.Author.Needs.{needs}
 use lib.ListN.{length}
 use Rattle.cost.proofs.made.Statement.{statement}
@@ -11,6 +12,10 @@ Inv-loop events kept₀ book₀ out₀ s₀ i₀ kept book out s i = (i ≤ leng
 
 abbrev μ-loop : tie.MeasureT-loop
 μ-loop events kept₀ book₀ out₀ s₀ i₀ kept book out s i = length events - i
+
+-- a slice has no more elements than a number can tell, which is said where the function begins
+add-i : tie.Need-add-i Inv-loop μ-loop
+add-i c = omega (arith, c .before .before .before .before .before .before .before .before .before .before .before .before .before .before .before .before .before .before .good)
 
 pub made-spec : {M : Type 1} → statement M
 made-spec =
@@ -24,7 +29,7 @@ made-spec =
     (λ c. search needs)
     (λ c. search needs)
     (λ c κs. search needs)
-    (λ c. search needs)
+    add-i
     (λ c. search needs)
     (λ c. search needs)
     (λ c. search needs)

@@ -13,6 +13,12 @@ Inv-loop kept₀ book₀ out₀ text₀ g₀ turns₀ kept book out text g turns
 abbrev μ-loop : tie.MeasureT-loop
 μ-loop kept₀ book₀ out₀ text₀ g₀ turns₀ kept book out text g turns = turns
 
+-- the lengths with which the turn began are too far back for a search by itself
+loop-again : tie.Need-loop-again Inv-loop μ-loop
+loop-again c =
+    let v = c .before .before .before .before .before .before .before .before .before .before .before .before .before .before .before .loop .inv in
+    (search (needs, v .0), search (needs, v .1), search (needs, v .2), search (needs, v .3), search needs)
+
 pub read-all-spec : {M : Type 1} → statement M
 read-all-spec =
     tie.close
@@ -21,14 +27,9 @@ read-all-spec =
     μ-loop
     (λ c. search needs)
     (λ c κs. search needs)
+    (λ c κs. search needs)
     (λ c. search needs)
-    (λ c. search needs)
-    (λ c. search needs)
-    (λ c. search needs)
-    (λ c. search needs)
-    (λ c. search needs)
-    (λ c. search needs)
-    (λ c. search needs)
+    loop-again
     (λ c. search needs)
     (λ c. search needs)
     (λ c. search needs)

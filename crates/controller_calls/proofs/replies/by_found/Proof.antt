@@ -1,44 +1,59 @@
 -- `controller_calls::replies::by_found` meets its contract: what the decoder found decides.
-use mathlib.Core.Path.{refl, sym, _∙_}
-use native.Mathlib.Omega.{arith}
-use Rattle.controller_calls.proofs.Written.{info-found, stored-tells}
+use mathlib.Core.Path.{refl, _∙_}
+use lib.Seq.{take-take}
+use Rattle.frame.specs.Frame.{infoMost}
+use Rattle.controller_calls.proofs.Written.{can-take, stored-tells, brought-still, memory-came}
 use borrow.Author.Needs.{needs}
 use Rattle.controller_calls.proofs.replies.by_found.Statement.{statement}
 use Rattle.controller_calls.proofs.replies.by_found.Tie as tie
-
-slice-aggregate-message-taken : tie.Need-slice-aggregate-message-taken
-slice-aggregate-message-taken c =
-    let f = c .before .before in
-    let z = f .before .before .before .before .before in
-    sym (info-found (z .args .kept .now) (f .found2 .given .1) (z .pre .0) (z .pre .1) .1)
 
 message-taken-requires : tie.Need-message-taken-requires
 message-taken-requires c κs =
     let f = c .before .before .before .before in
     let z = f .before .before .before .before .before in
-    let n = info-found (z .args .kept .now) (f .found2 .given .1) (z .pre .0) (z .pre .1) in
-    (omega (arith, n .0, n .1), z .pre .2, z .pre .3, z .pre .4, z .pre .5)
+    let n = can-take (f .found2 .given .1) (z .pre .0) in
+    (n .0, n .1, z .pre .1, z .pre .2, z .pre .3, z .pre .4, z .pre .5, z .pre .6)
 
 returns : tie.Need-returns
-returns c kept = rw (c .before .enum-told .given .1) (record { tells = record { told = c .unchanged .ensures; out = refl }; book = refl })
+returns c came e =
+    let m = c .before .before in
+    let a = m .before .before .before .before .before .args in
+    rw (m .enum-told .given .1)
+    (brought-still (a .s) (a .kept .now) (c .still .ensures) (memory-came (a .s) came (a .kept .now) e) (record { tells = record { told = c .before .unchanged .ensures; out = refl }; book = refl }))
 
 returns-2 : tie.Need-returns-2
-returns-2 c kept =
-    let k = c .before .before .before in
+returns-2 c came e =
+    let k = c .before .before .before .before in
     let f = k .before .before .before in
     let a = f .before .before .before .before .before .args in
-    rw (f .found .given .1) (record { tells = stored-tells (a .s) _ _ _ (k .nak .ensures) (c .unchanged2 .ensures) kept; book = refl })
+    rw (f .found .given .1)
+    (brought-still (a .s) (a .kept .now) (c .still2 .ensures) (memory-came (a .s) came (a .kept .now) e)
+    (record { tells = stored-tells (a .s) _ _ _ (k .nak .ensures) (c .before .unchanged2 .ensures) came; book = refl }))
 
 returns-3 : tie.Need-returns-3
-returns-3 c kept = let m = c .before .before .before .before in rw (m .before .before .before .before .before .found2 .given .1) (m .message-taken .ensures kept)
+returns-3 c came e =
+    let m = c .before .before .before .before .before .before in
+    let f = m .before .before .before .before .before in
+    let z = f .before .before .before .before .before in
+    rw (f .found2 .given .1, take-take _ infoMost (z .args .kept .now) (can-take (f .found2 .given .1) (z .pre .0) .1)) (m .message-taken .ensures came e)
 
 returns-4 : tie.Need-returns-4
-returns-4 c kept =
-    rw (c .before .before .before .found3 .given .1) (record { tells = record { told = c .unchanged3 .ensures ∙ rw (c .before .event-for .ensures); out = refl }; book = refl })
+returns-4 c came e =
+    let v = c .before .before in
+    let f = v .before .before in
+    let a = f .before .before .before .before .before .args in
+    rw (f .found3 .given .1)
+    (brought-still (a .s) (a .kept .now) (c .still3 .ensures) (memory-came (a .s) came (a .kept .now) e)
+    (record { tells = record { told = c .before .unchanged3 .ensures ∙ rw (v .event-for .ensures); out = refl }; book = refl }))
 
 returns-5 : tie.Need-returns-5
-returns-5 c kept =
-    rw (c .before .before .before .found4 .given .1) (record { tells = record { told = c .unchanged4 .ensures ∙ rw (c .before .event-for2 .ensures); out = refl }; book = refl })
+returns-5 c came e =
+    let v = c .before .before in
+    let f = v .before .before in
+    let a = f .before .before .before .before .before .args in
+    rw (f .found4 .given .1)
+    (brought-still (a .s) (a .kept .now) (c .still4 .ensures) (memory-came (a .s) came (a .kept .now) e)
+    (record { tells = record { told = c .before .unchanged4 .ensures ∙ rw (v .event-for2 .ensures); out = refl }; book = refl }))
 
 pub by-found-spec : {M : Type 1} → statement M
 by-found-spec =
@@ -46,22 +61,25 @@ by-found-spec =
     (tie.spec
     (λ c. search needs)
     (λ c κs. search needs)
+    (λ c κs. search needs)
     (λ c. search needs)
     (λ c κs. search needs)
     (λ c κs. search needs)
+    (λ c κs. search needs)
     (λ c. search needs)
-    (λ c. search needs)
-    slice-aggregate-message-taken
     message-taken-requires
     (λ c. search needs)
     (λ c κs. search needs)
     (λ c κs. search needs)
+    (λ c κs. search needs)
     (λ c. search needs)
+    (λ c κs. search needs)
     (λ c κs. search needs)
     (λ c κs. search needs)
     returns
     (λ c. search needs)
     returns-2
+    (λ c. search needs)
     (λ c. search needs)
     (λ c. search needs)
     returns-3

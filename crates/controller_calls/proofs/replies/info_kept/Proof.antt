@@ -19,7 +19,7 @@ add-t10 c =
 
 returns : tie.Need-returns
 returns c =
-    let z = c .before .before .before .before .before .before .before in
+    let z = c .before .before .before .before .before .before .before .before in
     let a = z .args in
     kept-with (a .s) (a .kept .now) (a .b) (z .pre .0) (z .pre .1) (search needs) (omega (arith, z .good)) (c .counted .ensures)
 

@@ -1,54 +1,52 @@
--- `controller_calls::replies::message_taken` meets its contract: a frame for another address is dropped, an answer acknowledged, any
--- other message carried out and replied to.
-use mathlib.Core.Path.{refl, sym, ap, _∙_}
-use mathlib.Core.List.{[]}
+-- `controller_calls::replies::message_taken` meets its contract: a frame for another address is dropped, a repeat acknowledged, any other accepted.
+use mathlib.Core.Path.{sym, _∙_}
+use native.Mathlib.Omega.{arith}
 use borrow.Author.Tests.{not-true, not-false}
-use Rattle.controller.specs.State.{joined}
-use Rattle.controller.specs.Replies.{isAnswer}
-use Rattle.controller.proofs.Laws.{message-other, message-answer, message-handled}
-use Rattle.controller_calls.proofs.Written.{stored-tells, handled-there, handled-brings}
+use Rattle.controller_calls.proofs.Repeating.{kept-long, part-long, taken-other, taken-repeat, taken-new}
 use borrow.Author.Needs.{needs}
 use Rattle.controller_calls.proofs.replies.message_taken.Statement.{statement}
 use Rattle.controller_calls.proofs.replies.message_taken.Tie as tie
 
 returns : tie.Need-returns
-returns c kept =
-    let f = c .before .before in
+returns c came e =
+    let i = c .before .before in
+    let f = i .before in
     let a = f .before .before .before .before .args in
-    rw (message-other (joined (a .s) kept) (a .seq) (a .addr) (a .info .now) (a .book .now) (sym (f .for-us .ensures) ∙ not-true _ (c .before .if1 .taken)))
-    (record { tells = record { told = c .unchanged .ensures; out = refl }; book = refl })
+    taken-other (a .s) (a .kept .now) came (a .book .now) (a .out .now) (a .seq) (a .addr) (a .n) e (sym (f .for-us .ensures) ∙ not-true _ (i .if1 .taken)) (c .before .unchanged .ensures) (c .still .ensures)
 
 returns-2 : tie.Need-returns-2
-returns-2 c kept =
-    let k = c .before .before .before in
-    let i = k .before .before in
-    let w = i .before .before in
-    let j = w .before .before .before in
-    let f = j .before in
+returns-2 c came e =
+    let k = c .before .before .before .before in
+    let j = k .before .before in
+    let i = j .before .before .before in
+    let f = i .before in
     let a = f .before .before .before .before .args in
-    rw (message-answer (joined (a .s) kept) (a .seq) (a .addr) (a .info .now) (a .book .now) (sym (f .for-us .ensures) ∙ not-false _ (j .if1 .left))
-    (ap isAnswer (sym (w .word .ensures)) ∙ (sym (i .before .is-answer .ensures) ∙ i .if2 .taken)))
-    (record { tells = stored-tells (a .s) _ _ _ (k .ack .ensures) (c .unchanged2 .ensures) kept; book = refl })
+    taken-repeat (a .s) (a .kept .now) came (a .book .now) (a .out .now) (a .seq) (a .addr) (a .n) e (sym (f .for-us .ensures) ∙ not-false _ (i .if1 .left)) (j .before .is-repeat .ensures)
+    (j .if2 .taken) (k .ack .ensures) (c .before .unchanged2 .ensures) (c .still2 .ensures)
 
-replied-requires : tie.Need-replied-requires
-replied-requires c κs =
-    let h = c .before .before .before .before in
-    let z = h .before .before .before .before .before .before .before .before .before .before .before .before in
-    let a = z .args in
-    (search needs, handled-there (a .s) (a .book .now) (a .info .now) [] (z .pre .1) (h .carry-out .ensures []), z .pre .4)
+part-accepted-end : tie.Need-part-accepted-end
+part-accepted-end c =
+    let m = c .before .before .before in
+    let z = m .before .before .before .before .before .before .before .before .before .before in
+    omega (arith, kept-long (z .pre .3) (z .pre .1) (m .remember .ensures), z .pre .1, z .pre .3)
+
+accepted-requires : tie.Need-accepted-requires
+accepted-requires c κs =
+    let m = c .before .before .before .before .before .before in
+    let z = m .before .before .before .before .before .before .before .before .before .before in
+    (omega (arith, part-long (z .pre .3) (z .pre .1) (m .remember .ensures), z .pre .0), z .pre .4, z .pre .5, z .pre .6, z .pre .7)
 
 returns-3 : tie.Need-returns-3
-returns-3 c kept =
-    let r = c .before .before in
-    let h = r .before .before .before .before .before in
-    let i = h .before .before in
-    let w = i .before .before in
-    let j = w .before .before .before in
-    let f = j .before in
-    let a = f .before .before .before .before .args in
-    rw (message-handled (joined (a .s) kept) (a .seq) (a .addr) (a .info .now) (a .book .now) (sym (f .for-us .ensures) ∙ not-false _ (j .if1 .left))
-    (ap isAnswer (sym (w .word .ensures)) ∙ (sym (i .before .is-answer .ensures) ∙ i .if2 .left)))
-    (handled-brings (a .s) (a .book .now) (a .info .now) kept (a .seq) (a .addr) (r .replied .ensures) (h .carry-out .ensures kept))
+returns-3 c came e =
+    let w = c .before .before .before .before in
+    let m = w .before .before .before .before .before .before .before in
+    let j = m .before .before in
+    let i = j .before .before .before in
+    let f = i .before in
+    let z = f .before .before .before .before in
+    let a = z .args in
+    taken-new (a .s) (a .kept .now) came (a .book .now) (a .out .now) (a .seq) (a .addr) (a .n) e (sym (f .for-us .ensures) ∙ not-false _ (i .if1 .left)) (j .before .is-repeat .ensures)
+    (j .if2 .left) (z .pre .3) (z .pre .1) (m .remember .ensures) (w .accepted .ensures)
 
 pub message-taken-spec : {M : Type 1} → statement M
 message-taken-spec =
@@ -56,17 +54,21 @@ message-taken-spec =
     (tie.spec
     (λ c κs. search needs)
     (λ c κs. search needs)
+    (λ c κs. search needs)
     returns
+    (λ c κs. search needs)
+    (λ c κs. search needs)
+    (λ c κs. search needs)
+    (λ c κs. search needs)
     (λ c. search needs)
-    (λ c. search needs)
-    (λ c κs. search needs)
-    (λ c κs. search needs)
-    (λ c κs. search needs)
-    (λ c κs. search needs)
     (λ c. search needs)
     returns-2
     (λ c κs. search needs)
-    replied-requires
+    (λ c. search needs)
+    (λ c. search needs)
+    part-accepted-end
+    accepted-requires
+    (λ c. search needs)
     (λ c. search needs)
     (λ c. search needs)
     returns-3)

@@ -6,7 +6,7 @@ use Rattle.controller_calls.proofs.replies.one_dropped.Tie as tie
 
 returns : tie.Need-returns
 unfolding heldDropped
-returns c = rw (c .counted .ensures, c .before .before .before .stopped .ensures)
+returns c = rw (c .counted .ensures, c .before .before .before .before .stopped .ensures)
 
 pub one-dropped-spec : {M : Type 1} → statement M
 one-dropped-spec =

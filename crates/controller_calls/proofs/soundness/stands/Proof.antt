@@ -1,6 +1,6 @@
 -- `controller_calls::soundness::stands` meets its contract: one law for each way.
 use borrow.Author.Tests.{not-true, not-false}
-use Rattle.controller_calls.proofs.Held.{own-all, requested-over, too-few, impossible, by-running}
+use Rattle.controller_calls.proofs.Held.{own-all, requested-over, too-few, unfit, impossible, by-running}
 use borrow.Author.Needs.{needs}
 use Rattle.controller_calls.proofs.soundness.stands.Statement.{statement}
 use Rattle.controller_calls.proofs.soundness.stands.Tie as tie
@@ -22,19 +22,29 @@ returns-3 c =
 
 returns-4 : tie.Need-returns-4
 returns-4 c =
-    let p = c .before in
-    let l = p .before .before in
+    let l = c .before .before .before in
     let i = l .before .before .before in
     let a = i .before .before .args in
-    impossible (a .s) (a .lent) (i .if1 .left) (l .before .if2 .left) (l .if3 .left) (p .possible .ensures) (not-true _ (c .if4 .taken))
+    unfit (a .s) (a .lent) (i .if1 .left) (l .before .if2 .left) (l .if3 .left) (c .before .last-stands .ensures) (not-true _ (c .if4 .taken))
 
 returns-5 : tie.Need-returns-5
 returns-5 c =
-    let p = c .before .before in
-    let l = p .before .before in
+    let f = c .before .before .before in
+    let l = f .before .before .before in
     let i = l .before .before .before in
     let a = i .before .before .args in
-    by-running (a .s) (a .lent) (i .if1 .left) (l .before .if2 .left) (l .if3 .left) (p .possible .ensures) (not-false _ (c .before .if4 .left)) (c .running-stands .ensures)
+    impossible (a .s) (a .lent) (i .if1 .left) (l .before .if2 .left) (l .if3 .left) (f .before .last-stands .ensures) (not-false _ (f .if4 .left)) (c .before .possible .ensures)
+    (not-true _ (c .if5 .taken))
+
+returns-6 : tie.Need-returns-6
+returns-6 c =
+    let p = c .before .before in
+    let f = p .before .before in
+    let l = f .before .before .before in
+    let i = l .before .before .before in
+    let a = i .before .before .args in
+    by-running (a .s) (a .lent) (i .if1 .left) (l .before .if2 .left) (l .if3 .left) (f .before .last-stands .ensures) (not-false _ (f .if4 .left)) (p .possible .ensures)
+    (not-false _ (c .before .if5 .left)) (c .running-stands .ensures)
 
 pub stands-spec : {M : Type 1} → statement M
 stands-spec =
@@ -46,4 +56,6 @@ stands-spec =
     (λ c κs. search needs)
     returns-4
     (λ c κs. search needs)
-    returns-5)
+    returns-5
+    (λ c κs. search needs)
+    returns-6)

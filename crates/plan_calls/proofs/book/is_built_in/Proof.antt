@@ -3,7 +3,8 @@ use mathlib.Core.Path.{_≡_, _∙_}
 use borrow.Author.Needs.{needs}
 use lib.ListN.{length}
 use Rattle.plan.specs.BuiltIn.{builtIn}
-use Rattle.plan.proofs.Laws.{length-built-in, same-not}
+use Rattle.octets.proofs.Laws.{same-not}
+use Rattle.plan.proofs.Laws.{length-built-in}
 use Rattle.plan_calls.proofs.book.is_built_in.Statement.{statement}
 use Rattle.plan_calls.proofs.book.is_built_in.Tie as tie
 

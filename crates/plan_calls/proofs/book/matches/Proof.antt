@@ -6,9 +6,10 @@ use mathlib.Core.Logic.{⊎-elim}
 use borrow.Author.Needs.{needs}
 use lib.ListN.{length, drop}
 use Rattle.octets.specs.Choice.{both}
+use Rattle.octets.specs.Same.{same}
+use Rattle.octets.proofs.Laws.{same-stops, same-goes, same-ends}
 use Rattle.record.specs.Record.{recordLen}
-use Rattle.plan.specs.Reading.{same}
-use Rattle.plan.proofs.Laws.{length-built-in, same-stops, same-goes, same-ends}
+use Rattle.plan.proofs.Laws.{length-built-in}
 use Rattle.plan_calls.proofs.book.matches.Statement.{statement}
 use Rattle.plan_calls.proofs.book.matches.Tie as tie
 

@@ -5,6 +5,7 @@ use Rattle.frame.specs.Dropped.{freshReceiver}
 use Rattle.controller.specs.State.{freshOf}
 use Rattle.controller.specs.Replies.{Answer}
 use Rattle.controller.specs.Seconds.{startedOf}
+use Rattle.controller.proofs.Answering.{held}
 use Rattle.printout.specs.declared.Run.{Run}
 use Rattle.printout.specs.Run.{runStart}
 use borrow.Author.Needs.{needs}
@@ -13,9 +14,7 @@ use Rattle.printout_calls.proofs.run.run_start.Tie as tie
 
 -- the run with the struct of this answer
 abbrev runOf : Answer → Run
-runOf a =
-    let s = a .state in
-    record { state = record { own = s .own; seq = s .seq; requested = s .requested; receiver = record { head = s .decoder .head; dropped = s .dropped }; running = s .running }; seconds = 0; used = 0 }
+runOf a = record { state = held (a .state); seconds = 0; used = 0 }
 
 returns : tie.Need-returns
 unfolding freshReceiver runStart startedOf freshOf

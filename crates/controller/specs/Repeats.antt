@@ -1,0 +1,74 @@
+-- 02, E4: "The centre resends when our ACK is lost .. A sound message frame whose SEQ and INFO both equal those of the last one accepted (for us or
+-- FFFF, refused 10 to 14 or not) is a repeat: it gets the ACK (none for FFFF) and nothing else. A fresh start remembers none; line-idle keeps the
+-- memory.": over any run what is remembered is the last one accepted, and a frame sent twice does what it does once.
+use Prim.Native.Nat.{ℕ, _≤_, _<_}
+use mathlib.Core.Path.{_≡_}
+use mathlib.Core.Bool.{true}
+use mathlib.Core.Logic.{_⊎_}
+use mathlib.Core.List.{List, [], _∷_}
+use mathlib.Core.Option.{Option, none, some}
+use lib.ListN.{length}
+use Rattle.octets.specs.Octet.{Octets}
+use Rattle.frame.specs.Frame.{message, ack, written}
+use Rattle.frame.specs.Promises.{InOctets, InfoFits}
+use Rattle.frame.specs.Run.{AtRest}
+use Rattle.plan.specs.declared.Which.{Which}
+use Rattle.controller.specs.Memory.{Memory}
+use Rattle.controller.specs.State.{State, soundOf}
+use Rattle.controller.specs.Replies.{octetOf}
+use Rattle.controller.specs.Seconds.{secondOf}
+use Rattle.controller.specs.Demand2.{Repeats}
+use Rattle.controller.specs.Demand3.{HostCall, octet, lineIdle, second, goesOn, run, Accepted, heardIn, secondAccepted}
+use Rattle.controller.specs.OurSeq.{writesOn}
+
+-- What is remembered
+
+-- it is the memory of this frame, or of none
+abbrev pub IsLast : Memory → Option Accepted → Type 0
+IsLast m none = m .last .len ≡ 0
+IsLast m (some a) = Repeats m (a .seq) (a .info)
+
+-- From a fresh start, states handed back as given, octets, line-idle calls and seconds mixed at will, refused calls too: which frames were accepted is
+-- told from the octets handed in.
+abbrev pub LastKept : Type 0
+LastKept =
+    (which : Which) (own : ℕ) (kept : List ℕ) → (own ≡ 0xFFFF → ⊥) → 512 ≤ length kept → (es : List HostCall)
+    → IsLast (run which own kept es .memory) (heardIn own kept es .last)
+
+-- Sent twice
+
+-- the octets are handed in one by one, each with a book of 3,840 octets and an output of 544 or more, whatever they hold
+pub data HandsIn : List ℕ → List HostCall → Type 0 where
+  end : HandsIn [] []
+  next : {bs : List ℕ} {es : List HostCall} (b : ℕ) (l : b < 256) (book out : List ℕ) (o : Octets book) → length book ≡ 3840 → 544 ≤ length out
+      → HandsIn bs es → HandsIn (b ∷ bs) (octet b l book out o ∷ es)
+
+-- each call leaves the book that it is lent
+abbrev pub BooksLeft : State → List HostCall → Type 0
+BooksLeft s [] = Unit
+BooksLeft s (octet b _ book out _ ∷ es) = (octetOf s book out b .book ≡ book) × BooksLeft (octetOf s book out b .answer .state) es
+BooksLeft s (lineIdle ∷ es) = BooksLeft s es
+BooksLeft s (second book _ ∷ es) = BooksLeft s es
+
+-- the calls `again` do nothing to the state t but write these octets: request, our SEQ and memory stay, no plan is altered, and every second shows what
+-- it would have shown
+pub record NothingElse (t : State) (again : List HostCall) (octets : List ℕ) : Type 0 where
+  pub writes : writesOn t again ≡ octets
+  pub books : BooksLeft t again
+  pub requested : goesOn t again .requested ≡ t .requested
+  pub seq : goesOn t again .seq ≡ t .seq
+  pub memory : goesOn t again .memory ≡ t .memory
+  pub running : goesOn t again .running ≡ t .running
+  pub lamps : (book : List ℕ) → secondAccepted (secondOf (goesOn t again) book) ≡ secondAccepted (secondOf t book)
+
+-- "it gets the ACK (none for FFFF) and nothing else": from any sound state with its decoder at rest, a message frame and then the same octets,
+-- whatever books are lent then
+pub record TwiceAsOnce (s : State) (seq : ℕ) (info : List ℕ) (addr : ℕ) (first again : List HostCall) : Type 0 where
+  pub ours : addr ≡ s .own → NothingElse (goesOn s first) again (written (ack seq (s .own)))
+  pub forAll : addr ≡ 0xFFFF → NothingElse (goesOn s first) again []
+
+abbrev pub SentTwice : Type 0
+SentTwice =
+    (s : State) → soundOf s ≡ true → AtRest (s .decoder) → (seq addr : ℕ) (info : List ℕ) → InOctets (message seq addr info) → InfoFits (message seq addr info)
+    → (first again : List HostCall) → HandsIn (written (message seq addr info)) first → HandsIn (written (message seq addr info)) again
+    → TwiceAsOnce s seq info addr first again
