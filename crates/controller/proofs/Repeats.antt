@@ -20,17 +20,18 @@ use Rattle.frame.proofs.Reading.{reading-undoes-writing}
 use Rattle.record.specs.Record.{bookLen}
 use Rattle.controller.specs.Memory.{Memory, lastInfo}
 use Rattle.controller.specs.State.{State, all, outputLen, soundOf, withDecoder}
+use Rattle.controller.specs.declared.Event.the-variants as event
 use Rattle.controller.specs.Replies.{Call, octetOf}
 use Rattle.controller.specs.Demand2.{Repeats, OnlyTaken, RepliesSo}
 use Rattle.controller.specs.Demand3.{HostCall, octet, next, goesOn}
 use Rattle.controller.specs.OurSeq.{writes, writesOn}
-use Rattle.controller.specs.Repeats.{IsLast, LastKept, HandsIn, BooksLeft, NothingElse, SentTwice}
+use Rattle.controller.specs.Repeats.{IsLast, LastKept, HandsIn, TellsNothing, AllTellNothing, NothingElse, SentTwice}
 use Rattle.controller.specs.Repeats as hands
 use Rattle.controller.proofs.Judging.{LastFits, sound-parts}
 use Rattle.controller.proofs.Remembering.{lastIn}
 use Rattle.controller.proofs.Laws.{octet-brings}
 use Rattle.controller.proofs.Keeping.{octet-own, sound-kept}
-use Rattle.controller.proofs.Serving.{replies}
+use Rattle.controller.proofs.Serving.{message-event, replies}
 use Rattle.controller.proofs.Latest.{run-kept}
 use Rattle.controller.proofs.Run.{same-shown}
 
@@ -57,7 +58,7 @@ last-kept which own kept n long es =
 
 -- A frame's octets
 
--- before the last octet of a frame nothing but the decoder and the octets that are counted changes, nothing is written, and no book
+-- before the last octet of a frame nothing but the decoder and the octets that are counted changes, nothing is written and nothing told
 record Ends (f : Frame) (s : State) (bs : List ℕ) (es : List HostCall) : Type 0 where
   before : State
   alike : before ≡ withDecoder s (before .decoder) (before .dropped)
@@ -72,20 +73,20 @@ record Ends (f : Frame) (s : State) (bs : List ℕ) (es : List HostCall) : Type 
   ends : outcomeOf (takenOf (before .decoder) b) ≡ sound f
   state : goesOn s es ≡ next before (octet b l book out o)
   wrote : writesOn s es ≡ writes before (octet b l book out o)
-  books : octetOf before book out b .book ≡ book → BooksLeft s es
+  told : TellsNothing book (octetOf before book out b) → AllTellNothing s es
   decoder : goesOn s es .decoder ≡ decoderAfter (s .decoder) bs
 
 none-more : (d : Decoder) {bs : List ℕ} {es : List HostCall} → HandsIn bs es → outcomes d bs ≡ [] → (bs ≡ []) × (es ≡ [])
 unfolding outcomes
 none-more d hands.end e = (refl, refl)
-none-more d (hands.next b l book out o hb ho r) e = let z : _≡_ {A = ℕ} 0 1 = cc in absurd (omega arith)
+none-more d (hands.more b l book out o hb ho r) e = let z : _≡_ {A = ℕ} 0 1 = cc in absurd (omega arith)
 
 frame-in : (f : Frame) (n : ℕ) (s : State) {bs : List ℕ} {es : List HostCall} → HandsIn bs es → soundOf s ≡ true
     → outcomes (s .decoder) bs ≡ replicate n nothing ++ (sound f ∷ []) → Ends f s bs es
 unfolding outcomes decoderAfter
 frame-in f zero s hands.end h e = let z : _≡_ {A = ℕ} 0 1 = cc in absurd (omega arith)
 frame-in f (suc n) s hands.end h e = let z : _≡_ {A = ℕ} 0 1 = cc in absurd (omega arith)
-frame-in f zero s (hands.next {bs} {es} b l book out o hb ho r) h e =
+frame-in f zero s (hands.more {bs} {es} b l book out o hb ho r) h e =
     let q : outcomeOf (takenOf (s .decoder) b) ≡ sound f = cc in
     let m : outcomes (takenOf (s .decoder) b .decoder) bs ≡ [] = cc in
     let z = none-more (takenOf (s .decoder) b .decoder) r m in
@@ -104,10 +105,10 @@ frame-in f zero s (hands.next {bs} {es} b l book out o hb ho r) h e =
       ends = q;
       state = refl;
       wrote = append-nil (writes s (octet b l book out o));
-      books = λ x. (x, tt);
+      told = λ x. (x, tt);
       decoder = ap (λ (w : Call). w .answer .state .decoder) (octet-brings s book out b h hb ho q);
     })
-frame-in f (suc n) s (hands.next {bs} {es} b l book out o hb ho r) h e =
+frame-in f (suc n) s (hands.more {bs} {es} b l book out o hb ho r) h e =
     let q : outcomeOf (takenOf (s .decoder) b) ≡ nothing = cc in
     let m : outcomes (takenOf (s .decoder) b .decoder) bs ≡ replicate n nothing ++ (sound f ∷ []) = cc in
     let w = octet-brings s book out b h hb ho q in
@@ -129,7 +130,7 @@ frame-in f (suc n) s (hands.next {bs} {es} b l book out o hb ho r) h e =
       ends = i .ends;
       state = i .state;
       wrote = ap (λ (w : Call). take (w .answer .told .count) (w .out) ++ writesOn t es) w ∙ i .wrote;
-      books = λ x. (ap (λ (w : Call). w .book) w, i .books x);
+      told = λ x. (rw w (record { book = refl; refusal = refl; parameter = refl; event = refl }), i .told x);
       decoder = i .decoder ∙ ap (λ (d : Decoder). decoderAfter d bs) d;
     }
 
@@ -171,13 +172,17 @@ module _ (s : State) (h : soundOf s ≡ true) (a : AtRest (s .decoder)) (seq add
       rw (ap (λ (u : State). u .memory) (y .alike), x .state)
       (replies (x .before) (x .book) (x .out) (x .b) (x .stands) (x .hb) (x .ho) .remembered seq addr info (x .ends) (rw (ap (λ (u : State). u .own) (x .alike)) g))
 
-  nothing-else : (octets : List ℕ) → take (w .answer .told .count) (w .out) ≡ octets → OnlyTaken (y .before) (y .before .memory) (y .book) (y .b) w → NothingElse t again octets
-  nothing-else octets e k =
+  no-event : w .answer .told .event ≡ event.Nothing
+  no-event = rw (octet-brings (y .before) (y .book) (y .out) (y .b) (y .stands) (y .hb) (y .ho) (y .ends)) (message-event (y .before) seq addr info (y .book))
+
+  nothing-else : (octets : List ℕ) → take (w .answer .told .count) (w .out) ≡ octets → w .answer .told .refusal ≡ 0
+      → OnlyTaken (y .before) (y .before .memory) (y .book) (y .b) w → NothingElse t again octets
+  nothing-else octets e n k =
       let left = y .state ∙ k .state in
       let running = ap (λ (u : State). u .running) left ∙ ap (λ (u : State). u .running) (y .alike) in
       record {
         writes = y .wrote ∙ e;
-        books = y .books (k .book);
+        tells = y .told (record { book = k .book; refusal = n; parameter = k .parameter; event = no-event });
         requested = ap (λ (u : State). u .requested) left ∙ ap (λ (u : State). u .requested) (y .alike);
         seq = ap (λ (u : State). u .seq) left ∙ ap (λ (u : State). u .seq) (y .alike);
         memory = ap (λ (u : State). u .memory) left ∙ ap (λ (u : State). u .memory) (y .alike);
@@ -192,12 +197,12 @@ module _ (s : State) (h : soundOf s ≡ true) (a : AtRest (s .decoder)) (seq add
   ours : addr ≡ s .own → NothingElse t again (written (ack seq (s .own)))
   ours g =
       let r = answered .repeated seq info (y .ends ∙ ap (λ (n : ℕ). sound (message seq n info)) (g ∙ sym y-own)) (remembered (inl g)) in
-      nothing-else (written (ack seq (s .own))) (r .0 .octets ∙ append-nil (written (ack seq (y .before .own))) ∙ ap (λ (n : ℕ). written (ack seq n)) y-own) (r .2)
+      nothing-else (written (ack seq (s .own))) (r .0 .octets ∙ append-nil (written (ack seq (y .before .own))) ∙ ap (λ (n : ℕ). written (ack seq n)) y-own) (r .1) (r .2)
 
   for-all : addr ≡ all → NothingElse t again []
   for-all g =
       let r = answered .repeatedForAll seq info (y .ends ∙ ap (λ (n : ℕ). sound (message seq n info)) g) (remembered (inr g)) in
-      nothing-else [] (r .0 .octets) (r .2)
+      nothing-else [] (r .0 .octets) (r .1) (r .2)
 
 pub sent-twice : SentTwice
 sent-twice s h a seq addr info io fi first again hf ha =

@@ -8,11 +8,11 @@ use native.Mathlib.Decide.{ℕ-discrete}
 use native.Mathlib.Omega.{arith}
 use borrow.Author.Tests.{eq-eqb, ne-eqb}
 use lib.Dec.{eqb}
-use lib.ListN.{length}
+use lib.ListN.{length, drop}
 use lib.Seq.{sets}
 use Rattle.octets.specs.Octet.{Octets}
 use Rattle.octets.specs.Refusal as refusal
-use Rattle.octets.proofs.Laws.{pick-by, take-sets}
+use Rattle.octets.proofs.Laws.{pick-by, take-sets, drop-sets}
 use Rattle.frame.specs.declared.Kind.{Kind}
 use Rattle.frame.specs.declared.Kind.the-variants.{Message, Ack, Nak}
 use Rattle.frame.specs.Frame.{Frame, message, ack, nak, infoLeast, infoMost}
@@ -35,7 +35,7 @@ use Rattle.lamps.proofs.Cycle.{cycle-long}
 use Rattle.controller.specs.declared.Event.the-variants as event
 use Rattle.controller.specs.declared.Reply.{Reply}
 use Rattle.controller.specs.declared.Reply.the-variants as reply
-use Rattle.controller.specs.Memory.{Memory, isRepeat}
+use Rattle.controller.specs.Memory.{Memory, isRepeat, remembering}
 use Rattle.controller.specs.State.{State, all, outputLen, planRecord, soundOf}
 use Rattle.controller.specs.Handling as handling
 use Rattle.controller.specs.Handling.{Handling, carriedOutCode, refusedCode, runCode, queryTimesCode, queryPlanCode, queryRunningCode, replyInfo, setAs, runAs, queryTimesAs, queryPlanAs, handlingOf}
@@ -58,7 +58,7 @@ module _ (own addr : ℕ) where
   for-another n m = rw (ne-eqb addr own n, ne-eqb addr all m)
 
 -- whatever a message does, it is no event
-message-event : (s : State) (seq addr : ℕ) (info book : List ℕ)
+pub message-event : (s : State) (seq addr : ℕ) (info book : List ℕ)
     → messageOf s seq addr info book .result .event ≡ event.Nothing
 unfolding messageOf acceptedOf repliedOf
 message-event s seq addr info book =
@@ -117,6 +117,13 @@ module _ (s : State) (c : Counted) (m : Memory) (before : List ℕ) (seq addr : 
     where
       info : List ℕ
       info = replyInfo s before (h .handled .reply)
+
+-- the octets beyond the INFO that is remembered
+beyond-stays : (s : State) (seq addr : ℕ) (info : List ℕ) → length info ≤ length (s .memory .info) → drop (length info) (memoryOf s seq addr info .info) ≡ drop (length info) (s .memory .info)
+unfolding memoryOf remembering
+beyond-stays s seq addr info l =
+    let P : Memory → Type 0 = λ m. drop (length info) (m .info) ≡ drop (length info) (s .memory .info) in
+    pick-by P (forUs (s .own) addr) (λ _. pick-by P (isRepeat (s .memory) seq info) (λ _. refl) (λ _. drop-sets info (s .memory .info) l)) (λ _. refl)
 
 module _ (s : State) (book out : List ℕ) (b : ℕ) (h : soundOf s ≡ true) (hb : length book ≡ bookLen) (ho : outputLen ≤ length out) where
   abbrev w : Call
@@ -203,6 +210,7 @@ module _ (s : State) (book out : List ℕ) (b : ℕ) (h : soundOf s ≡ true) (h
             rw (repeat-acked e (inr refl) (is-repeat (s .memory) seq info (long-enough e .0) r), ne-eqb all (s .own) other)
             (wrote-none refl, refl, record { state = refl; book = refl; parameter = refl });
         remembered = frame-remembered;
+        beyond = λ seq addr info e. rw (brings e) (beyond-stays s seq addr info (omega (arith, long-enough e .1, sound-parts s h .lastInfo)));
         noEvent = λ seq addr info e. rw (brings e, message-event s seq addr info book);
         ackEvent = λ seq e. rw (brings e, eq-eqb (s .own) (s .own) refl);
         nakEvent = λ seq err e. rw (brings e, eq-eqb (s .own) (s .own) refl);

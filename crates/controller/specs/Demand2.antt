@@ -108,6 +108,9 @@ pub record RepliesSo (s : State) (book : List ℕ) (b : ℕ) (o : Outcome) (w : 
       → Wrote w [] × (w .answer .told .refusal ≡ 0) × OnlyTaken s (s .memory) book b w
   -- "the last one accepted (for us or FFFF, refused 10 to 14 or not)", whatever was answered: sent again it is a repeat
   pub remembered : (seq addr : ℕ) (info : List ℕ) → o ≡ sound (message seq addr info) → (addr ≡ s .own) ⊎ (addr ≡ 0xFFFF) → Repeats (w .answer .state .memory) seq info
+  -- of the octets that INFO is kept in those beyond it stay
+  pub beyond : (seq addr : ℕ) (info : List ℕ) → o ≡ sound (message seq addr info)
+      → drop (length info) (w .answer .state .memory .info) ≡ drop (length info) (s .memory .info)
   -- no message is an event
   pub noEvent : (seq addr : ℕ) (info : List ℕ) → o ≡ sound (message seq addr info) → Hands s [] w
   -- "A sound ACK or NAK for us is handed to the host as an event and changes nothing; one to FFFF is dropped."

@@ -15,10 +15,11 @@ use Rattle.frame.specs.Run.{AtRest}
 use Rattle.plan.specs.declared.Which.{Which}
 use Rattle.controller.specs.Memory.{Memory}
 use Rattle.controller.specs.State.{State, soundOf}
-use Rattle.controller.specs.Replies.{octetOf}
+use Rattle.controller.specs.declared.Event.the-variants as event
+use Rattle.controller.specs.Replies.{Call, octetOf}
 use Rattle.controller.specs.Seconds.{secondOf}
 use Rattle.controller.specs.Demand2.{Repeats}
-use Rattle.controller.specs.Demand3.{HostCall, octet, lineIdle, second, goesOn, run, Accepted, heardIn, secondAccepted}
+use Rattle.controller.specs.Demand3.{HostCall, octet, lineIdle, second, next, goesOn, run, Accepted, heardIn, secondAccepted}
 use Rattle.controller.specs.OurSeq.{writesOn}
 
 -- What is remembered
@@ -40,21 +41,28 @@ LastKept =
 -- the octets are handed in one by one, each with a book of 3,840 octets and an output of 544 or more, whatever they hold
 pub data HandsIn : List ℕ → List HostCall → Type 0 where
   end : HandsIn [] []
-  next : {bs : List ℕ} {es : List HostCall} (b : ℕ) (l : b < 256) (book out : List ℕ) (o : Octets book) → length book ≡ 3840 → 544 ≤ length out
+  more : {bs : List ℕ} {es : List HostCall} (b : ℕ) (l : b < 256) (book out : List ℕ) (o : Octets book) → length book ≡ 3840 → 544 ≤ length out
       → HandsIn bs es → HandsIn (b ∷ bs) (octet b l book out o ∷ es)
 
--- each call leaves the book that it is lent
-abbrev pub BooksLeft : State → List HostCall → Type 0
-BooksLeft s [] = Unit
-BooksLeft s (octet b _ book out _ ∷ es) = (octetOf s book out b .book ≡ book) × BooksLeft (octetOf s book out b .answer .state) es
-BooksLeft s (lineIdle ∷ es) = BooksLeft s es
-BooksLeft s (second book _ ∷ es) = BooksLeft s es
+-- an octet call leaves the book that it is lent, and names no refusal, no parameter and no event
+pub record TellsNothing (lent : List ℕ) (w : Call) : Type 0 where
+  pub book : w .book ≡ lent
+  pub refusal : w .answer .told .refusal ≡ 0
+  pub parameter : w .answer .told .parameter ≡ 0
+  pub event : w .answer .told .event ≡ event.Nothing
+
+-- and so do all of them
+abbrev pub AllTellNothing : State → List HostCall → Type 0
+AllTellNothing s [] = Unit
+AllTellNothing s (octet b l book out o ∷ es) = TellsNothing book (octetOf s book out b) × AllTellNothing (next s (octet b l book out o)) es
+AllTellNothing s (lineIdle ∷ es) = AllTellNothing (next s lineIdle) es
+AllTellNothing s (second book o ∷ es) = AllTellNothing (next s (second book o)) es
 
 -- the calls `again` do nothing to the state t but write these octets: request, our SEQ and memory stay, no plan is altered, and every second shows what
 -- it would have shown
 pub record NothingElse (t : State) (again : List HostCall) (octets : List ℕ) : Type 0 where
   pub writes : writesOn t again ≡ octets
-  pub books : BooksLeft t again
+  pub tells : AllTellNothing t again
   pub requested : goesOn t again .requested ≡ t .requested
   pub seq : goesOn t again .seq ≡ t .seq
   pub memory : goesOn t again .memory ≡ t .memory

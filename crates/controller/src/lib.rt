@@ -40,8 +40,8 @@ pub struct Held {
     pub own: u16,
     pub seq: u8,
     pub requested: u8,
-    pub receiver: Receiver,
     pub last: Last,
+    pub receiver: Receiver,
     pub running: Running,
 }
 

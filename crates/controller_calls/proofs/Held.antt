@@ -28,8 +28,7 @@ use Rattle.controller.specs.Replies.{CanFind, CallLeaves, answerWith, refusedCa
 use Rattle.controller.proofs.Judging.{sound-parts}
 use Rattle.controller.proofs.Laws.{counted-idles, idle-done}
 use Rattle.controller.proofs.Replying.{can-find}
-use Rattle.controller_calls.specs.Held.{heldSound, heldQuiet, heldCounted, withReceiver, heldDropped}
-use Rattle.controller_calls.specs.Replies.{KeptWith}
+use Rattle.controller_calls.specs.Held.{heldSound, heldQuiet, heldCounted, withReceiver, oneDropped, oneKept, heldReceived}
 
 -- Soundness, way by way
 
@@ -103,10 +102,6 @@ module _ (s : Held) (kept : List ℕ) where
       let p = sound-parts (joined s kept) h in
       omega (arith, p .info, p .lastInfo, take-short infoMost kept, take-short infoMost (drop infoMost kept), length-drop infoMost kept)
 
--- the head with one more octet of INFO in
-abbrev filledHead : Head → Head
-filledHead h = record { place = h .place; kind = h .kind; seq = h .seq; err = h .err; addr = h .addr; len = h .len; filled = h .filled + 1 }
-
 -- What the code does, it did
 
 module _ (s : Held) (lent book out : List ℕ) where
@@ -114,9 +109,9 @@ module _ (s : Held) (lent book out : List ℕ) where
   leaves-quiet n e = rw e (record { answer = refl; beyond = refl; book = refl; out = refl })
 
   -- an octet that is dropped is counted, and else leaves everything as it is
-  pub leaves-dropped : (b : ℕ) → idleDrops (s .receiver .head .place) b ≡ true → {r : HeldAnswer} → r ≡ heldDropped s
+  pub leaves-dropped : (b : ℕ) → idleDrops (s .receiver .head .place) b ≡ true → {r : HeldAnswer} → r ≡ heldReceived s (oneDropped (s .receiver))
       → CallLeaves (doneOf (joined s lent) (countedOf (joinedDecoder (s .receiver .head) lent) (s .receiver .dropped) b) book out) lent r lent book out
-  unfolding doneOf heldDropped
+  unfolding doneOf
   leaves-dropped b h e = rw (e, counted-dropped (joinedDecoder (s .receiver .head) lent) (s .receiver .dropped) b h) (record { answer = refl; beyond = refl; book = refl; out = refl })
 
 module _ (s : Held) (lent : List ℕ) where
@@ -148,12 +143,12 @@ module _ (s : Held) (lent : List ℕ) where
     pub kept-room : h₀ .filled < infoMost
     kept-room = room-info h₀ (info-goes-on d b .saidOnly g .0) (sound-parts (joined s lent) h .decoder)
 
-    pub kept-with : b < 256 → n < 65536 → {r : HeldAnswer} → r ≡ heldCounted (withReceiver s (record { head = filledHead h₀; dropped = n })) n
-        → KeptWith s b lent r (set lent (h₀ .filled) b)
+    pub leaves-kept : b < 256 → n < 65536 → (book out : List ℕ) {r : HeldAnswer} {k : List ℕ} → r ≡ heldReceived s (oneKept (s .receiver)) → k ≡ set lent (h₀ .filled) b
+        → CallLeaves (doneOf (joined s lent) (countedOf d n b) book out) lent r k book out
     unfolding doneOf
-    kept-with o l e book out =
+    leaves-kept o l book out e f =
         let p = sound-parts (joined s lent) h in
-        rw (counted-goes d n b o l (p .info) (p .decoder) g, info-goes-on d b .kept (p .decoder) g, e)
+        rw (counted-goes d n b o l (p .info) (p .decoder) g, info-goes-on d b .kept (p .decoder) g, e, f)
         (record {
           answer = rw (take-set-lt infoMost lent (h₀ .filled) b kept-room, drop-set-lt infoMost lent (h₀ .filled) b kept-room);
           beyond = drop-set-lt keptLen lent (h₀ .filled) b (omega (arith, kept-room));

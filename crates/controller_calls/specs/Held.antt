@@ -13,6 +13,7 @@ use Rattle.controller.specs.declared.Event.the-variants as event
 use Rattle.controller.specs.declared.Held.{Held}
 use Rattle.controller.specs.declared.HeldAnswer.{HeldAnswer}
 use Rattle.controller.specs.declared.HeldShown.{HeldShown}
+use Rattle.controller.specs.declared.Told.{Told}
 use Rattle.controller.specs.Memory.{lastFits}
 use Rattle.controller.specs.State.{keptLen, all, runningSound}
 use Rattle.controller.specs.Seconds.{tells}
@@ -31,18 +32,29 @@ abbrev pub heldQuiet : Held → ℕ → HeldAnswer
 heldQuiet s n = record { state = s; told = tells n }
 
 -- nothing refused and nothing written, and so many octets dropped
+abbrev pub tellsDropped : ℕ → Told
+tellsDropped n = record { refusal = refusal.none; parameter = 0; event = event.Nothing; count = 0; dropped = n }
+
 abbrev pub heldCounted : Held → ℕ → HeldAnswer
-heldCounted s n = record { state = s; told = record { refusal = refusal.none; parameter = 0; event = event.Nothing; count = 0; dropped = n } }
+heldCounted s n = record { state = s; told = tellsDropped n }
 
 -- another receiver
 abbrev pub withReceiver : Held → Receiver → Held
 withReceiver s r = record { own = s .own; seq = s .seq; requested = s .requested; receiver = r; last = s .last; running = s .running }
 
 -- one octet more is dropped
-unfoldable pub heldDropped : Held → HeldAnswer
-heldDropped s =
-    let n = stopped (s .receiver .dropped + 1) in
-    heldCounted (withReceiver s (record { head = s .receiver .head; dropped = n })) n
+abbrev pub oneDropped : Receiver → Receiver
+oneDropped r = record { head = r .head; dropped = stopped (r .dropped + 1) }
+
+-- one octet more of INFO is in
+abbrev pub oneKept : Receiver → Receiver
+oneKept r =
+    let h = r .head in
+    record { head = record { place = h .place; kind = h .kind; seq = h .seq; err = h .err; addr = h .addr; len = h .len; filled = h .filled + 1 }; dropped = r .dropped }
+
+-- the call that hands back another receiver, and tells its number
+abbrev pub heldReceived : Held → Receiver → HeldAnswer
+heldReceived s r = heldCounted (withReceiver s r) (r .dropped)
 
 abbrev pub heldDark : Held → ℕ → HeldShown
 heldDark s n = record { state = s; told = tells n; plan = 0; row = noRow }

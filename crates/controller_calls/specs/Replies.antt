@@ -7,20 +7,17 @@ use lib.Seq.{sets}
 use Rattle.octets.specs.Put.{Stored}
 use Rattle.octets.specs.declared.Written.{Written}
 use Rattle.octets.specs.Writing.{WriterLeaves}
-use Rattle.frame.specs.Decoder.{joinedDecoder}
-use Rattle.frame.specs.Dropped.{countedOf}
 use Rattle.frame.specs.Frame.{message, infoMost}
 use Rattle.frame.specs.Run.{Outcome}
 use Rattle.frame.specs.Writer.{writeFrame}
 use Rattle.controller.specs.declared.Event.{Event}
 use Rattle.controller.specs.declared.Handled.{Handled}
 use Rattle.controller.specs.declared.Held.{Held}
-use Rattle.controller.specs.declared.HeldAnswer.{HeldAnswer}
 use Rattle.controller.specs.declared.Reply.{Reply}
 use Rattle.controller.specs.Memory.{Memory, joinedMemory}
 use Rattle.controller.specs.State.{joined, keptLen}
 use Rattle.controller.specs.Handling.{replyInfo}
-use Rattle.controller.specs.Replies.{sent, repliesOf, CallLeaves, Result, ResultAndBook, repliedOf, acceptedOf, broughtOf, memoryThen, doneOf}
+use Rattle.controller.specs.Replies.{sent, repliesOf, Result, ResultAndBook, repliedOf, acceptedOf, broughtOf, memoryThen}
 use Rattle.controller_calls.specs.declared.replies.ResultCounted.{ResultCounted}
 use Rattle.controller_calls.specs.declared.replies.Brought.{Brought}
 
@@ -83,8 +80,3 @@ pub record BroughtLeft (w : ResultAndBook) (m : Memory) (lent before : List ℕ)
 abbrev pub BroughtWith : Outcome → Held → List ℕ → List ℕ → List ℕ → Brought → List ℕ → List ℕ → List ℕ → Type 0
 BroughtWith o s lent book before r k b after =
     (came : List ℕ) → drop infoMost came ≡ drop infoMost lent → BroughtLeft (broughtOf o (joined s came) book) (memoryThen o (joined s came)) lent before r k b after
-
--- An octet of INFO that is only kept: whatever book and output are lent, they stay.
-abbrev pub KeptWith : Held → ℕ → List ℕ → HeldAnswer → List ℕ → Type 0
-KeptWith s b lent r k =
-    (book out : List ℕ) → CallLeaves (doneOf (joined s lent) (countedOf (joinedDecoder (s .receiver .head) lent) (s .receiver .dropped) b) book out) lent r k book out

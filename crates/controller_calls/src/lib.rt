@@ -11,7 +11,7 @@ ghost use mathlib.Core.Path.{_≡_};
 ghost use Rattle.controller.specs.State.{joined};
 ghost use Rattle.controller.specs.Replies.{answerWith, CallLeaves, octetOf, lineIdleOf};
 ghost use Rattle.controller.specs.Seconds.{startedOf, plainStartOf, oldStartOf, StartsWith, ShowsWith, tells};
-ghost use Rattle.controller_calls.specs.Held.{heldQuiet, heldCounted, heldDark};
+ghost use Rattle.controller_calls.specs.Held.{tellsDropped, heldQuiet, heldDark};
 use controller::ALL;
 use controller::Event;
 use controller::Held;
@@ -63,7 +63,7 @@ fn fresh_with(which: Which, own: u16) -> HeldAnswer
 
 // Takes one octet from the line; the first 512 of `kept` are the state's octets of INFO. What it ends is carried out on the book and
 // replied to in the output.
-pub fn octet(s: Held, kept: &mut [u8], book: &mut [u8], out: &mut [u8], b: u8) -> HeldAnswer
+pub fn octet(mut s: Held, kept: &mut [u8], book: &mut [u8], out: &mut [u8], b: u8) -> HeldAnswer
     ensures { λ r. ⌜ CallLeaves (octetOf (joined s (now (kept .entry))) (now (book .entry)) (now (out .entry)) b) (now (kept .entry)) r (now (kept .exit)) (now (book .exit)) (now (out .exit)) ⌝ }
 {
     if !soundness::stands(s, kept.len()) {
@@ -75,12 +75,24 @@ pub fn octet(s: Held, kept: &mut [u8], book: &mut [u8], out: &mut [u8], b: u8) -
     if out.len() < OUTPUT_LEN {
         return quiet(s, refusal::OUTPUT_SHORT);
     }
-    let h = s.receiver.head;
+    let r = s.receiver;
+    let h = r.head;
+    // These two are answered at once, with the state as it stands.
     if decoder::idle_drops(h, b) {
-        return replies::one_dropped(s);
+        let receiver = replies::one_dropped(r);
+        s.receiver = receiver;
+        return HeldAnswer {
+            state: s,
+            told: tells_dropped(receiver.dropped),
+        };
     }
     if decoder::info_goes_on(h, b) {
-        return replies::info_kept(s, kept, b);
+        let receiver = replies::info_kept(r, kept, b);
+        s.receiver = receiver;
+        return HeldAnswer {
+            state: s,
+            told: tells_dropped(receiver.dropped),
+        };
     }
     replies::taken(s, kept, book, out, b)
 }
@@ -95,7 +107,10 @@ pub fn line_idle(s: Held, kept: &[u8]) -> HeldAnswer
     let r = s.receiver;
     let t = receiver::line_idle(r, kept);
     let receiver = t.receiver;
-    counted(Held { receiver, ..s }, t.dropped)
+    HeldAnswer {
+        state: Held { receiver, ..s },
+        told: tells_dropped(t.dropped),
+    }
 }
 
 // What this second shows; then it moves on, and at a cycle's last second picks the next plan from the book. It is lent no octets of
@@ -133,16 +148,13 @@ fn tells(n: u8) -> Told
     }
 }
 
-// Nothing written, and so many octets dropped.
-pub(crate) fn counted(s: Held, dropped: u16) -> HeldAnswer
-    ensures { λ r. ⌜ r ≡ heldCounted s dropped ⌝ }
+// Nothing refused and nothing written, and so many octets dropped.
+pub(crate) fn tells_dropped(dropped: u16) -> Told
+    ensures { λ r. ⌜ r ≡ tellsDropped dropped ⌝ }
 {
-    HeldAnswer {
-        state: s,
-        told: Told {
-            dropped,
-            ..tells(refusal::NONE)
-        },
+    Told {
+        dropped,
+        ..tells(refusal::NONE)
     }
 }
 

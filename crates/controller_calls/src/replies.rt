@@ -1,12 +1,12 @@
 // 01, "Replies": what is done with that which an octet brought, and what is written. "All frames we write carry our own address."
 ghost use mathlib.Core.Path.{_≡_};
 ghost use mathlib.Core.Bool.{true};
-ghost use Prim.Native.Nat.{_≤_};
-ghost use lib.ListN.{length, take};
+ghost use Prim.Native.Nat.{_≤_, _<_};
+ghost use lib.ListN.{length, take, set};
 ghost use Rattle.octets.specs.Part.{codeLen};
 ghost use Rattle.octets.specs.Put.{Stored};
 ghost use Rattle.frame.specs.Frame.{infoLeast, infoMost, message};
-ghost use Rattle.frame.specs.Decoder.{infoGoesOn, joinedDecoder};
+ghost use Rattle.frame.specs.Decoder.{joinedDecoder};
 ghost use Rattle.frame.specs.Dropped.{countedOf};
 ghost use Rattle.frame.specs.Run.{sound, foundMeans};
 ghost use Rattle.record.specs.Record.{plansMost, bookLen, ready};
@@ -15,8 +15,8 @@ ghost use Rattle.controller.specs.Memory.{lastFits};
 ghost use Rattle.controller.specs.State.{joined, keptLen, outputLen, soundOf};
 ghost use Rattle.controller.specs.Replies.{CallLeaves, sent, errOf, naks, acks, forUs, isAnswer, eventFor, CanFind, doneOf};
 ghost use Rattle.controller_calls.specs.Handling.{Reportable};
-ghost use Rattle.controller_calls.specs.Held.{heldDropped};
-ghost use Rattle.controller_calls.specs.Replies.{unchangedAs, broughtStill, ReplyStored, RepliedWith, AcceptedWith, BroughtWith, KeptWith};
+ghost use Rattle.controller_calls.specs.Held.{oneDropped, oneKept};
+ghost use Rattle.controller_calls.specs.Replies.{unchangedAs, broughtStill, ReplyStored, RepliedWith, AcceptedWith, BroughtWith};
 use crate::handling;
 use crate::info;
 use crate::memory;
@@ -57,21 +57,18 @@ pub struct Brought {
 }
 
 // "Idle: .. all else is dropped": one octet more.
-pub(crate) fn one_dropped(s: Held) -> HeldAnswer
-    ensures { λ r. ⌜ r ≡ heldDropped s ⌝ }
+pub(crate) fn one_dropped(r: Receiver) -> Receiver
+    ensures { λ q. ⌜ q ≡ oneDropped r ⌝ }
 {
-    let r = s.receiver;
     let dropped = receiver::stopped(r.dropped as usize + 1);
-    let receiver = Receiver { dropped, ..r };
-    crate::counted(Held { receiver, ..s }, dropped)
+    Receiver { dropped, ..r }
 }
 
-// An octet of INFO behind which others come is stored and answered at once.
-pub(crate) fn info_kept(s: Held, kept: &mut [u8], b: u8) -> HeldAnswer
-    requires { ⌜ (soundOf (joined s (now kept)) ≡ true) × (infoGoesOn (s .receiver .head .place) (s .receiver .head .len) (s .receiver .head .filled) b ≡ true) ⌝ }
-    ensures { λ r. ⌜ KeptWith s b (now (kept .entry)) r (now (kept .exit)) ⌝ }
+// An octet of INFO behind which others come is stored.
+pub(crate) fn info_kept(r: Receiver, kept: &mut [u8], b: u8) -> Receiver
+    requires { ⌜ (r .head .filled < infoMost) × (infoMost ≤ length (now kept)) ⌝ }
+    ensures { λ q. ⌜ (q ≡ oneKept r) × (now (kept .exit) ≡ set (now (kept .entry)) (r .head .filled) b) ⌝ }
 {
-    let r = s.receiver;
     let h = r.head;
     let at = h.filled as usize;
     kept[at] = b;
@@ -79,8 +76,7 @@ pub(crate) fn info_kept(s: Held, kept: &mut [u8], b: u8) -> HeldAnswer
         filled: h.filled + 1,
         ..h
     };
-    let receiver = Receiver { head, ..r };
-    crate::counted(Held { receiver, ..s }, r.dropped)
+    Receiver { head, ..r }
 }
 
 // One octet to a sound state, and what it brought.

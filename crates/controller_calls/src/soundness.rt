@@ -1,6 +1,7 @@
 // 01, "Replies", refusal 7: "state handed in is unsound (own address FFFF, requested plan over 48, position outside the cycle,
 // running plan over 48, failing the checks, or numbered 0 and unlike the built-in, impossible decoder place)".
 ghost use mathlib.Core.Path.{_≡_};
+ghost use Rattle.frame.specs.Decoder.{possibleOf};
 ghost use Rattle.controller.specs.State.{runningSound};
 ghost use Rattle.controller_calls.specs.Held.{heldSound};
 use crate::memory;
@@ -8,6 +9,8 @@ use controller::ALL;
 use controller::Held;
 use controller::KEPT_LEN;
 use controller::Running;
+use frame::decoder::Head;
+use frame::decoder::Place;
 use frame_calls::decoder;
 use plan_calls::book;
 use record::PLANS_MOST;
@@ -30,10 +33,21 @@ pub(crate) fn stands(s: Held, lent: usize) -> bool
         return false;
     }
     let h = s.receiver.head;
-    if !decoder::possible(h) {
+    if !decoder_stands(h) {
         return false;
     }
     running_stands(s.running)
+}
+
+// Most octets of a quiet line find the decoder idle, which is always possible: that is told without a call.
+fn decoder_stands(h: Head) -> bool
+    ensures { λ r. ⌜ r ≡ possibleOf h ⌝ }
+{
+    let place = h.place;
+    match place {
+        Place::Idle => true,
+        _ => decoder::possible(h),
+    }
 }
 
 // A built-in record passes the checks, so plan 0 is only compared with the one that is kept.

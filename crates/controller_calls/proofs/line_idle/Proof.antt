@@ -20,7 +20,7 @@ returns-2 c =
     let i = l .before .before in
     let t = i .before in
     let a = t .before .before .args in
-    rw (c .counted .ensures) (idle-answered (a .s) (a .kept .now) (sym (sound-joined (a .s) (a .kept .now)) ∙ (sym (t .stands .ensures) ∙ not-false _ (i .if1 .left))) (l .line-idle .ensures))
+    rw (c .tells-dropped .ensures) (idle-answered (a .s) (a .kept .now) (sym (sound-joined (a .s) (a .kept .now)) ∙ (sym (t .stands .ensures) ∙ not-false _ (i .if1 .left))) (l .line-idle .ensures))
 
 pub line-idle-spec : {M : Type 1} → statement M
 line-idle-spec =

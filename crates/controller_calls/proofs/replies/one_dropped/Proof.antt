@@ -1,19 +1,10 @@
 -- `controller_calls::replies::one_dropped` meets its contract: the number is one more, up to where it stops.
 use borrow.Author.Needs.{needs}
-use Rattle.controller_calls.specs.Held.{heldDropped}
 use Rattle.controller_calls.proofs.replies.one_dropped.Statement.{statement}
 use Rattle.controller_calls.proofs.replies.one_dropped.Tie as tie
 
 returns : tie.Need-returns
-unfolding heldDropped
-returns c = rw (c .counted .ensures, c .before .before .before .before .stopped .ensures)
+returns c = rw (c .before .stopped .ensures)
 
 pub one-dropped-spec : {M : Type 1} → statement M
-one-dropped-spec =
-    tie.close
-    (tie.spec
-    (λ c. search needs)
-    (λ c. search needs)
-    (λ c κs. search needs)
-    (λ c κs. search needs)
-    returns)
+one-dropped-spec = tie.close (tie.spec (λ c. search needs) (λ c. search needs) (λ c κs. search needs) returns)

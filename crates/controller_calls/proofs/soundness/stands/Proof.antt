@@ -33,7 +33,7 @@ returns-5 c =
     let l = f .before .before .before in
     let i = l .before .before .before in
     let a = i .before .before .args in
-    impossible (a .s) (a .lent) (i .if1 .left) (l .before .if2 .left) (l .if3 .left) (f .before .last-stands .ensures) (not-false _ (f .if4 .left)) (c .before .possible .ensures)
+    impossible (a .s) (a .lent) (i .if1 .left) (l .before .if2 .left) (l .if3 .left) (f .before .last-stands .ensures) (not-false _ (f .if4 .left)) (c .before .decoder-stands .ensures)
     (not-true _ (c .if5 .taken))
 
 returns-6 : tie.Need-returns-6
@@ -43,7 +43,7 @@ returns-6 c =
     let l = f .before .before .before in
     let i = l .before .before .before in
     let a = i .before .before .args in
-    by-running (a .s) (a .lent) (i .if1 .left) (l .before .if2 .left) (l .if3 .left) (f .before .last-stands .ensures) (not-false _ (f .if4 .left)) (p .possible .ensures)
+    by-running (a .s) (a .lent) (i .if1 .left) (l .before .if2 .left) (l .if3 .left) (f .before .last-stands .ensures) (not-false _ (f .if4 .left)) (p .decoder-stands .ensures)
     (not-false _ (c .before .if5 .left)) (c .running-stands .ensures)
 
 pub stands-spec : {M : Type 1} → statement M
