@@ -13,9 +13,9 @@ use lib.Seq.{length-take-le}
 use Rattle.octets.specs.Choice.{pick}
 use Rattle.octets.specs.Octet.{Octets}
 use Rattle.frame.specs.Frame.{Frame, message, ack, infoMost, written}
-use Rattle.frame.specs.Promises.{InOctets, InfoFits}
+use Rattle.frame.specs.Promises.{InOctets, InfoFits, ReadBack}
 use Rattle.frame.specs.Decoder.{Decoder, takenOf}
-use Rattle.frame.specs.Run.{Outcome, nothing, sound, outcomeOf, outcomes, decoderAfter, AtRest}
+use Rattle.frame.specs.Run.{nothing, sound, outcomeOf, outcomes, decoderAfter, AtRest}
 use Rattle.frame.proofs.Reading.{reading-undoes-writing}
 use Rattle.record.specs.Record.{bookLen}
 use Rattle.controller.specs.Memory.{Memory, lastInfo}
@@ -154,10 +154,11 @@ module _ (s : State) (h : soundOf s ≡ true) (a : AtRest (s .decoder)) (seq add
   t-sound : soundOf t ≡ true
   t-sound = rw (x .state) (sound-kept (x .before) .octet (x .book) (x .out) (x .b) (x .l) (x .stands))
 
+  read-again : ReadBack (t .decoder) f
+  read-again = reading-undoes-writing (t .decoder) f (rw (x .decoder) (reading-undoes-writing (s .decoder) f a io fi .rest)) io fi
+
   y : Ends f t (written f) again
-  y =
-      let q = reading-undoes-writing (s .decoder) f a io fi in
-      frame-in f (length (written f) - 1) t ha t-sound (reading-undoes-writing (t .decoder) f (rw (x .decoder) (q .rest)) io fi .outcome)
+  y = frame-in f (length (written f) - 1) t ha t-sound (read-again .outcome)
 
   -- the call that takes the last octet of the second
   abbrev w : Call
@@ -183,6 +184,7 @@ module _ (s : State) (h : soundOf s ≡ true) (a : AtRest (s .decoder)) (seq add
       record {
         writes = y .wrote ∙ e;
         tells = y .told (record { book = k .book; refusal = n; parameter = k .parameter; event = no-event });
+        decoder = rw (y .decoder) (read-again .rest);
         requested = ap (λ (u : State). u .requested) left ∙ ap (λ (u : State). u .requested) (y .alike);
         seq = ap (λ (u : State). u .seq) left ∙ ap (λ (u : State). u .seq) (y .alike);
         memory = ap (λ (u : State). u .memory) left ∙ ap (λ (u : State). u .memory) (y .alike);

@@ -4,7 +4,6 @@
 use Prim.Native.Nat.{ℕ, _≤_, _<_}
 use mathlib.Core.Path.{_≡_}
 use mathlib.Core.Bool.{true}
-use mathlib.Core.Logic.{_⊎_}
 use mathlib.Core.List.{List, [], _∷_}
 use mathlib.Core.Option.{Option, none, some}
 use lib.ListN.{length}
@@ -59,10 +58,11 @@ AllTellNothing s (lineIdle ∷ es) = AllTellNothing (next s lineIdle) es
 AllTellNothing s (second book o ∷ es) = AllTellNothing (next s (second book o)) es
 
 -- the calls `again` do nothing to the state t but write these octets: request, our SEQ and memory stay, no plan is altered, and every second shows what
--- it would have shown
+-- it would have shown; the decoder is at rest again, so that the same holds of a third time
 pub record NothingElse (t : State) (again : List HostCall) (octets : List ℕ) : Type 0 where
   pub writes : writesOn t again ≡ octets
   pub tells : AllTellNothing t again
+  pub decoder : AtRest (goesOn t again .decoder)
   pub requested : goesOn t again .requested ≡ t .requested
   pub seq : goesOn t again .seq ≡ t .seq
   pub memory : goesOn t again .memory ≡ t .memory
@@ -71,7 +71,7 @@ pub record NothingElse (t : State) (again : List HostCall) (octets : List ℕ) :
 
 -- "it gets the ACK (none for FFFF) and nothing else": from any sound state with its decoder at rest, a message frame and then the same octets,
 -- whatever books are lent then
-pub record TwiceAsOnce (s : State) (seq : ℕ) (info : List ℕ) (addr : ℕ) (first again : List HostCall) : Type 0 where
+pub record TwiceAsOnce (s : State) (seq addr : ℕ) (first again : List HostCall) : Type 0 where
   pub ours : addr ≡ s .own → NothingElse (goesOn s first) again (written (ack seq (s .own)))
   pub forAll : addr ≡ 0xFFFF → NothingElse (goesOn s first) again []
 
@@ -79,4 +79,4 @@ abbrev pub SentTwice : Type 0
 SentTwice =
     (s : State) → soundOf s ≡ true → AtRest (s .decoder) → (seq addr : ℕ) (info : List ℕ) → InOctets (message seq addr info) → InfoFits (message seq addr info)
     → (first again : List HostCall) → HandsIn (written (message seq addr info)) first → HandsIn (written (message seq addr info)) again
-    → TwiceAsOnce s seq info addr first again
+    → TwiceAsOnce s seq addr first again

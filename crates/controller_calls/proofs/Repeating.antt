@@ -18,7 +18,7 @@ use Rattle.frame.specs.Frame.{infoLeast, infoMost}
 use Rattle.controller.specs.declared.Event.the-variants as event
 use Rattle.controller.specs.declared.Held.{Held}
 use Rattle.controller.specs.declared.Last.{Last}
-use Rattle.controller.specs.Memory.{Memory, joinedMemory, lastFits, lastInfo, isRepeat, remembering}
+use Rattle.controller.specs.Memory.{Memory, joinedMemory, lastFits, isRepeat, remembering}
 use Rattle.controller.specs.State.{joined, keptLen}
 use Rattle.controller.specs.Replies.{sent, acks, forUs, messageOf, memoryOf}
 use Rattle.controller.proofs.Laws.{message-other, message-repeat, message-new, memory-other, memory-repeat, memory-new}

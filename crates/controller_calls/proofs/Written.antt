@@ -7,8 +7,7 @@ use native.Mathlib.Omega.{arith}
 use borrow.Author.Tests.{eq-eqb, ne-eqb, le-leb}
 use lib.Dec.{eqb}
 use lib.ListN.{length, take, drop, length-append}
-use lib.Seq.{sets, length-sets, length-take-le, drop-drop}
-use Rattle.octets.specs.Part.{codeLen}
+use lib.Seq.{sets, length-sets, drop-drop}
 use Rattle.octets.specs.Put.{Stored}
 use Rattle.octets.specs.Refusal as refusal
 use Rattle.octets.specs.declared.Written.{Written}

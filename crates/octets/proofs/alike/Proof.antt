@@ -1,7 +1,6 @@
 -- `octets::alike` meets its contract: the octets so far are alike, so the rest is the same exactly where the whole is.
 use Prim.Native.Nat.{_≤_, _-_}
 use mathlib.Core.Path.{_≡_, refl, _∙_}
-use native.Mathlib.Omega.{arith}
 use borrow.Author.Needs.{needs}
 use lib.ListN.{length, drop}
 use Rattle.octets.specs.Same.{same}

@@ -1,5 +1,4 @@
 -- `controller_calls::memory::is_repeat` meets its contract: one law for each way; INFO of two lengths is not the same.
-use native.Mathlib.Omega.{arith}
 use borrow.Author.Needs.{needs}
 use Rattle.controller_calls.proofs.Repeating.{seq-other, len-other, as-same}
 use Rattle.controller_calls.proofs.memory.is_repeat.Statement.{statement}
