@@ -54,6 +54,14 @@ outcome-fits s b h =
 abbrev pub lastIn : Memory → Option Accepted
 lastIn m = pick (eqb (m .last .len) 0) none (some (record { seq = m .last .seq; info = lastInfo m }))
 
+-- its INFO is as long as is said beside it
+pub last-long : (m : Memory) → length (m .info) ≡ infoMost → LastFits (m .last) → length (lastInfo m) ≡ m .last .len
+last-long m l f = length-take-le (m .last .len) (m .info) (most f)
+  where
+    most : LastFits (m .last) → m .last .len ≤ length (m .info)
+    most (inl e) = omega (arith, e)
+    most (inr h) = omega (arith, h .1, l)
+
 module _ (m : Memory) (seq : ℕ) (info : List ℕ) where
   -- a repeat is what was heard last
   pub is-again : isRepeat m seq info ≡ isAgain (lastIn m) seq info
@@ -77,12 +85,8 @@ module _ (m : Memory) (seq : ℕ) (info : List ℕ) where
         let q = eqb seq (m .last .seq) in
         let g = both-right z (both q (same info (lastInfo m))) h in
         let e : info ≡ lastInfo m = same-is info (lastInfo m) (both-right q (same info (lastInfo m)) g) in
-        let n : length info ≡ m .last .len = ap length e ∙ length-take-le (m .last .len) (m .info) (most f) in
+        let n : length info ≡ m .last .len = ap length e ∙ last-long m hl f in
         record { seq = sym (eqb-true seq (m .last .seq) (both-left q (same info (lastInfo m)) g)); long = sym n; octets = rw n (sym e) }
-      where
-        most : LastFits (m .last) → m .last .len ≤ length (m .info)
-        most (inl e) = omega (arith, e)
-        most (inr l) = omega (arith, l .1, hl)
 
     pub no-repeat : LastFits (m .last) → (Repeats m seq info → ⊥) → isRepeat m seq info ≡ false
     no-repeat f n = by (isRepeat m seq info) refl

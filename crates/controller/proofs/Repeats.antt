@@ -9,7 +9,6 @@ use native.Mathlib.Omega.{arith}
 use borrow.Author.Tests.{eqb-true}
 use lib.Dec.{eqb}
 use lib.ListN.{length, take, replicate}
-use lib.Seq.{length-take-le}
 use Rattle.octets.specs.Choice.{pick}
 use Rattle.octets.specs.Octet.{Octets}
 use Rattle.frame.specs.Frame.{Frame, message, ack, infoMost, written}
@@ -28,7 +27,7 @@ use Rattle.controller.specs.OurSeq.{writes, writesOn}
 use Rattle.controller.specs.Repeats.{IsLast, LastKept, HandsIn, TellsNothing, AllTellNothing, NothingElse, SentTwice}
 use Rattle.controller.specs.Repeats as hands
 use Rattle.controller.proofs.Judging.{LastFits, sound-parts}
-use Rattle.controller.proofs.Remembering.{lastIn}
+use Rattle.controller.proofs.Remembering.{lastIn, last-long}
 use Rattle.controller.proofs.Laws.{octet-brings}
 use Rattle.controller.proofs.Keeping.{octet-own, sound-kept}
 use Rattle.controller.proofs.Serving.{message-event, replies}
@@ -40,14 +39,10 @@ use Rattle.controller.proofs.Run.{same-shown}
 is-last : (m : Memory) → length (m .info) ≡ infoMost → LastFits (m .last) → IsLast m (lastIn m)
 is-last m l f = by (eqb (m .last .len) 0) refl
   where
-    most : LastFits (m .last) → m .last .len ≤ length (m .info)
-    most (inl e) = omega (arith, e)
-    most (inr h) = omega (arith, h .1, l)
-
     by : (t : Bool) → eqb (m .last .len) 0 ≡ t → IsLast m (pick t none (some (record { seq = m .last .seq; info = lastInfo m })))
     by true e = eqb-true (m .last .len) 0 e
     by false e =
-        let n = length-take-le (m .last .len) (m .info) (most f) in
+        let n = last-long m l f in
         record { seq = refl; long = sym n; octets = ap (λ (k : ℕ). take k (m .info)) n }
 
 pub last-kept : LastKept
