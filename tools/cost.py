@@ -6,7 +6,7 @@ from frames import frames_of
 from programs import prove
 
 PROGRAM = stack.PROGRAM
-OCTET, SECOND = stack.CALLS["octet"], stack.CALLS["second"]
+OCTET, SECOND, OFFER = stack.CALLS["octet"], stack.CALLS["second"], stack.CALLS["offer"]
 # an event is counted so often, so that what the host does once does not show
 MANY = 100
 # an octet that a decoder at rest drops, and one of INFO
@@ -15,6 +15,8 @@ TIMES = "0A 00 5A 03 02 05 02"
 # the plans whose calls are counted: how it is called, its order and its greens
 PLANS = (("plan 0", None, ()), ("two phases", "00", (20, 30)), ("three", "20", (10, 12, 14)), ("four", "60", (10, 12, 14, 16)))
 PLAN_0_CYCLE = 80
+# the T of the program's start
+WAIT = 10
 
 
 def two_octets(*numbers):
@@ -35,12 +37,26 @@ def messages(*infos):
     return frames_of([("message", ["%02X" % (1 + seq)] + info) for seq, info in enumerate(infos)])
 
 
+def acks(count, first=0):
+    """The octets of the ACK frames of so many of our message frames."""
+    return frames_of([("ack", ["%02X" % seq]) for seq in range(first, first + count)])
+
+
 def octets(frame):
     return bytes(octet for each in frame for octet in (0, int(each, 16)))
 
 
+def heard(frames, first=0):
+    """The events of message frames, the reply to each being acknowledged; the first reply has this SEQ."""
+    return b"".join(octets(frame) + octets(ack) for frame, ack in zip(frames, acks(len(frames), first)))
+
+
 def seconds(count):
     return bytes([1, 0]) * count
+
+
+def offered():
+    return bytes([5, 0x80])
 
 
 def more(before, events, inside=None):
@@ -54,7 +70,7 @@ def running(order, greens):
     if order is None:
         return octets([IDLE]) + seconds(PLAN_0_CYCLE), PLAN_0_CYCLE
     frames = messages(set_times(3, len(greens)), set_plan(3, order, greens), ["5F", "18", "03"])
-    return b"".join(map(octets, frames)) + seconds(PLAN_0_CYCLE), sum(greens) + 5 * len(greens)
+    return heard(frames) + seconds(PLAN_0_CYCLE), sum(greens) + 5 * len(greens)
 
 
 def of_plan(order, greens):
@@ -62,6 +78,7 @@ def of_plan(order, greens):
     start, cycle = running(order, greens)
     frame = octets(messages([LONG] * 256)[0])
     inside, idle = frame[:2 * 20], octets([IDLE]) * MANY
+    unheard = octets(messages(["5F", "48"])[0]) + seconds(WAIT - 1)
     return [
         more(start, idle, OCTET) // MANY,
         more(start, idle) // MANY,
@@ -69,18 +86,21 @@ def of_plan(order, greens):
         more(start, seconds(cycle), SECOND) // cycle,
         more(start, seconds(cycle)) // cycle,
         more(start + seconds(cycle - 1), seconds(1), SECOND),
+        more(start + unheard, seconds(1), SECOND),
+        more(start, offered(), OFFER),
     ]
 
 
 CALLS = (
     "an octet in idle, call", "the same, turn", "an octet inside a long frame, call", "a second, over a whole cycle, call",
-    "the same, turn", "the last second of a cycle, which picks the next plan, call")
+    "the same, turn", "the last second of a cycle, which picks the next plan, call", "a second that sends 5F C8 again, call",
+    "an offer of two octets, call")
 
 
 def of_messages():
     """The rows of the second table: the message, its octets, all of them, the last."""
     start = running(*PLANS[1][1:])[0]
-    eight = octets(messages(set_times(5, 8))[0])
+    eight = heard(messages(set_times(5, 8)), 3)
     asked = (
         ("5F 14 with two phases, 0F 80", set_times(4, 2), b""),
         ("5F 15 with two phases, 0F 80", set_plan(3, "00", (20, 30)), b""),

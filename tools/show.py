@@ -5,8 +5,8 @@ with anything else. A line that it cannot read comes out as it is.
 
 A line for a step is told in its first second: a new one where plan, step or lamps change, where `left` is not one less than
 in the second before, and where a second is missing. An approach is told once a lamp of it has been lit, and then always, so
-that one that goes dark is seen to. A reply is told frame by frame, with the noise before it; if not all of it is sound, the
-reply follows as it is.
+that one that goes dark is seen to. A reply is told frame by frame, with the noise before it, and so is a resend, which has none; if
+not all of it is sound, the line follows as it is.
 
 A cycle is drawn when it is over, the first time for each plan and then only where its lamps are others than those last
 drawn for the plan. It begins with second 0, or with a step number lower than the one before, and is over when the next
@@ -31,7 +31,9 @@ Second = collections.namedtuple("Second", "second plan step left steady flashing
 HEADER = "\t".join(Second._fields)
 NUMBER = "(0|[1-9][0-9]{0,19})"  # as many digits as 64 bits can have
 SECOND = re.compile("\t".join([NUMBER] * 4 + ["([0-9A-Fa-f]{16})"] * 2))
-REPLY = re.compile("reply\t([0-9A-Fa-f]{2}(?: [0-9A-Fa-f]{2})*)\t" + NUMBER)
+OCTETS = "([0-9A-Fa-f]{2}(?: [0-9A-Fa-f]{2})*)"
+REPLY = re.compile("reply\t" + OCTETS + "\t" + NUMBER)
+AGAIN = re.compile("again\t" + OCTETS)
 BAD = re.compile("bad\t" + NUMBER)
 COLUMNS = "%11s %4s  %-13s %5s %5s  %s  %s"
 VEHICLES_WIDTH = 43  # "A green: straight, right; B yellow; C D red"
@@ -48,7 +50,7 @@ def read_second(line):
 
 def is_listed(line):
     """Whether a line is one of a listing, and not of an input."""
-    return line == HEADER or read_second(line) is not None or bool(REPLY.fullmatch(line) or BAD.fullmatch(line))
+    return line == HEADER or read_second(line) is not None or bool(REPLY.fullmatch(line) or AGAIN.fullmatch(line) or BAD.fullmatch(line))
 
 
 def lit(row):
@@ -108,15 +110,22 @@ def when(before):
 
 
 def other_words(line, before):
-    """What a line says that is no second's: a reply, a bad line, or what cannot be read."""
-    bad, reply = BAD.fullmatch(line), REPLY.fullmatch(line)
+    """What a line says that is no second's: a reply, a resend, a bad line, or what cannot be read."""
+    bad, reply, again = BAD.fullmatch(line), REPLY.fullmatch(line), AGAIN.fullmatch(line)
     if bad:
         return ["%s: line %s of the input is neither a T nor a B line" % (when(before), bad.group(1))]
-    if not reply:
-        return [line]
-    frames, sound = reply_words([int(octet, 16) for octet in reply.group(1).split()])
-    told = [text for head, texts in frames for text in folded("%s: %s" % (when(before), head), texts)]
-    return noise_words(int(reply.group(2)), before) + (told if sound else told + [line])
+    if reply:
+        return noise_words(int(reply.group(2)), before) + written_words(line, reply.group(1), when(before))
+    if again:
+        return written_words(line, again.group(1), when(before) + ", again")
+    return [line]
+
+
+def written_words(line, octets, lead):
+    """The frames that a line has, each behind the lead; if not all of them are sound, the line follows."""
+    frames, sound = reply_words([int(octet, 16) for octet in octets.split()])
+    told = [text for head, texts in frames for text in folded("%s: %s" % (lead, head), texts)]
+    return told if sound else told + [line]
 
 
 def noise_words(octets, before):

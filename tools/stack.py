@@ -11,7 +11,7 @@ LIMIT, LIMIT_OF = 2048, {"second": 1200}
 # The controller's calls, and of each the function of the program `cost` that it is; the small ones are put into their caller.
 PROGRAM = "cost"
 CALLS = {
-    "octet": "controller_calls::octet", "second": "controller_calls::second",
+    "octet": "controller_calls::octet", "second": "controller_calls::second", "offer": "controller_calls::offer",
     "line_idle": "cost::small", "fresh": "cost::small", "fresh_old": "cost::small"}
 # The programs that between them make the public calls.
 PROGRAMS = (PROGRAM, "cases", "listing")

@@ -28,6 +28,8 @@ REFUSALS = {
     12: "field out of range",
     13: "plan not set, or not ready",
     14: "fields disagree",
+    15: "sender busy",
+    17: "T outside 1 to 60",
 }
 ERRS = {0x01: 1, 0x02: 2, 0x04: 3}  # the refusal that an ERR stands for
 

@@ -6,14 +6,17 @@ use crate::words::CallWord;
 use controller::Event;
 use controller::Held;
 use controller::HeldAnswer;
+use controller::Link;
 use controller::OUTPUT_LEN;
 use frame_calls::writer;
 use lamps::Row;
 use octets::refusal;
 use record::BOOK_LEN;
 
-// The controller's own address at first.
+// The controller's own address at first, and its T where none is given.
 const OWN: u16 = 0x0001;
+
+const WAIT: u8 = 10;
 
 // How often a message is sent before SEQ comes round.
 const SILENT: u8 = 255;
@@ -26,7 +29,7 @@ pub(crate) struct Post {
 }
 
 pub(crate) fn start() -> Post {
-    let f = controller_calls::fresh(OWN);
+    let f = controller_calls::fresh(OWN, WAIT);
     let state = f.state;
     Post {
         state,
@@ -81,33 +84,51 @@ fn called(
 ) -> Held {
     let own = s.own;
     match w {
-        CallWord::Fresh => fresh(octets::word(script::at(o, 0), script::at(o, 1))),
-        CallWord::Earlier => earlier(octets::word(script::at(o, 0), script::at(o, 1))),
+        CallWord::Fresh => fresh(octets::word(script::at(o, 0), script::at(o, 1)), wait_in(o)),
+        CallWord::Earlier => earlier(octets::word(script::at(o, 0), script::at(o, 1)), wait_in(o)),
         CallWord::Take => taken(s, o, kept, book, out),
         CallWord::Send => send(s, own, o, kept, book, out),
         CallWord::Broadcast => send(s, controller::ALL, o, kept, book, out),
         CallWord::Keep => keep(s, o, kept, book, out),
-        CallWord::Wait => wait(s, o.len(), book),
+        CallWord::Offer => offer(s, o, kept, out),
+        CallWord::Wait => wait(s, o.len(), kept, book, out),
         CallWord::Quiet => line_idle(s, kept),
     }
 }
 
-// A fresh start with this own address.
-fn fresh(own: u16) -> Held {
+// The T behind an address.
+fn wait_in(o: &[u8]) -> u8 {
+    if o.len() < 3 {
+        return WAIT;
+    }
+    o[2]
+}
+
+// A fresh start with this own address and this T.
+fn fresh(own: u16, t: u8) -> Held {
     say_fresh(own);
-    started(controller_calls::fresh(own))
+    say_wait(t);
+    started(controller_calls::fresh(own, t))
 }
 
 // The same with the old built-in plan.
-fn earlier(own: u16) -> Held {
+fn earlier(own: u16, t: u8) -> Held {
     say_fresh(own);
     say::text(b" with the old plan 0");
-    started(controller_calls::fresh_old(own))
+    say_wait(t);
+    started(controller_calls::fresh_old(own, t))
 }
 
 fn say_fresh(own: u16) {
     say::text(b"\tfresh ");
     say::octets(&[octets::high(own), octets::low(own)]);
+}
+
+fn say_wait(t: u8) {
+    if t != WAIT {
+        say::text(b", T = ");
+        say::decimal(t as usize);
+    }
 }
 
 fn started(f: HeldAnswer) -> Held {
@@ -176,7 +197,8 @@ fn hand_over(
     take(s, script::first(&frame, w.count), kept, book, out)
 }
 
-// A message 256 times, each with the SEQ after that of the one before, since with the same SEQ it would be a repeat; all but the last in silence.
+// A message 256 times, each with the SEQ after that of the one before, since with the same SEQ it would be a repeat; what comes of all but the last is
+// not said.
 fn keep(s: Held, o: &[u8], kept: &mut [u8], book: &mut [u8], out: &mut [u8]) -> Held {
     let seq = script::at(o, 0);
     let info = script::rest(o, 1);
@@ -195,7 +217,7 @@ fn silent(s: Held, seq: u8, info: &[u8], kept: &mut [u8], book: &mut [u8], out: 
     let mut t = s;
     for i in 0..SILENT {
         let n = std::num::wrapping_add_u8(seq, i);
-        t = unheard_frame(t, n, info, &mut *kept, &mut *book, &mut *out);
+        t = unheard_pair(t, n, info, &mut *kept, &mut *book, &mut *out);
     }
     t
 }
@@ -217,7 +239,19 @@ fn once_more(
     hand_over(s, own, seq, info, kept, book, out)
 }
 
-// A message frame to its own address, whatever it tells.
+// A message frame to its own address and the ACK of its reply, whatever is told.
+fn unheard_pair(
+    s: Held,
+    seq: u8,
+    info: &[u8],
+    kept: &mut [u8],
+    book: &mut [u8],
+    out: &mut [u8],
+) -> Held {
+    let t = unheard_frame(s, seq, info, &mut *kept, &mut *book, &mut *out);
+    unheard_ack(t, s.seq, kept, book, out)
+}
+
 fn unheard_frame(
     s: Held,
     seq: u8,
@@ -228,6 +262,12 @@ fn unheard_frame(
 ) -> Held {
     let mut frame = [0u8; OUTPUT_LEN];
     let w = writer::write_message(seq, s.own, info, &mut frame, 0);
+    swallow(s, script::first(&frame, w.count), kept, book, out)
+}
+
+fn unheard_ack(s: Held, seq: u8, kept: &mut [u8], book: &mut [u8], out: &mut [u8]) -> Held {
+    let mut frame = [0u8; OUTPUT_LEN];
+    let w = writer::write_ack(seq, s.own, &mut frame, 0);
     swallow(s, script::first(&frame, w.count), kept, book, out)
 }
 
@@ -262,10 +302,8 @@ fn octet(
     }
     let e = told.event;
     say_event(e);
-    if told.count != 0 {
-        say::text(b"\treply ");
-        say::octets(script::first(out, told.count));
-    }
+    let link = told.link;
+    say_written(link, script::first(out, told.count));
     if last {
         say::dropped(told.dropped);
     }
@@ -297,6 +335,35 @@ fn say_event(e: Event) {
     }
 }
 
+// What an octet call wrote, and how the frame out ended.
+fn say_written(link: Link, s: &[u8]) {
+    match link {
+        Link::Still => {
+            if s.len() != 0 {
+                say::text(b"\treply ");
+                say::octets(s);
+            }
+        }
+        _ => {
+            say::text(b"\t");
+            say_link(link, s);
+        }
+    }
+}
+
+// How the link stands, and where the frame out goes again its octets.
+fn say_link(link: Link, s: &[u8]) {
+    match link {
+        Link::Still => {}
+        Link::Again => {
+            say::text(b"again ");
+            say::octets(s);
+        }
+        Link::Heard => say::text(b"heard"),
+        Link::Down => say::text(b"down"),
+    }
+}
+
 fn line_idle(s: Held, kept: &[u8]) -> Held {
     say::text(b"\tline-idle call");
     let a = controller_calls::line_idle(s, kept);
@@ -307,27 +374,57 @@ fn line_idle(s: Held, kept: &[u8]) -> Held {
     a.state
 }
 
-// So many seconds; what the last of them shows is said.
-fn wait(s: Held, n: usize, book: &[u8]) -> Held {
+// A message of the host's own.
+fn offer(s: Held, o: &[u8], kept: &mut [u8], out: &mut [u8]) -> Held {
+    say::text(b"\toffer ");
+    say::octets(o);
+    let a = controller_calls::offer(s, kept, o, &mut *out);
+    if a.told.refusal == refusal::NONE {
+        say::text(b"\tsent ");
+        say::octets(script::first(out, a.told.count));
+    } else {
+        say::call_refused(a.told.refusal);
+    }
+    a.state
+}
+
+// So many seconds; what the link does in each is said, and what the last of them shows.
+fn wait(s: Held, n: usize, kept: &[u8], book: &[u8], out: &mut [u8]) -> Held {
     say::text(b"\twait ");
     say::decimal(n);
     let mut t = s;
     for i in 0..n {
-        t = second(t, i + 1 == n, book);
+        t = second(t, i + 1, i + 1 == n, kept, book, &mut *out);
     }
     t
 }
 
-fn second(s: Held, last: bool, book: &[u8]) -> Held {
-    let w = controller_calls::second(s, book);
+fn second(s: Held, n: usize, last: bool, kept: &[u8], book: &[u8], out: &mut [u8]) -> Held {
+    let w = controller_calls::second(s, kept, book, &mut *out);
+    let told = w.told;
+    let link = told.link;
+    say_turn(n, link, script::first(out, told.count));
     if last {
-        if w.told.refusal == refusal::NONE {
+        if told.refusal == refusal::NONE {
             say_second(w.plan, w.row);
         } else {
-            say::call_refused(w.told.refusal);
+            say::call_refused(told.refusal);
         }
     }
     w.state
+}
+
+// What became of the frame out in second number n.
+fn say_turn(n: usize, link: Link, s: &[u8]) {
+    match link {
+        Link::Still => {}
+        _ => {
+            say::text(b", after ");
+            say::decimal(n);
+            say::text(b" ");
+            say_link(link, s);
+        }
+    }
 }
 
 fn say_second(plan: u8, row: Row) {

@@ -4,11 +4,12 @@
 // A line has a name and then actions, parted by tabs. An action is a word in small letters and, after a blank, octets in
 // hexadecimal: `x256 AA` is 256 times AA. A word that does not stand below is named as unknown, and nothing is done for it.
 // Each case starts with a fresh decoder and with an output of 544 octets, all of them 55; with a controller fresh at address
-// 0001, and with an empty book.
+// 0001 and T = 10, and with an empty book.
 //
 //     read OCTETS          the decoder takes the octets; with none given, those that were written last
 //     idle                 the decoder's line-idle call
 //     unsound              the decoder is an impossible one: at INFO, in an ACK
+//     dropped NUMBER       so many octets were dropped so far, given as two octets
 //     place AT             the next frame is written from this place of the output on, given as two octets
 //     message SEQ INFO     the frame writers, at own address 0001
 //     ack SEQ
@@ -16,15 +17,20 @@
 //     compose CODE FIELDS  the message writer: a code and its fields' values, two octets each
 //     output               the output is shown
 //
-//     fresh ADDR           the controller starts fresh at this address
-//     earlier ADDR         the same with the old built-in plan
+//     fresh ADDR T         the controller starts fresh at this address, with this T, or with 10 where none is given
+//     earlier ADDR T       the same with the old built-in plan
 //     take OCTETS          the controller is handed the octets, one a call
 //     send SEQ INFO        it is handed a message frame for its address, or
 //     broadcast SEQ INFO   for FFFF, or
-//     keep SEQ INFO        256 for its address, each with the SEQ after that of the one before, of which the last is shown
-//     wait OCTETS          as many second calls as octets are given
+//     keep SEQ INFO        256 for its address, each with the SEQ after that of the one before, of which the last is shown; the
+//                          replies to the others are acknowledged
+//     offer INFO           it is handed a message of the host's own
+//     wait OCTETS          as many second calls as octets are given; what the last of them shows is told
 //     quiet                its line-idle call
 //     lend BOOK OUTPUT     from now on it is lent so much of book and output, two octets each
+//
+// Of what a call of the controller writes `reply` tells the octets, or `again` where they are the frame out once more; `heard` and `down`
+// tell how a frame out ended.
 mod bench;
 mod control;
 mod input;

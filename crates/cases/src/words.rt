@@ -22,6 +22,7 @@ pub(crate) enum CallWord {
     Send,
     Broadcast,
     Keep,
+    Offer,
     Wait,
     Quiet,
 }
@@ -86,6 +87,9 @@ fn controller_word(s: &[u8]) -> Word {
     }
     if octets::same(s, b"keep") {
         return Word::Call(CallWord::Keep);
+    }
+    if octets::same(s, b"offer") {
+        return Word::Call(CallWord::Offer);
     }
     if octets::same(s, b"wait") {
         return Word::Call(CallWord::Wait);

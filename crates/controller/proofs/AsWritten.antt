@@ -48,7 +48,7 @@ use Rattle.controller.specs.Demand2.{AsWritten, RepliesAsWritten}
 use Rattle.controller.proofs.Judging.{sound-parts, record-octets}
 use Rattle.controller.proofs.Replying.{plan-in-book, handling-by, by-reply}
 use Rattle.controller.proofs.Answering.{read-in-done}
-use Rattle.controller.proofs.Serving.{new, message-served, no-answer}
+use Rattle.controller.proofs.Serving.{new, message-served, no-silence-free, no-answer}
 
 -- What a refusal names is an octet
 
@@ -255,8 +255,8 @@ pub as-written : (info : List ℕ) → GoodInfo info → AsWritten info
 as-written info g = record { read = g .read; written = λ at out l. writing-undoes-reading info at out (g .octets) (g .read) l }
 
 pub replies-as-written : RepliesAsWritten
-replies-as-written s book out b seq info h hb ho ob oc oi e n r =
+replies-as-written s book out b seq info h hb ho ob oc oi e c z =
     let u = sound-parts s h .running in
-    let v = message-served s book out b h hb ho seq (s .own) info e (inl refl) (new s book out b h hb ho r) (no-answer info n) .reply refl in
+    let v = message-served s book out b h hb ho seq (s .own) info e (inl refl) (new s book out b h hb ho (c .new)) (no-silence-free s book out b h hb ho (s .own) info z) (no-answer info (c .noAnswer)) .reply refl in
     let i = replyInfo s book (handlingOf s book info .handled .reply) in
     (i, v .0, as-written i (reply-good s book info hb ob oc (u .checks) (u .plan) oi))

@@ -2,37 +2,37 @@
 -- length.
 use Prim.Native.Nat.{ℕ, _<_}
 use mathlib.Core.Path.{_≡_, refl, sym, ap, _∙_}
-use mathlib.Core.Bool.{true, not}
+use mathlib.Core.Bool.{true}
 use mathlib.Core.Logic.{_⊎_, inl, inr}
 use mathlib.Core.List.{List, [], _∷_}
-use lib.Dec.{eqb}
 use native.Mathlib.Omega.{arith}
-use lib.ListN.{length, take}
+use lib.ListN.{take}
 use lib.Seq.{length-take-le}
 use Rattle.octets.specs.Octet.{Octets}
-use Rattle.octets.proofs.Laws.{pick-by}
 use Rattle.frame.specs.Frame.{infoMost}
 use Rattle.frame.specs.Decoder.{freshDecoder, takenOf}
 use Rattle.frame.proofs.Noise.{Noise, noise-is, noise-none, Step, on, over, octet-step, idle-step}
 use Rattle.frame.proofs.Possible.{fresh-at-rest}
-use Rattle.record.specs.Record.{bookLen}
 use Rattle.controller.specs.State.{State, freshOf, soundOf}
 use Rattle.controller.specs.Replies.{Answer, Call}
-use Rattle.controller.specs.Seconds.{Shown, startedOf, noSecond, secondOf}
+use Rattle.controller.specs.Seconds.{startedOf, noSecond, secondOf}
 use Rattle.controller.specs.Demand1.{OctetRefused}
-use Rattle.controller.specs.Demand3.{HostCall, octet, lineIdle, second, next}
-use Rattle.controller.specs.Dropped.{OctetDone, DroppedPassedUp, NoiseInRun, end, refused, goes, frame, idle, shows, NoiseTold}
+use Rattle.controller.specs.Offers.{offerOf}
+use Rattle.controller.specs.Demand3.{HostCall, octet, lineIdle, second, offer, next, startOf}
+use Rattle.controller.specs.Dropped.{OctetDone, DroppedPassedUp, NoiseInRun, end, refused, goes, frame, idle, shows, offers, NoiseTold}
 use Rattle.controller.proofs.Laws.{octet-brings, idle-done}
 use Rattle.controller.proofs.Answering.{octet-refused, octets-answered}
-use Rattle.controller.proofs.Keeping.{second-left, sound-kept, fresh-sound}
+use Rattle.controller.proofs.Keeping.{second-ways, second-left, offer-ways, offer-left, sound-kept}
+use Rattle.controller.proofs.Latest.{start-kept}
 
 -- What a call tells
 
-second-tells : (s : State) (book : List ℕ) → secondOf s book .told .dropped ≡ 0
-unfolding secondOf noSecond
-second-tells s book =
-    let P : Shown → Type 0 = λ a. a .told .dropped ≡ 0 in
-    pick-by P (not (soundOf s)) (λ _. refl) (λ _. pick-by P (not (eqb (length book) bookLen)) (λ _. refl) (λ _. refl))
+second-tells : (s : State) (book out : List ℕ) → secondOf s book out .told .dropped ≡ 0
+unfolding noSecond
+second-tells s book out = second-ways s book out (λ a. a .told .dropped ≡ 0) (λ n. refl) refl
+
+offer-tells : (s : State) (info out : List ℕ) → offerOf s info out .answer .told .dropped ≡ 0
+offer-tells s info out = offer-ways s info out (λ w. w .answer .told .dropped ≡ 0) (λ n. refl) (λ _ _ _. refl)
 
 pub passed-up : DroppedPassedUp
 passed-up s =
@@ -40,7 +40,8 @@ passed-up s =
       octet = λ book out b d. let e = octet-brings s book out b (d .0) (d .1) (d .2) refl in
           (ap (λ (w : Call). w .answer .told .dropped) e, ap (λ (w : Call). w .answer .state .dropped) e);
       lineIdle = λ h. (ap (λ (a : Answer). a .told .dropped) (idle-done s h), ap (λ (a : Answer). a .state .dropped) (idle-done s h));
-      second = λ book. (second-tells s book, ap (λ (t : State). t .dropped) (second-left s book));
+      second = λ book out. (second-tells s book out, ap (λ (t : State). t .dropped) (second-left s book out));
+      offer = λ info out. (offer-tells s info out, ap (λ (t : State). t .dropped) (offer-left s info out));
     }
 
 -- A run
@@ -91,13 +92,20 @@ noise-from (lineIdle ∷ es) since s h w =
     let v = idle-step w in
     idle {s = s} {es = es} (noise-is w) (rw (p .0, v .1) (v .0)) (p .0 ∙ v .1 ∙ sym (p .1))
     (noise-from es since (next s lineIdle) (sound-kept s .lineIdle h) (rw (p .1, ap (λ (a : Answer). a .state .decoder) (idle-done s h)) (v .2)))
-noise-from (second book o ∷ es) since s h w =
-    let q = second-left s book in
-    let p = passed-up s .second book in
+noise-from (second book out o ∷ es) since s h w =
+    let q = second-left s book out in
+    let p = passed-up s .second book out in
     shows {s = s} {o = o} {es = es} (noise-is w) (p .0) (p .1)
-    (noise-from es since (next s (second book o)) (sound-kept s .second book h) (rw (p .1, ap (λ (t : State). t .decoder) q) w))
+    (noise-from es since (next s (second book out o)) (sound-kept s .second book out h) (rw (p .1, ap (λ (t : State). t .decoder) q) w))
+noise-from (offer info out o ∷ es) since s h w =
+    let q = offer-left s info out in
+    let p = passed-up s .offer info out in
+    offers {s = s} {o = o} {es = es} (noise-is w) (p .0) (p .1)
+    (noise-from es since (next s (offer info out o)) (sound-kept s .offer info out h) (rw (p .1, ap (λ (t : State). t .decoder) q) w))
 
 pub noise-told : NoiseTold
 unfolding startedOf freshOf
-noise-told which own kept n long es =
-    noise-from es [] (freshOf which own kept) (fresh-sound which own kept n long) (noise-none (freshDecoder (take infoMost kept)) (fresh-at-rest .1 (take infoMost kept) (length-take-le infoMost kept (omega arith)) .0))
+noise-told a g es =
+    let kept = a .kept in
+    noise-from es [] (startOf a) (start-kept a g .sound)
+    (noise-none (freshDecoder (take infoMost kept)) (fresh-at-rest .1 (take infoMost kept) (length-take-le infoMost kept (omega (arith, g .kept))) .0))

@@ -2,6 +2,7 @@ pub mod Laws
 pub mod Judging
 pub mod Replying
 pub mod Remembering
+pub mod Sending
 pub mod Keeping
 pub mod Answering
 pub mod Serving
@@ -9,6 +10,7 @@ pub mod AsWritten
 pub mod Latest
 pub mod Run
 pub mod OurSeq
+pub mod OneOut
 pub mod Repeats
 pub mod Dropped
 pub mod Table

@@ -3,7 +3,7 @@ use Prim.Native.Nat.{ℕ, _≤_}
 use mathlib.Core.Path.{_≡_, refl, sym, ap, _∙_}
 use mathlib.Core.Bool.{Bool, true, false, not}
 use mathlib.Core.Logic.{inl, inr}
-use mathlib.Core.List.{List}
+use mathlib.Core.List.{List, []}
 use mathlib.Core.Option.{Option, none, some}
 use native.Mathlib.Omega.{arith}
 use borrow.Author.Tests.{eq-eqb, ne-eqb, eqb-true}
@@ -20,10 +20,11 @@ use Rattle.frame.specs.Decoder.{takenOf}
 use Rattle.frame.specs.Run.{Outcome, nothing, refused, sound, foundMeans, outcomeOf}
 use Rattle.frame.proofs.Lent.{taken-long}
 use Rattle.controller.specs.Memory.{Memory, lastInfo, isRepeat, remembering}
-use Rattle.controller.specs.State.{State, soundOf}
-use Rattle.controller.specs.Replies.{CanFind, forUs, memoryOf, memoryThen}
+use Rattle.controller.specs.State.{State, all, soundOf}
+use Rattle.controller.specs.Replies.{CanFind, forUs, metWithSilence, memoryOf, memoryThen}
 use Rattle.controller.specs.Demand2.{Repeats}
-use Rattle.controller.specs.Demand3.{Accepted, isAgain, lastAfter}
+use Rattle.controller.specs.Demand3.{Accepted, isAgain, accepts, lastAfter}
+use Rattle.controller.proofs.Laws.{both-false, silence-other}
 use Rattle.controller.proofs.Judging.{LastFits, SoundParts, sound-parts}
 use Rattle.controller.proofs.Replying.{can-find}
 
@@ -106,37 +107,72 @@ module _ (m : Memory) (seq : ℕ) (info : List ℕ) where
       last-new =
           rw (ne-eqb (length info) 0 (λ e. omega (arith, e, least))) (ap (λ (i : List ℕ). some (record { seq = seq; info = i })) (take-sets info (m .info) (omega (arith, hl, most))))
 
+-- Which frame is accepted
+
+-- one for us or for all that is no repeat and not met with silence
+abbrev pub isNew : State → ℕ → ℕ → List ℕ → Bool
+isNew s seq addr info = both (forUs (s .own) addr) (both (not (isRepeat (s .memory) seq info)) (not (metWithSilence s addr info)))
+
+-- a call with a message for us that is no repeat wrote nothing exactly where this was met with silence
+abbrev pub ToldWrote : State → Bool → Outcome → Type 0
+ToldWrote s wrote nothing = Unit
+ToldWrote s wrote (refused n k seq addr) = Unit
+ToldWrote s wrote (sound (message seq addr info)) = eqb addr (s .own) ≡ true → isRepeat (s .memory) seq info ≡ false → wrote ≡ not (metWithSilence s addr info)
+ToldWrote s wrote (sound (ack seq addr)) = Unit
+ToldWrote s wrote (sound (nak seq addr err)) = Unit
+
+both-true : (t : Bool) → both t true ≡ t
+both-true true = refl
+both-true false = refl
+
+module _ (s : State) (seq addr : ℕ) (info : List ℕ) where
+  pub accepts-is : (wrote : Bool) → ToldWrote s wrote (sound (message seq addr info)) → accepts (s .own) wrote (lastIn (s .memory)) seq addr info ≡ isNew s seq addr info
+  accepts-is wrote w = rw (← (is-again (s .memory) seq info)) (by (eqb addr (s .own)) refl (eqb addr all) (isRepeat (s .memory) seq info) refl)
+    where
+      by : (o : Bool) → eqb addr (s .own) ≡ o → (a r : Bool) → isRepeat (s .memory) seq info ≡ r
+          → both (pick o wrote a) (not r) ≡ both (pick o true a) (both (not r) (not (metWithSilence s addr info)))
+      by true e a true f = both-false wrote
+      by true e a false f = rw (w e f) (both-true (not (metWithSilence s addr info)))
+      by false e true true f = refl
+      by false e true false f = rw (silence-other s seq addr info [] e)
+      by false e false r f = refl
+
+  memory-by : memoryOf s seq addr info ≡ pick (isNew s seq addr info) (remembering (s .memory) seq info) (s .memory)
+  unfolding memoryOf
+  memory-by = by (forUs (s .own) addr) (isRepeat (s .memory) seq info) (metWithSilence s addr info)
+    where
+      by : (f r q : Bool) → pick f (pick r (s .memory) (pick q (s .memory) (remembering (s .memory) seq info))) (s .memory)
+          ≡ pick (both f (both (not r) (not q))) (remembering (s .memory) seq info) (s .memory)
+      by true true q = refl
+      by true false true = refl
+      by true false false = refl
+      by false r q = refl
+
 -- the state after an octet
 module _ (s : State) (p : SoundParts s) where
-  message-last : (seq addr : ℕ) (info : List ℕ) → infoLeast ≤ length info → length info ≤ infoMost
-      → lastIn (memoryOf s seq addr info) ≡ lastAfter (s .own) (lastIn (s .memory)) (sound (message seq addr info))
-  unfolding memoryOf
-  message-last seq addr info least most =
-      let P : Memory → Type 0 = λ m. lastIn m ≡ lastAfter (s .own) (lastIn (s .memory)) (sound (message seq addr info)) in
-      let a = is-again (s .memory) seq info in
-      pick-by P (forUs (s .own) addr)
-      (λ f. pick-by P (isRepeat (s .memory) seq info)
-      (λ r. let g : isAgain (lastIn (s .memory)) seq info ≡ true = sym a ∙ r in rw (f, g))
-      (λ r. let g : isAgain (lastIn (s .memory)) seq info ≡ false = sym a ∙ r in rw (f, g) (last-new (s .memory) seq info (p .lastInfo) least most)))
-      (λ f. rw f)
+  message-last : (wrote : Bool) (seq addr : ℕ) (info : List ℕ) → ToldWrote s wrote (sound (message seq addr info)) → infoLeast ≤ length info → length info ≤ infoMost
+      → lastIn (memoryOf s seq addr info) ≡ lastAfter (s .own) wrote (lastIn (s .memory)) (sound (message seq addr info))
+  message-last wrote seq addr info w least most = rw (memory-by s seq addr info, accepts-is s seq addr info wrote w) (by (isNew s seq addr info))
+    where
+      by : (t : Bool) → lastIn (pick t (remembering (s .memory) seq info) (s .memory)) ≡ pick t (some (record { seq = seq; info = info })) (lastIn (s .memory))
+      by true = last-new (s .memory) seq info (p .lastInfo) least most
+      by false = refl
 
-  pub memory-last : (o : Outcome) → OutcomeFits o → lastIn (memoryThen o s) ≡ lastAfter (s .own) (lastIn (s .memory)) o
-  memory-last nothing f = refl
-  memory-last (refused n k seq addr) f = refl
-  memory-last (sound (message seq addr info)) f = message-last seq addr info (f .0) (f .1)
-  memory-last (sound (ack seq addr)) f = refl
-  memory-last (sound (nak seq addr err)) f = refl
+  pub memory-last : (wrote : Bool) (o : Outcome) → ToldWrote s wrote o → OutcomeFits o → lastIn (memoryThen o s) ≡ lastAfter (s .own) wrote (lastIn (s .memory)) o
+  memory-last wrote nothing w f = refl
+  memory-last wrote (refused n k seq addr) w f = refl
+  memory-last wrote (sound (message seq addr info)) w f = message-last wrote seq addr info w (f .0) (f .1)
+  memory-last wrote (sound (ack seq addr)) w f = refl
+  memory-last wrote (sound (nak seq addr err)) w f = refl
 
   abbrev Fits : Memory → Type 0
   Fits m = (length (m .info) ≡ infoMost) × LastFits (m .last)
 
   message-memory : (seq addr : ℕ) (info : List ℕ) → infoLeast ≤ length info → length info ≤ infoMost → Fits (memoryOf s seq addr info)
-  unfolding memoryOf remembering
+  unfolding remembering
   message-memory seq addr info least most =
-      let stays : Fits (s .memory) = (p .lastInfo, p .last) in
-      pick-by Fits (forUs (s .own) addr)
-      (λ _. pick-by Fits (isRepeat (s .memory) seq info) (λ _. stays) (λ _. (length-sets (s .memory .info) 0 info ∙ p .lastInfo, inr (least, most))))
-      (λ _. stays)
+      rw (memory-by s seq addr info)
+      (pick-by Fits (isNew s seq addr info) (λ _. (length-sets (s .memory .info) 0 info ∙ p .lastInfo, inr (least, most))) (λ _. (p .lastInfo, p .last)))
 
   pub memory-fits : (o : Outcome) → OutcomeFits o → Fits (memoryThen o s)
   memory-fits nothing f = (p .lastInfo, p .last)

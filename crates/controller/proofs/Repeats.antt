@@ -21,7 +21,7 @@ use Rattle.controller.specs.Memory.{Memory, lastInfo}
 use Rattle.controller.specs.State.{State, all, outputLen, soundOf, withDecoder}
 use Rattle.controller.specs.declared.Event.the-variants as event
 use Rattle.controller.specs.Replies.{Call, octetOf}
-use Rattle.controller.specs.Demand2.{Repeats, OnlyTaken, RepliesSo}
+use Rattle.controller.specs.Demand2.{Repeats, NoSilence, OnlyTaken, RepliesSo}
 use Rattle.controller.specs.Demand3.{HostCall, octet, next, goesOn}
 use Rattle.controller.specs.OurSeq.{writes, writesOn}
 use Rattle.controller.specs.Repeats.{IsLast, LastKept, HandsIn, TellsNothing, AllTellNothing, NothingElse, SentTwice}
@@ -46,8 +46,8 @@ is-last m l f = by (eqb (m .last .len) 0) refl
         record { seq = refl; long = sym n; octets = ap (λ (k : ℕ). take k (m .info)) n }
 
 pub last-kept : LastKept
-last-kept which own kept n long es =
-    let k = run-kept which own kept n long es in
+last-kept a g es =
+    let k = run-kept a g es in
     let p = sound-parts _ (k .sound) in
     subst (IsLast _) (k .last) (is-last _ (p .lastInfo) (p .last))
 
@@ -132,7 +132,7 @@ frame-in f (suc n) s (hands.more {bs} {es} b l book out o hb ho r) h e =
 -- Sent twice
 
 module _ (s : State) (h : soundOf s ≡ true) (a : AtRest (s .decoder)) (seq addr : ℕ) (info : List ℕ) (io : InOctets (message seq addr info)) (fi : InfoFits (message seq addr info))
-    (first again : List HostCall) (hf : HandsIn (written (message seq addr info)) first) (ha : HandsIn (written (message seq addr info)) again) where
+    (quiet : NoSilence s seq addr info) (first again : List HostCall) (hf : HandsIn (written (message seq addr info)) first) (ha : HandsIn (written (message seq addr info)) again) where
   abbrev f : Frame
   f = message seq addr info
 
@@ -166,7 +166,7 @@ module _ (s : State) (h : soundOf s ≡ true) (a : AtRest (s .decoder)) (seq add
   remembered : (addr ≡ s .own) ⊎ (addr ≡ all) → Repeats (y .before .memory) seq info
   remembered g =
       rw (ap (λ (u : State). u .memory) (y .alike), x .state)
-      (replies (x .before) (x .book) (x .out) (x .b) (x .stands) (x .hb) (x .ho) .remembered seq addr info (x .ends) (rw (ap (λ (u : State). u .own) (x .alike)) g))
+      (replies (x .before) (x .book) (x .out) (x .b) (x .stands) (x .hb) (x .ho) .remembered seq addr info (x .ends) (rw (ap (λ (u : State). u .own) (x .alike)) g) (rw (x .alike) quiet))
 
   no-event : w .answer .told .event ≡ event.Nothing
   no-event = rw (octet-brings (y .before) (y .book) (y .out) (y .b) (y .stands) (y .hb) (y .ho) (y .ends)) (message-event (y .before) seq addr info (y .book))
@@ -183,9 +183,10 @@ module _ (s : State) (h : soundOf s ≡ true) (a : AtRest (s .decoder)) (seq add
         requested = ap (λ (u : State). u .requested) left ∙ ap (λ (u : State). u .requested) (y .alike);
         seq = ap (λ (u : State). u .seq) left ∙ ap (λ (u : State). u .seq) (y .alike);
         memory = ap (λ (u : State). u .memory) left ∙ ap (λ (u : State). u .memory) (y .alike);
+        sender = ap (λ (u : State). u .sender) left ∙ ap (λ (u : State). u .sender) (y .alike);
         running = running;
-        lamps = λ book.
-            same-shown (goesOn t again) t book (rw (y .state) (sound-kept (y .before) .octet (y .book) (y .out) (y .b) (y .l) (y .stands))) t-sound running;
+        lamps = λ book out.
+            same-shown (goesOn t again) t book out (rw (y .state) (sound-kept (y .before) .octet (y .book) (y .out) (y .b) (y .l) (y .stands))) t-sound running;
       }
 
   answered : RepliesSo (y .before) (y .book) (y .b) (outcomeOf (takenOf (y .before .decoder) (y .b))) w
@@ -202,5 +203,5 @@ module _ (s : State) (h : soundOf s ≡ true) (a : AtRest (s .decoder)) (seq add
       nothing-else [] (r .0 .octets) (r .1) (r .2)
 
 pub sent-twice : SentTwice
-sent-twice s h a seq addr info io fi first again hf ha =
-    record { ours = ours s h a seq addr info io fi first again hf ha; forAll = for-all s h a seq addr info io fi first again hf ha }
+sent-twice s h a seq addr info io fi q first again hf ha =
+    record { ours = ours s h a seq addr info io fi q first again hf ha; forAll = for-all s h a seq addr info io fi q first again hf ha }

@@ -10,7 +10,7 @@ use lib.Dec.{eqb}
 use lib.ListN.{length, length-append}
 use Rattle.octets.specs.Refusal as refusal
 use Rattle.octets.proofs.Laws.{pick-by}
-use Rattle.frame.specs.Frame.{ack, nak, infoMost, frontOf, sentOf, twice, doubled, written}
+use Rattle.frame.specs.Frame.{message, ack, nak, infoLeast, infoMost, frontOf, sentOf, twice, doubled, written}
 use Rattle.frame.specs.Decoder.{Decoder, possibleOf, takenOf}
 use Rattle.frame.proofs.Finding.{finds}
 use Rattle.message.specs.Names.{planAt}
@@ -20,7 +20,7 @@ use Rattle.plan.specs.declared.setting.Answered.{Answered}
 use Rattle.record.specs.Record.{bookLen, plansMost, empty, ready}
 use Rattle.checks.specs.Standing.{standingOf}
 use Rattle.plan.specs.Setting.{Setting, setTimesCode, setPlanCode, setTimesOf, setPlanOf, planIn}
-use Rattle.plan.specs.Reporting.{reportPlanCode, reportRunningCode}
+use Rattle.plan.specs.Reporting.{reportPlanCode, reportRunningCode, timesInfo, planInfo}
 use Rattle.plan.proofs.Reports.{times-most, plan-most}
 use Rattle.plan.proofs.Reportable.{standing-past}
 use Rattle.controller.specs.declared.Handled.{Handled}
@@ -121,6 +121,12 @@ module _ (s : State) (book info : List ℕ) where
       by-reply (λ h. length (replyInfo s book (h .reply)) ≤ infoMost) (λ q. omega arith) (λ n m. omega arith) (λ n. omega (arith, times-most named n p))
       (λ e. omega (arith, plan-most named e p reportPlanCode)) (omega (arith, plan-most (s .running .copy) r (s .running .plan) reportRunningCode))
 
+  pub reply-least : standingOf (s .running .copy) ≡ ready → infoLeast ≤ length (replyInfo s book (handlingOf s book info .handled .reply))
+  unfolding replyInfo timesInfo planInfo
+  reply-least r =
+      by-reply (λ h. infoLeast ≤ length (replyInfo s book (h .reply))) (λ q. omega arith) (λ n m. omega arith) (λ n. omega arith)
+      (λ e. omega arith) (omega arith)
+
   -- A report is of the book as it came, since a message that has one leaves the book: what holds of the reply and that book, and of every 0F 80
   -- and 0F 81 and any book, holds of the reply and the book that is left
   module _ (P : List ℕ → Reply → Type 0) (carried : (b : List ℕ) → P b (reply.CarriedOut code)) (refused : (b : List ℕ) (n m : ℕ) → P b (reply.Refused code n m)) where
@@ -157,6 +163,11 @@ nak-fits seq own err = omega arith
 pub ack-fits : (seq own : ℕ) → length (sent (ack seq own ∷ [])) ≤ outputLen
 unfolding written frontOf sentOf
 ack-fits seq own = omega arith
+
+-- a message frame alone
+pub message-most : (seq own : ℕ) (info : List ℕ) → length info ≤ infoMost → length (sent (message seq own info ∷ [])) ≤ outputLen
+unfolding written frontOf sentOf
+message-most seq own info h = simp length-append (omega (arith, doubled-most info))
 
 -- an ACK and a message frame
 pub sent-most : (seq ours own : ℕ) (info : List ℕ) → length info ≤ infoMost → length (sent (repliesOf seq ours own info)) ≤ outputLen

@@ -1,24 +1,24 @@
 -- Demand 2: what an octet brings, in frames received and frames written; what a message does; what a second shows.
-use Prim.Native.Nat.{ℕ, _+_, _%_, _≤_}
-use mathlib.Core.Path.{_≡_, refl, sym, subst, _∙_}
-use mathlib.Core.Bool.{Bool, true, false}
+use Prim.Native.Nat.{ℕ, _+_, _%_, _≤_, _<_}
+use mathlib.Core.Path.{_≡_, refl, sym, ap, subst, _∙_}
+use mathlib.Core.Bool.{Bool, true, false, not}
 use mathlib.Core.Logic.{_⊎_, inl, inr}
-use mathlib.Core.List.{List, [], _∷_}
+use mathlib.Core.List.{List, [], _∷_, append-nil}
 use native.Mathlib.Decide.{ℕ-discrete}
 use native.Mathlib.Omega.{arith}
-use borrow.Author.Tests.{eq-eqb, ne-eqb}
+use borrow.Author.Tests.{eq-eqb, ne-eqb, eqb-true}
 use lib.Dec.{eqb}
-use lib.ListN.{length, drop}
+use lib.ListN.{length, take, drop, length-take}
 use lib.Seq.{sets}
 use Rattle.octets.specs.Octet.{Octets}
 use Rattle.octets.specs.Refusal as refusal
-use Rattle.octets.proofs.Laws.{pick-by, take-sets, drop-sets}
+use Rattle.octets.proofs.Laws.{pick-by, both-left, both-right, clash, take-sets, drop-sets}
 use Rattle.frame.specs.declared.Kind.{Kind}
 use Rattle.frame.specs.declared.Kind.the-variants.{Message, Ack, Nak}
-use Rattle.frame.specs.Frame.{Frame, message, ack, nak, infoLeast, infoMost}
+use Rattle.frame.specs.Frame.{Frame, message, ack, nak, infoLeast, infoMost, written}
 use Rattle.frame.specs.Decoder.{takenOf}
 use Rattle.frame.specs.Dropped.{Counted}
-use Rattle.frame.specs.Run.{Outcome, sound, outcomeOf}
+use Rattle.frame.specs.Run.{Outcome, nothing, refused, sound, outcomeOf}
 use Rattle.message.specs.Names.{planAt}
 use Rattle.message.specs.Reader.{codeIn, bodyIn, readOf}
 use Rattle.record.specs.Record.{bookLen, empty, ready, Ready}
@@ -35,17 +35,24 @@ use Rattle.lamps.proofs.Cycle.{cycle-long}
 use Rattle.controller.specs.declared.Event.the-variants as event
 use Rattle.controller.specs.declared.Reply.{Reply}
 use Rattle.controller.specs.declared.Reply.the-variants as reply
+use Rattle.controller.specs.declared.Link.{Link}
+use Rattle.controller.specs.declared.Link.the-variants as link
+use Rattle.controller.specs.declared.Out.{Out}
 use Rattle.controller.specs.Memory.{Memory, isRepeat, remembering}
+use Rattle.controller.specs.Sender.{Sender, outSeq, outInfo, sending, answersOut, ackTurn, nakTurn, secondTurn}
+use Rattle.controller.specs.Offers.{offeredFrame}
+use Rattle.controller.specs.Seconds.{secondOf}
 use Rattle.controller.specs.State.{State, all, outputLen, planRecord, soundOf}
 use Rattle.controller.specs.Handling as handling
 use Rattle.controller.specs.Handling.{Handling, carriedOutCode, refusedCode, runCode, queryTimesCode, queryPlanCode, queryRunningCode, replyInfo, setAs, runAs, queryTimesAs, queryPlanAs, handlingOf}
-use Rattle.controller.specs.Replies.{Call, sent, errOf, naks, forUs, isAnswer, repliesOf, ResultAndBook, repliedOf, handledOf, ackedOf, acceptedOf, messageOf, broughtOf, memoryOf, memoryThen, madeOf, octetOf}
-use Rattle.controller.specs.Demand2.{Repeats, Wrote, Err, IsAnswer, RecordOfPlan, RepliesSo, Replies, Answers, CarriedOut, Reported, Refused, HandledSo, Handles, SecondsShow}
-use Rattle.controller.proofs.Judging.{sound-parts, record-octets}
+use Rattle.controller.specs.Replies.{Call, sent, errOf, naks, forUs, isAnswer, repliesOf, ResultAndBook, leaves, metWithSilence, repliedOf, handledOf, ackedOf, acceptedOf, messageOf, resent, turned, broughtOf, memoryOf, memoryThen, madeOf, octetOf}
+use Rattle.controller.specs.Demand2.{Repeats, Writes, Wrote, OnlyTaken, OnlySender, nothingOut, onceMore, AnswersOut, Sent, NoSilence, Err, IsAnswer, RecordOfPlan, RepliesSo, Replies, Answers, CarriedOut, Reported, Refused, HandledSo, Handles, SecondsShow, SecondTells, SecondSends, SecondsSend, LampsNeverWait, OffersSend}
+use Rattle.controller.proofs.Judging.{sound-parts, parts-sound, record-octets}
+use Rattle.controller.proofs.Answering.{offer-is-done}
 use Rattle.controller.proofs.Keeping.{second-left}
-use Rattle.controller.proofs.Laws.{takes, octet-brings, message-other, message-repeat, message-new, message-answer, accepted-handled, memory-other, memory-repeat, memory-new, second-done}
+use Rattle.controller.proofs.Laws.{takes, octet-brings, message-other, message-repeat, message-silent, message-new, message-answer, accepted-handled, memory-other, memory-repeat, memory-silent, memory-new, silence-none, silence-other, silence-answer, silence-met, answered-ours, answered-other, again-more, again-down, ack-heard, ack-ignored, nak-again, nak-ignored, second-none, second-waits, second-over, second-done}
 use Rattle.controller.proofs.Remembering.{OutcomeFits, outcome-fits, is-repeat, repeat-is, no-repeat, remembers}
-use Rattle.controller.proofs.Replying.{reply-fits, nak-fits, ack-fits, sent-most}
+use Rattle.controller.proofs.Replying.{reply-fits, nak-fits, ack-fits, message-most, sent-most}
 
 -- Whom a message is for
 
@@ -64,7 +71,18 @@ unfolding messageOf acceptedOf repliedOf
 message-event s seq addr info book =
     let P : ResultAndBook → Type 0 = λ w. w .result .event ≡ event.Nothing in
     pick-by P (forUs (s .own) addr)
-    (λ _. pick-by P (isRepeat (s .memory) seq info) (λ _. refl) (λ _. pick-by P (isAnswer (codeIn info)) (λ _. refl) (λ _. refl)))
+    (λ _. pick-by P (isRepeat (s .memory) seq info) (λ _. refl)
+    (λ _. pick-by P (metWithSilence s addr info) (λ _. refl) (λ _. pick-by P (isAnswer (codeIn info)) (λ _. refl) (λ _. refl))))
+    (λ _. refl)
+
+-- nor does the link stand otherwise
+message-link : (s : State) (seq addr : ℕ) (info book : List ℕ) → messageOf s seq addr info book .result .link ≡ link.Still
+unfolding messageOf acceptedOf repliedOf
+message-link s seq addr info book =
+    let P : ResultAndBook → Type 0 = λ w. w .result .link ≡ link.Still in
+    pick-by P (forUs (s .own) addr)
+    (λ _. pick-by P (isRepeat (s .memory) seq info) (λ _. refl)
+    (λ _. pick-by P (metWithSilence s addr info) (λ _. refl) (λ _. pick-by P (isAnswer (codeIn info)) (λ _. refl) (λ _. refl))))
     (λ _. refl)
 
 -- 0F 80 and 0F 81
@@ -82,12 +100,16 @@ err-so Err.len = refl
 
 -- What is written
 
-wrote : {w : Call} (out : List ℕ) (fs : List Frame) → outputLen ≤ length out → length (sent fs) ≤ outputLen
-    → w .answer .told .count ≡ length (sent fs) → w .out ≡ sets out 0 (sent fs) → Wrote w fs
-wrote out fs ho h c e = record { count = c; octets = rw (c, e) (take-sets (sent fs) out (omega arith)) }
+wrote : {n : ℕ} {o : List ℕ} (out : List ℕ) (fs : List Frame) → length (sent fs) ≤ length out → n ≡ length (sent fs) → o ≡ sets out 0 (sent fs) → Writes n o fs
+wrote out fs h c e = record { count = c; octets = rw (c, e) (take-sets (sent fs) out h) }
 
-wrote-none : {w : Call} → w .answer .told .count ≡ 0 → Wrote w []
+wrote-none : {n : ℕ} {o : List ℕ} → n ≡ 0 → Writes n o []
 wrote-none c = record { count = c; octets = rw c }
+
+-- a frame with this INFO is out
+sent-so : (q : Sender) (info : List ℕ) → length info ≤ length (q .info) → Sent q info (sending q info)
+unfolding sending
+sent-so q info h = record { out = refl; info = take-sets info (q .info) h; beyond = drop-sets info (q .info) h }
 
 -- a message handled, and its reply where it was for us, with our address and SEQ
 pub record Served (s : State) (before : List ℕ) (seq addr : ℕ) (h : Handling) (w : Call) : Type 0 where
@@ -96,23 +118,25 @@ pub record Served (s : State) (before : List ℕ) (seq addr : ℕ) (h : Handling
   pub requested : w .answer .state .requested ≡ h .handled .requested
   pub book : w .book ≡ h .book
   pub reply : addr ≡ s .own → Wrote w (repliesOf seq (s .seq) (s .own) (replyInfo s before (h .handled .reply))) × (w .answer .state .seq ≡ (s .seq + 1) % 256)
-  pub silent : (addr ≡ s .own → ⊥) → Wrote w [] × (w .answer .state .seq ≡ s .seq)
+      × Sent (s .sender) (replyInfo s before (h .handled .reply)) (w .answer .state .sender)
+  pub silent : (addr ≡ s .own → ⊥) → Wrote w [] × (w .answer .state .seq ≡ s .seq) × (w .answer .state .sender ≡ s .sender)
 
 module _ (s : State) (c : Counted) (m : Memory) (before : List ℕ) (seq addr : ℕ) (h : Handling) (out : List ℕ) (ho : outputLen ≤ length out) where
   abbrev made : Call
   made = madeOf s c m (handledOf s before seq addr h) out
 
-  served : length (replyInfo s before (h .handled .reply)) ≤ infoMost → Served s before seq addr h made
+  served : length (replyInfo s before (h .handled .reply)) ≤ infoMost → length (s .sender .info) ≡ infoMost → Served s before seq addr h made
   unfolding repliedOf
-  served f =
+  served f l =
       record {
         names = refl;
         parameter = refl;
         requested = refl;
         book = refl;
         reply = λ e.
-            rw (eq-eqb addr (s .own) e) (wrote out (repliesOf seq (s .seq) (s .own) info) ho (sent-most seq (s .seq) (s .own) info f) refl refl, refl);
-        silent = λ n. rw (ne-eqb addr (s .own) n) (wrote-none refl, refl);
+            rw (eq-eqb addr (s .own) e)
+            (wrote out (repliesOf seq (s .seq) (s .own) info) (omega (arith, sent-most seq (s .seq) (s .own) info f, ho)) refl refl, refl, sent-so (s .sender) info (omega (arith, f, l)));
+        silent = λ n. rw (ne-eqb addr (s .own) n) (wrote-none refl, refl, refl);
       }
     where
       info : List ℕ
@@ -123,7 +147,31 @@ beyond-stays : (s : State) (seq addr : ℕ) (info : List ℕ) → length info �
 unfolding memoryOf remembering
 beyond-stays s seq addr info l =
     let P : Memory → Type 0 = λ m. drop (length info) (m .info) ≡ drop (length info) (s .memory .info) in
-    pick-by P (forUs (s .own) addr) (λ _. pick-by P (isRepeat (s .memory) seq info) (λ _. refl) (λ _. drop-sets info (s .memory .info) l)) (λ _. refl)
+    pick-by P (forUs (s .own) addr)
+    (λ _. pick-by P (isRepeat (s .memory) seq info) (λ _. refl) (λ _. pick-by P (metWithSilence s addr info) (λ _. refl) (λ _. drop-sets info (s .memory .info) l)))
+    (λ _. refl)
+
+-- Which ACK or NAK answers the frame out
+
+module _ (s : State) (n : ℕ) where
+  abbrev o : Out
+  o = s .sender .out
+
+  answers-to : AnswersOut s n → answersOut (s .seq) o n ≡ true
+  answers-to a = rw (ne-eqb (o .len) 0 (a .out), eq-eqb n (outSeq (s .seq)) (a .seq))
+
+  answers-from : answersOut (s .seq) o n ≡ true → AnswersOut s n
+  answers-from h =
+      let z = not (eqb (o .len) 0) in
+      let q = eqb n (outSeq (s .seq)) in
+      record { out = λ e. clash (ap not (eq-eqb (o .len) 0 e)) (both-left z q h); seq = eqb-true n (outSeq (s .seq)) (both-right z q h) }
+
+  ignores : (AnswersOut s n → ⊥) → answersOut (s .seq) o n ≡ false
+  ignores g = by (answersOut (s .seq) o n) refl
+    where
+      by : (t : Bool) → answersOut (s .seq) o n ≡ t → t ≡ false
+      by true e = absurd (g (answers-from e))
+      by false e = refl
 
 module _ (s : State) (book out : List ℕ) (b : ℕ) (h : soundOf s ≡ true) (hb : length book ≡ bookLen) (ho : outputLen ≤ length out) where
   abbrev w : Call
@@ -149,10 +197,18 @@ module _ (s : State) (book out : List ℕ) (b : ℕ) (h : soundOf s ≡ true) (h
   new {seq} {info} n = let p = sound-parts s h in no-repeat (s .memory) seq info (p .lastInfo) (p .last) n
 
   pub message-served : (seq addr : ℕ) (info : List ℕ) → Ends (sound (message seq addr info)) → (addr ≡ s .own) ⊎ (addr ≡ all)
-      → isRepeat (s .memory) seq info ≡ false → isAnswer (codeIn info) ≡ false → Served s book seq addr (handlingOf s book info) w
-  message-served seq addr info e a r n =
-      rw (brings e, message-new s seq addr info book (for-us (s .own) addr a) r, accepted-handled s seq addr info book n)
-      (served s t (memoryOf s seq addr info) book seq addr (handlingOf s book info) out ho (reply-fits s book info (sound-parts s h .running .checks)))
+      → isRepeat (s .memory) seq info ≡ false → metWithSilence s addr info ≡ false → isAnswer (codeIn info) ≡ false → Served s book seq addr (handlingOf s book info) w
+  message-served seq addr info e a r q n =
+      let p = sound-parts s h in
+      rw (brings e, message-new s seq addr info book (for-us (s .own) addr a) r q, accepted-handled s seq addr info book n)
+      (served s t (memoryOf s seq addr info) book seq addr (handlingOf s book info) out ho (reply-fits s book info (p .running .checks)) (p .outInfo))
+
+  -- silence is for us alone, and only while one is out
+  pub no-silence-all : (addr : ℕ) (info : List ℕ) → addr ≡ all → metWithSilence s addr info ≡ false
+  no-silence-all addr info e = silence-other s 0 addr info [] (ne-eqb addr (s .own) (λ g. other (sym e ∙ g)))
+
+  pub no-silence-free : (addr : ℕ) (info : List ℕ) → s .sender .out .len ≡ 0 → metWithSilence s addr info ≡ false
+  no-silence-free addr info e = silence-none s 0 addr info [] (eq-eqb (s .sender .out .len) 0 e)
 
   -- a repeat, and what is remembered after it
   repeat-acked : {seq addr : ℕ} {info : List ℕ} → Ends (sound (message seq addr info)) → (addr ≡ s .own) ⊎ (addr ≡ all) → isRepeat (s .memory) seq info ≡ true
@@ -161,9 +217,22 @@ module _ (s : State) (book out : List ℕ) (b : ℕ) (h : soundOf s ≡ true) (h
       let f = for-us (s .own) addr a in
       brings e ∙ rw (message-repeat s seq addr info book f r, memory-repeat s seq addr info book f r)
 
-  -- a frame for us or for all is remembered then
-  frame-remembered : (seq addr : ℕ) (info : List ℕ) → Ends (sound (message seq addr info)) → (addr ≡ s .own) ⊎ (addr ≡ all) → Repeats (w .answer .state .memory) seq info
-  frame-remembered seq addr info e a = rw (brings e) (by (isRepeat (s .memory) seq info) refl)
+  -- a frame for us or for all is remembered then, unless it is met with silence
+  not-silent : (seq addr : ℕ) (info : List ℕ) → infoLeast ≤ length info → NoSilence s seq addr info → isRepeat (s .memory) seq info ≡ false → metWithSilence s addr info ≡ false
+  not-silent seq addr info l (inl e) r = no-silence-all addr info e
+  not-silent seq addr info l (inr (inl e)) r = no-silence-free addr info e
+  not-silent seq addr info l (inr (inr g)) r = silence-answer s 0 addr info [] (by (isAnswer (codeIn info)) refl)
+    where
+      answer-of : isAnswer (codeIn info) ≡ false → IsAnswer info → ⊥
+      answer-of f a = clash f (is-answer info a)
+
+      by : (t : Bool) → isAnswer (codeIn info) ≡ t → t ≡ true
+      by true e = refl
+      by false e = absurd (g (record { noAnswer = answer-of e; new = λ q. clash r (is-repeat (s .memory) seq info l q) }))
+
+  frame-remembered : (seq addr : ℕ) (info : List ℕ) → Ends (sound (message seq addr info)) → (addr ≡ s .own) ⊎ (addr ≡ all) → NoSilence s seq addr info
+      → Repeats (w .answer .state .memory) seq info
+  frame-remembered seq addr info e a q = rw (brings e) (by (isRepeat (s .memory) seq info) refl)
     where
       by : (x : Bool) → isRepeat (s .memory) seq info ≡ x → Repeats (memoryOf s seq addr info) seq info
       by true r =
@@ -171,7 +240,7 @@ module _ (s : State) (book out : List ℕ) (b : ℕ) (h : soundOf s ≡ true) (h
           rw (memory-repeat s seq addr info book (for-us (s .own) addr a) r) (repeat-is (s .memory) seq info (p .lastInfo) (p .last) r)
       by false r =
           let l = long-enough e in
-          rw (memory-new s seq addr info book (for-us (s .own) addr a) r) (remembers (s .memory) seq info (sound-parts s h .lastInfo) (l .0) (l .1))
+          rw (memory-new s seq addr info book (for-us (s .own) addr a) r (not-silent seq addr info (l .0) q r)) (remembers (s .memory) seq info (sound-parts s h .lastInfo) (l .0) (l .1))
 
   no-naks : (n : ℕ) (k : Kind) (seq addr : ℕ) → (k ≡ Message → ⊥) ⊎ (addr ≡ s .own → ⊥) → naks k (s .own) n seq addr ≡ []
   no-naks n Message seq addr (inl g) = absurd (g refl)
@@ -180,24 +249,102 @@ module _ (s : State) (book out : List ℕ) (b : ℕ) (h : soundOf s ≡ true) (h
   no-naks n Nak seq addr g = refl
 
   for-all : (seq : ℕ) (info : List ℕ) → Ends (sound (message seq all info)) → (r t : Bool) → isRepeat (s .memory) seq info ≡ r → isAnswer (codeIn info) ≡ t
-      → Wrote w [] × (w .answer .state .seq ≡ s .seq)
-  for-all seq info e true t r a = rw (repeat-acked e (inr refl) r, ne-eqb all (s .own) other) (wrote-none refl, refl)
-  for-all seq info e false true r a = rw (brings e, message-answer s seq all info book (for-us (s .own) all (inr refl)) a, ne-eqb all (s .own) other) (wrote-none refl, refl)
-  for-all seq info e false false r a = message-served seq all info e (inr refl) r a .silent other
+      → Wrote w [] × (w .answer .state .seq ≡ s .seq) × (w .answer .state .sender ≡ s .sender)
+  for-all seq info e true t r a = rw (repeat-acked e (inr refl) r, ne-eqb all (s .own) other) (wrote-none refl, refl, refl)
+  for-all seq info e false true r a = rw (brings e, message-answer s seq all info book (for-us (s .own) all (inr refl)) a, ne-eqb all (s .own) other) (wrote-none refl, refl, refl)
+  for-all seq info e false false r a = message-served seq all info e (inr refl) r (no-silence-all all info refl) a .silent other
+
+  -- an ACK or a NAK that does not answer the frame out changes nothing
+  ack-quiet : (seq addr : ℕ) → Ends (sound (ack seq addr)) → ((addr ≡ s .own) × AnswersOut s seq → ⊥)
+      → Wrote w [] × (w .answer .told .refusal ≡ 0) × OnlyTaken s (s .memory) book b w
+  ack-quiet seq addr e g =
+      elim (ℕ-discrete addr (s .own)) [
+        | yes a ↦ rw (brings e, answered-ours s addr (event.Ack seq) (ackTurn (s .seq) (s .sender .out) seq) book (eq-eqb addr (s .own) a), ack-ignored (s .sender .out) (s .seq) seq (ignores s seq (λ q. g (a, q))))
+            (wrote-none refl, refl, record { state = refl; book = refl; parameter = refl })
+        | no n ↦ rw (brings e, answered-other s addr (event.Ack seq) (ackTurn (s .seq) (s .sender .out) seq) book (ne-eqb addr (s .own) n))
+            (wrote-none refl, refl, record { state = refl; book = refl; parameter = refl })
+      ]
+
+  nak-quiet : (seq addr err : ℕ) → Ends (sound (nak seq addr err)) → ((addr ≡ s .own) × AnswersOut s seq → ⊥)
+      → Wrote w [] × (w .answer .told .refusal ≡ 0) × OnlyTaken s (s .memory) book b w
+  nak-quiet seq addr err e g =
+      elim (ℕ-discrete addr (s .own)) [
+        | yes a ↦ rw (brings e, answered-ours s addr (event.Nak seq err) (nakTurn (s .seq) (s .sender .out) seq) book (eq-eqb addr (s .own) a), nak-ignored (s .sender .out) (s .seq) seq (ignores s seq (λ q. g (a, q))))
+            (wrote-none refl, refl, record { state = refl; book = refl; parameter = refl })
+        | no n ↦ rw (brings e, answered-other s addr (event.Nak seq err) (nakTurn (s .seq) (s .sender .out) seq) book (ne-eqb addr (s .own) n))
+            (wrote-none refl, refl, record { state = refl; book = refl; parameter = refl })
+      ]
+
+  -- what an ACK or a NAK for us makes of the frame out
+  ack-ours : {seq : ℕ} → Ends (sound (ack seq (s .own))) → w ≡ madeOf s t (s .memory) (leaves book (turned s (event.Ack seq) (ackTurn (s .seq) (s .sender .out) seq))) out
+  ack-ours {seq} e = brings e ∙ rw (answered-ours s (s .own) (event.Ack seq) (ackTurn (s .seq) (s .sender .out) seq) book (eq-eqb (s .own) (s .own) refl))
+
+  nak-ours : {seq err : ℕ} → Ends (sound (nak seq (s .own) err)) → w ≡ madeOf s t (s .memory) (leaves book (turned s (event.Nak seq err) (nakTurn (s .seq) (s .sender .out) seq))) out
+  nak-ours {seq} {err} e = brings e ∙ rw (answered-ours s (s .own) (event.Nak seq err) (nakTurn (s .seq) (s .sender .out) seq) book (eq-eqb (s .own) (s .own) refl))
+
+  -- the frame out fits the output
+  out-room : length (sent (message (outSeq (s .seq)) (s .own) (outInfo (s .sender)) ∷ [])) ≤ length out
+  out-room =
+      omega (
+        arith,
+        message-most (outSeq (s .seq)) (s .own) (outInfo (s .sender)) (omega (arith, length-take (s .sender .out .len) (s .sender .info), sound-parts s h .outInfo)),
+        ho,
+      )
+
+  nak-resends : (seq err : ℕ) → Ends (sound (nak seq (s .own) err)) → AnswersOut s seq → s .sender .out .sends < 5
+      → Wrote w (message ((s .seq + 255) % 256) (s .own) (take (s .sender .out .len) (s .sender .info)) ∷ []) × (w .answer .told .refusal ≡ 0)
+      × OnlySender s (onceMore (s .sender .out)) link.Again book b w
+  nak-resends seq err e a l =
+      rw (nak-ours e, nak-again (s .sender .out) (s .seq) seq (answers-to s seq a), again-more (s .sender .out) l)
+      (wrote out _ out-room refl refl, refl, (record { state = refl; book = refl; parameter = refl }, refl))
+
+  -- how the link stands, by what the octet ended
+  abbrev LinkIs : Outcome → Type 0
+  LinkIs o = (w .answer .told .link ≡ link.Still) ⊎ ((seq : ℕ) × AnswersOut s seq × ((o ≡ sound (ack seq (s .own))) ⊎ ((err : ℕ) × (o ≡ sound (nak seq (s .own) err)))))
+
+  ack-link : (seq addr : ℕ) → Ends (sound (ack seq addr)) → LinkIs (sound (ack seq addr))
+  ack-link seq addr e = by (ℕ-discrete addr (s .own)) (answersOut (s .seq) (s .sender .out) seq) refl
+    where
+      by : Dec (addr ≡ s .own) → (x : Bool) → answersOut (s .seq) (s .sender .out) seq ≡ x → LinkIs (sound (ack seq addr))
+      by (no n) x q = inl (rw (brings e, answered-other s addr (event.Ack seq) (ackTurn (s .seq) (s .sender .out) seq) book (ne-eqb addr (s .own) n)))
+      by (yes a) true q = inr (seq, answers-from s seq q, inl (ap (λ (k : ℕ). sound (ack seq k)) a))
+      by (yes a) false q =
+          inl (rw (brings e, answered-ours s addr (event.Ack seq) (ackTurn (s .seq) (s .sender .out) seq) book (eq-eqb addr (s .own) a), ack-ignored (s .sender .out) (s .seq) seq q))
+
+  nak-link : (seq addr err : ℕ) → Ends (sound (nak seq addr err)) → LinkIs (sound (nak seq addr err))
+  nak-link seq addr err e = by (ℕ-discrete addr (s .own)) (answersOut (s .seq) (s .sender .out) seq) refl
+    where
+      by : Dec (addr ≡ s .own) → (x : Bool) → answersOut (s .seq) (s .sender .out) seq ≡ x → LinkIs (sound (nak seq addr err))
+      by (no n) x q = inl (rw (brings e, answered-other s addr (event.Nak seq err) (nakTurn (s .seq) (s .sender .out) seq) book (ne-eqb addr (s .own) n)))
+      by (yes a) true q = inr (seq, answers-from s seq q, inr (err, ap (λ (k : ℕ). sound (nak seq k err)) a))
+      by (yes a) false q =
+          inl (rw (brings e, answered-ours s addr (event.Nak seq err) (nakTurn (s .seq) (s .sender .out) seq) book (eq-eqb addr (s .own) a), nak-ignored (s .sender .out) (s .seq) seq q))
+
+  link-is : (o : Outcome) → Ends o → LinkIs o
+  link-is nothing e = inl (rw (brings e))
+  link-is (refused n k seq addr) e = inl (rw (brings e))
+  link-is (sound (message seq addr info)) e = inl (rw (brings e) (message-link s seq addr info book))
+  link-is (sound (ack seq addr)) e = ack-link seq addr e
+  link-is (sound (nak seq addr err)) e = nak-link seq addr err e
 
   octet-replies : RepliesSo s book b (outcomeOf (takenOf (s .decoder) b)) w
   octet-replies =
       record {
         quiet = λ e. rw (brings e) (wrote-none refl, refl, record { state = refl; book = refl; parameter = refl }, refl);
-        nakForUs = λ n err seq g e. rw (brings e, eq-eqb (s .own) (s .own) refl, err-so g) (wrote out (nak seq (s .own) err ∷ []) ho (nak-fits seq (s .own) err) refl refl);
+        nakForUs = λ n err seq g e. rw (brings e, eq-eqb (s .own) (s .own) refl, err-so g) (wrote out (nak seq (s .own) err ∷ []) (omega (arith, nak-fits seq (s .own) err, ho)) refl refl);
         noNak = λ n k seq addr e g. rw (brings e, no-naks n k seq addr g) (wrote-none refl);
         named = λ n k seq addr e. rw (brings e) (refl, record { state = refl; book = refl; parameter = refl }, refl);
         ackOnly = λ seq info e a.
             rw (brings e, message-answer s seq (s .own) info book (for-us (s .own) (s .own) (inl refl)) (is-answer info a), eq-eqb (s .own) (s .own) refl)
-            (wrote out (ack seq (s .own) ∷ []) ho (ack-fits seq (s .own)) refl refl, refl, record { state = refl; book = refl; parameter = refl });
-        replied = λ seq info e a n.
-            let v = message-served seq (s .own) info e (inl refl) (new n) (no-answer info a) .reply refl in
-            (replyInfo s book (handlingOf s book info .handled .reply), v .0, v .1);
+            (wrote out (ack seq (s .own) ∷ []) (omega (arith, ack-fits seq (s .own), ho)) refl refl, refl, record { state = refl; book = refl; parameter = refl });
+        replied = λ seq info e c z.
+            let v = message-served seq (s .own) info e (inl refl) (new (c .new)) (no-silence-free (s .own) info z) (no-answer info (c .noAnswer)) .reply refl in
+            (replyInfo s book (handlingOf s book info .handled .reply), v .0, v .1, v .2);
+        silent = λ seq info e c z.
+            let f = for-us (s .own) (s .own) (inl refl) in
+            let q = silence-met s seq (s .own) info book (ne-eqb (s .sender .out .len) 0 z) (eq-eqb (s .own) (s .own) refl) (no-answer info (c .noAnswer)) in
+            rw (brings e, message-silent s seq (s .own) info book f (new (c .new)) q, memory-silent s seq (s .own) info book f (new (c .new)) q)
+            (wrote-none refl, refl, record { state = refl; book = refl; parameter = refl });
         forAll = λ seq info e. for-all seq info e (isRepeat (s .memory) seq info) (isAnswer (codeIn info)) refl refl;
         answerForAll = λ seq info e a. rw (brings e, message-answer s seq all info book (for-us (s .own) all (inr refl)) (is-answer info a)) (refl, record { state = refl; book = refl; parameter = refl });
         dropped = λ seq addr info e n m.
@@ -205,19 +352,27 @@ module _ (s : State) (book out : List ℕ) (b : ℕ) (h : soundOf s ≡ true) (h
             rw (brings e, message-other s seq addr info book f, memory-other s seq addr info book f) (wrote-none refl, refl, record { state = refl; book = refl; parameter = refl });
         repeated = λ seq info e r.
             rw (repeat-acked e (inl refl) (is-repeat (s .memory) seq info (long-enough e .0) r), eq-eqb (s .own) (s .own) refl)
-            (wrote out (ack seq (s .own) ∷ []) ho (ack-fits seq (s .own)) refl refl, refl, record { state = refl; book = refl; parameter = refl });
+            (wrote out (ack seq (s .own) ∷ []) (omega (arith, ack-fits seq (s .own), ho)) refl refl, refl, record { state = refl; book = refl; parameter = refl });
         repeatedForAll = λ seq info e r.
             rw (repeat-acked e (inr refl) (is-repeat (s .memory) seq info (long-enough e .0) r), ne-eqb all (s .own) other)
             (wrote-none refl, refl, record { state = refl; book = refl; parameter = refl });
         remembered = frame-remembered;
         beyond = λ seq addr info e. rw (brings e) (beyond-stays s seq addr info (omega (arith, long-enough e .1, sound-parts s h .lastInfo)));
         noEvent = λ seq addr info e. rw (brings e, message-event s seq addr info book);
-        ackEvent = λ seq e. rw (brings e, eq-eqb (s .own) (s .own) refl);
-        nakEvent = λ seq err e. rw (brings e, eq-eqb (s .own) (s .own) refl);
-        ackQuiet = λ seq addr e. rw (brings e) (wrote-none refl, refl, record { state = refl; book = refl; parameter = refl });
-        nakQuiet = λ seq addr err e. rw (brings e) (wrote-none refl, refl, record { state = refl; book = refl; parameter = refl });
-        ackOther = λ seq addr e n. rw (brings e, ne-eqb addr (s .own) n);
-        nakOther = λ seq addr err e n. rw (brings e, ne-eqb addr (s .own) n);
+        ackEvent = λ seq e. rw (ack-ours e);
+        nakEvent = λ seq err e. rw (nak-ours e);
+        ackQuiet = ack-quiet;
+        nakQuiet = nak-quiet;
+        ackOther = λ seq addr e n. rw (brings e, answered-other s addr (event.Ack seq) (ackTurn (s .seq) (s .sender .out) seq) book (ne-eqb addr (s .own) n));
+        nakOther = λ seq addr err e n. rw (brings e, answered-other s addr (event.Nak seq err) (nakTurn (s .seq) (s .sender .out) seq) book (ne-eqb addr (s .own) n));
+        heard = λ seq e a.
+            rw (ack-ours e, ack-heard (s .sender .out) (s .seq) seq (answers-to s seq a))
+            (wrote-none refl, refl, (record { state = refl; book = refl; parameter = refl }, refl));
+        again = nak-resends;
+        down = λ seq err e a l.
+            rw (nak-ours e, nak-again (s .sender .out) (s .seq) seq (answers-to s seq a), again-down (s .sender .out) l)
+            (wrote-none refl, refl, (record { state = refl; book = refl; parameter = refl }, refl));
+        noLink = link-is (outcomeOf (takenOf (s .decoder) b)) refl;
         rest = rw (brings refl);
       }
 
@@ -227,14 +382,68 @@ replies s book out b h hb ho = octet-replies s book out b h hb ho
 -- What a second shows
 
 pub seconds-show : SecondsShow
-seconds-show s book h hb o =
+seconds-show s book out h hb ho o =
     let u = sound-parts s h .running in
     let c = cycle-long (s .running .copy) (stands-as-it-is (s .running .copy) o .readyFrom (u .checks)) in
     record {
-      plan = rw (second-done s book h hb);
-      row = rw (second-done s book h hb) (lamps-of-step (s .running .copy) (s .running .position) (omega (arith, u .position, c .rows)));
-      rest = second-left s book;
+      plan = rw (second-done s book out h hb ho);
+      row = rw (second-done s book out h hb ho) (lamps-of-step (s .running .copy) (s .running .position) (omega (arith, u .position, c .rows)));
+      rest = second-left s book out;
     }
+
+-- by what becomes of the frame out
+module _ (s : State) (book out : List ℕ) (h : soundOf s ≡ true) (hb : length book ≡ bookLen) (ho : outputLen ≤ length out) where
+  quiet-second : {o : Out} {l : Link} → secondTurn (s .wait) (s .sender .out) ≡ record { out = o; link = l } → resent s l ≡ [] → SecondTells (secondOf s book out) o l []
+  quiet-second e f = rw (second-done s book out h hb ho, e) (record { out = refl; told = refl; wrote = rw f (wrote-none refl) })
+
+  pub second-sends : SecondSends s (secondOf s book out)
+  second-sends =
+      record {
+        none = λ e. quiet-second (second-none (s .sender .out) (s .wait) e) refl;
+        waits = λ n l. quiet-second (second-waits (s .sender .out) (s .wait) n l) refl;
+        again = λ n l m.
+            rw (second-done s book out h hb ho, second-over (s .sender .out) (s .wait) n l ∙ again-more (s .sender .out) m)
+            (record { out = refl; told = refl; wrote = wrote out _ (out-room s book out 0 h hb ho) refl refl });
+        down = λ n l m. quiet-second (second-over (s .sender .out) (s .wait) n l ∙ again-down (s .sender .out) m) refl;
+      }
+
+pub seconds-send : SecondsSend
+seconds-send s book out h hb ho = second-sends s book out h hb ho
+
+-- Lamps never wait
+
+none-sound : (s : State) → soundOf s ≡ true
+    → soundOf (record { own = s .own; seq = s .seq; requested = s .requested; wait = s .wait; decoder = s .decoder; dropped = s .dropped; memory = s .memory; sender = record { out = nothingOut; info = s .sender .info }; running = s .running }) ≡ true
+none-sound s h =
+    let p = sound-parts s h in
+    parts-sound _ (record {
+      own = p .own;
+      requested = p .requested;
+      info = p .info;
+      lastInfo = p .lastInfo;
+      outInfo = p .outInfo;
+      last = p .last;
+      wait = p .wait;
+      out = inl refl;
+      decoder = p .decoder;
+      running = p .running;
+    })
+
+pub lamps-never-wait : LampsNeverWait
+lamps-never-wait s book out h hb ho = rw (second-done s book out h hb ho, second-done _ book out (none-sound s h) hb ho) (refl, refl, refl)
+
+-- What an offer does
+
+pub offers-send : OffersSend
+offers-send s info out d =
+    let f = offeredFrame s info in
+    rw (offer-is-done s info out d)
+    (record {
+      wrote = wrote out (f ∷ []) (omega (arith, d .room, ap length (append-nil (written f)))) refl refl;
+      sent = sent-so (s .sender) info (omega (arith, d .most, sound-parts s (d .sound) .outInfo));
+      state = refl;
+      told = refl;
+    })
 
 -- What each code does
 
@@ -407,4 +616,13 @@ module _ (s : State) (seq addr : ℕ) (book info : List ℕ) (w : Call) where
 
 pub handles : Handles
 handles s book out b seq addr info h hb ho ob oc e a n r =
-    handled-so s seq addr book info (octetOf s book out b) hb ob (message-served s book out b h hb ho seq addr info e a (new s book out b h hb ho r) (no-answer info n))
+    handled-so s seq addr book info (octetOf s book out b) hb ob
+    (message-served s book out b h hb ho seq addr info e (for-whom a) (new s book out b h hb ho r) (silence a) (no-answer info n))
+  where
+    for-whom : ((addr ≡ s .own) × (s .sender .out .len ≡ 0)) ⊎ (addr ≡ all) → (addr ≡ s .own) ⊎ (addr ≡ all)
+    for-whom (inl g) = inl (g .0)
+    for-whom (inr g) = inr g
+
+    silence : ((addr ≡ s .own) × (s .sender .out .len ≡ 0)) ⊎ (addr ≡ all) → metWithSilence s addr info ≡ false
+    silence (inl g) = no-silence-free s book out b h hb ho addr info (g .1)
+    silence (inr g) = no-silence-all s book out b h hb ho addr info g

@@ -24,10 +24,11 @@ use Rattle.plan.specs.BuiltIn.{padded, builtIn}
 use Rattle.plan.specs.Reporting.{planInfo}
 use Rattle.lamps.specs.Rows.{phaseTable, secondsOf}
 use Rattle.controller.specs.Memory.{isRepeat, remembering}
+use Rattle.controller.specs.Sender.{sending, ackTurn}
 use Rattle.controller.specs.State.{State, outputLen, freshOf, soundOf}
 use Rattle.controller.specs.Handling.{replyInfo, runAs, handlingOf}
-use Rattle.controller.specs.Replies.{repliedOf, acceptedOf, messageOf, memoryOf, doneOf, octetOf}
-use Rattle.controller.specs.Table.{emptyOut, writtenBy, cameOut, stateAfter, p1, p4, stepRow, rows, due, OneTable}
+use Rattle.controller.specs.Replies.{repliedOf, acceptedOf, metWithSilence, messageOf, answeredOf, memoryOf, doneOf, octetOf}
+use Rattle.controller.specs.Table.{emptyOut, writtenBy, cameOut, stateAfter, p1, ackOfP3, p4, stepRow, startAt1, rows, due, OneTable}
 use Rattle.controller.proofs.Laws.{takes, octet-done}
 use Rattle.controller.proofs.Keeping.{sound-kept, fresh-sound}
 
@@ -55,16 +56,22 @@ all-done s (b ∷ bs) o h =
 
 module _ (which : Which) where
   abbrev start : State
-  start = freshOf which 0x0001 (replicate 512 0)
+  start = startAt1 which
 
   after-p1 : AllDone start p1
-  after-p1 = all-done start p1 (omega arith) (fresh-sound which 0x0001 (replicate 512 0) (λ e. omega arith) (omega (arith, length-replicate {A = ℕ} 512 0)))
+  after-p1 = all-done start p1 (omega arith) (fresh-sound which 0x0001 10 (replicate 768 0) (λ e. omega arith) (omega arith) (omega arith) (omega (arith, length-replicate {A = ℕ} 768 0)))
 
-  after-p4 : AllDone (stateAfter start p1) p4
-  after-p4 = all-done (stateAfter start p1) p4 (omega arith) (after-p1 .sound)
+  after-ack : AllDone (stateAfter start p1) ackOfP3
+  after-ack = all-done (stateAfter start p1) ackOfP3 (omega arith) (after-p1 .sound)
 
-  p4-out : cameOut (stateAfter start p1) p4 ≡ doneWith (doneWith start p1 .1) p4 .0
-  p4-out = after-p4 .out ∙ rw (after-p1 .state)
+  after-p4 : AllDone (stateAfter (stateAfter start p1) ackOfP3) p4
+  after-p4 = all-done (stateAfter (stateAfter start p1) ackOfP3) p4 (omega arith) (after-ack .sound)
+
+  ack-out : cameOut (stateAfter start p1) ackOfP3 ≡ doneWith (doneWith start p1 .1) ackOfP3 .0
+  ack-out = after-ack .out ∙ rw (after-p1 .state)
+
+  p4-out : cameOut (stateAfter (stateAfter start p1) ackOfP3) p4 ≡ doneWith (doneWith (doneWith start p1 .1) ackOfP3 .1) p4 .0
+  p4-out = after-p4 .out ∙ rw (after-ack .state, after-p1 .state)
 
 -- the rows as such calls have them
 abbrev rowsDone : Which → List (List ℕ)
@@ -72,13 +79,14 @@ rowsDone which =
     let step = stepRow which in
     step 1 ∷ step 2 ∷ step 3 ∷ step 4 ∷ step 5 ∷ step 6 ∷ step 7 ∷ step 8 ∷ step 9 ∷ step 10
     ∷ doneWith (start which) p1 .0
-    ∷ doneWith (doneWith (start which) p1 .1) p4 .0
+    ∷ doneWith (doneWith (start which) p1 .1) ackOfP3 .0
+    ∷ doneWith (doneWith (doneWith (start which) p1 .1) ackOfP3 .1) p4 .0
     ∷ []
 
 computed : rowsDone New ++ rowsDone Old ≡ due
-unfolding xor exclusiveOr firstOf same isRepeat remembering diagram.find table.directory diagram.diagramOf table.lampRows diagram.rowNumber diagram.lampRowOf frontOf bodyOf sentOf cksOf twice doubled written freshHead possibleOf frontIn cksIn stepOf takenOf layouts layoutAt known numberOf rowsAt layoutRows zeros placed firstOut noMessage notRead partOf rangedOf readPartOf readOf timesDisagree planDisagree ranged timesStand planStands readyStands allZero standingOf padded builtIn planInfo phaseTable secondsOf freshOf replyInfo runAs handlingOf repliedOf acceptedOf messageOf memoryOf doneOf doneWith due
+unfolding xor exclusiveOr firstOf same isRepeat remembering diagram.find table.directory diagram.diagramOf table.lampRows diagram.rowNumber diagram.lampRowOf frontOf bodyOf sentOf cksOf twice doubled written freshHead possibleOf frontIn cksIn stepOf takenOf layouts layoutAt known numberOf rowsAt layoutRows zeros placed firstOut noMessage notRead partOf rangedOf readPartOf readOf timesDisagree planDisagree ranged timesStand planStands readyStands allZero standingOf padded builtIn planInfo phaseTable secondsOf freshOf replyInfo runAs handlingOf sending ackTurn repliedOf acceptedOf metWithSilence messageOf answeredOf memoryOf doneOf doneWith due
 computed = refl
 
 pub one-table : OneTable
 unfolding rows
-one-table = rw (after-p1 New .out, p4-out New, after-p1 Old .out, p4-out Old) computed
+one-table = rw (after-p1 New .out, ack-out New, p4-out New, after-p1 Old .out, ack-out Old, p4-out Old) computed

@@ -1,7 +1,7 @@
 -- Demand 2: "Frames and messages are read and written as document 01 says .. A plan is stored exactly when it passes the listed
 -- checks; otherwise the first failed check is named. Lamps follow the step diagram." What an octet brings, in frames received and
 -- frames written; what a message does; what a second shows.
-use Prim.Native.Nat.{ℕ, _+_, _%_, _≤_}
+use Prim.Native.Nat.{ℕ, _+_, _%_, _≤_, _<_}
 use mathlib.Core.Path.{_≡_}
 use mathlib.Core.Bool.{true}
 use mathlib.Core.Logic.{_⊎_}
@@ -27,10 +27,16 @@ use Rattle.lamps.specs.Rows.{secondsOf, stepsOfPlan}
 use Rattle.lamps.specs.Promises.{Due}
 use Rattle.controller.specs.declared.Event.{Event}
 use Rattle.controller.specs.declared.Event.the-variants as event
+use Rattle.controller.specs.declared.Link.{Link}
+use Rattle.controller.specs.declared.Link.the-variants as link
+use Rattle.controller.specs.declared.Out.{Out}
 use Rattle.controller.specs.Memory.{Memory}
+use Rattle.controller.specs.Sender.{Sender}
+use Rattle.controller.specs.Offers.{Offer, offerOf}
+use Rattle.controller.specs.Demand1.{OfferDone}
 use Rattle.controller.specs.State.{State, soundOf}
 use Rattle.controller.specs.Replies.{Call, octetOf}
-use Rattle.controller.specs.Seconds.{secondOf}
+use Rattle.controller.specs.Seconds.{Shown, secondOf}
 
 -- What is written
 
@@ -39,10 +45,13 @@ abbrev pub onLine : List Frame → List ℕ
 onLine [] = []
 onLine (f ∷ fs) = written f ++ onLine fs
 
--- the call wrote these frames, and counts them
-pub record Wrote (w : Call) (fs : List Frame) : Type 0 where
-  pub count : w .answer .told .count ≡ length (onLine fs)
-  pub octets : take (w .answer .told .count) (w .out) ≡ onLine fs
+-- a call wrote these frames, and counts them
+pub record Writes (n : ℕ) (out : List ℕ) (fs : List Frame) : Type 0 where
+  pub count : n ≡ length (onLine fs)
+  pub octets : take n out ≡ onLine fs
+
+abbrev pub Wrote : Call → List Frame → Type 0
+Wrote w fs = Writes (w .answer .told .count) (w .out) fs
 
 -- "NAK, ERR 01", "NAK, ERR 02", "NAK, ERR 04": the ERR that answers a refusal
 pub data Err : ℕ → ℕ → Type 0 where
@@ -61,12 +70,47 @@ pub record Repeats (m : Memory) (n : ℕ) (info : List ℕ) : Type 0 where
   pub long : m .last .len ≡ length info
   pub octets : take (length info) (m .info) ≡ info
 
--- nothing but the decoder, and the octets that are counted, has changed, and m is remembered: the book is as it came, and no parameter is named
-pub record OnlyTaken (s : State) (m : Memory) (before : List ℕ) (b : ℕ) (w : Call) : Type 0 where
+-- nothing but the decoder, and the octets that are counted, has changed; m is remembered, and q is out: the book is as it came, and no parameter is named
+pub record TakenWith (s : State) (m : Memory) (q : Sender) (before : List ℕ) (b : ℕ) (w : Call) : Type 0 where
   pub state : w .answer .state
-      ≡ record { own = s .own; seq = s .seq; requested = s .requested; decoder = takenOf (s .decoder) b .decoder; dropped = w .answer .state .dropped; memory = m; running = s .running }
+      ≡ record { own = s .own; seq = s .seq; requested = s .requested; wait = s .wait; decoder = takenOf (s .decoder) b .decoder; dropped = w .answer .state .dropped; memory = m; sender = q; running = s .running }
   pub book : w .book ≡ before
   pub parameter : w .answer .told .parameter ≡ 0
+
+-- and what is out is as it was
+abbrev pub OnlyTaken : State → Memory → List ℕ → ℕ → Call → Type 0
+OnlyTaken s m before b w = TakenWith s m (s .sender) before b w
+
+-- 02, E6: the frame out, and how the link stands then; nothing else has changed
+abbrev pub OnlySender : State → Out → Link → List ℕ → ℕ → Call → Type 0
+OnlySender s o l before b w = TakenWith s (s .memory) (record { out = o; info = s .sender .info }) before b w × (w .answer .told .link ≡ l)
+
+abbrev pub nothingOut : Out
+nothingOut = record { sends = 0; waited = 0; len = 0 }
+
+-- it is sent once more, and waits anew
+abbrev pub onceMore : Out → Out
+onceMore o = record { sends = o .sends + 1; waited = 0; len = o .len }
+
+-- "An ACK or NAK with another SEQ is ignored": this one has the SEQ of the frame out, "our SEQ less one"
+pub record AnswersOut (s : State) (n : ℕ) : Type 0 where
+  pub out : s .sender .out .len ≡ 0 → ⊥
+  pub seq : n ≡ (s .seq + 255) % 256
+
+-- a frame with this INFO is out, sent once, a moment ago; of the octets that its INFO is kept in those beyond stay
+pub record Sent (before : Sender) (octets : List ℕ) (after : Sender) : Type 0 where
+  pub out : after .out ≡ record { sends = 1; waited = 0; len = length octets }
+  pub info : take (length octets) (after .info) ≡ octets
+  pub beyond : drop (length octets) (after .info) ≡ drop (length octets) (before .info)
+
+-- "calls for a reply": a message for us that is no answer; 02, E4: and no repeat
+pub record CallsForReply (m : Memory) (seq : ℕ) (info : List ℕ) : Type 0 where
+  pub noAnswer : IsAnswer info → ⊥
+  pub new : Repeats m seq info → ⊥
+
+-- "while one is out, a new message that calls for a reply is met with silence": this one is not
+abbrev pub NoSilence : State → ℕ → ℕ → List ℕ → Type 0
+NoSilence s seq addr info = (addr ≡ 0xFFFF) ⊎ ((s .sender .out .len ≡ 0) ⊎ (CallsForReply (s .memory) seq info → ⊥))
 
 -- the frames that an event hands to the host: none, or one
 abbrev pub eventFrames : ℕ → Event → List Frame
@@ -91,11 +135,16 @@ pub record RepliesSo (s : State) (book : List ℕ) (b : ℕ) (o : Outcome) (w : 
   pub ackOnly : (seq : ℕ) (info : List ℕ) → o ≡ sound (message seq (s .own) info) → IsAnswer info
       → Wrote w (ack seq (s .own) ∷ []) × (w .answer .told .refusal ≡ 0) × OnlyTaken s (w .answer .state .memory) book b w
   -- "A sound message frame for us writes an ACK with the received SEQ, then one message frame with our next SEQ .. grows by one per
-  -- message frame written, and after 255 comes 0."; 02, E4: unless it is a repeat
-  pub replied : (seq : ℕ) (info : List ℕ) → o ≡ sound (message seq (s .own) info) → (IsAnswer info → ⊥) → (Repeats (s .memory) seq info → ⊥)
+  -- message frame written, and after 255 comes 0."; 02, E4: unless it is a repeat; E6: "The octet call hands its reply to this sender, which writes it in
+  -- that call", where none is out
+  pub replied : (seq : ℕ) (info : List ℕ) → o ≡ sound (message seq (s .own) info) → CallsForReply (s .memory) seq info → s .sender .out .len ≡ 0
       → (reply : List ℕ) × Wrote w (ack seq (s .own) ∷ message (s .seq) (s .own) reply ∷ []) × (w .answer .state .seq ≡ (s .seq + 1) % 256)
+      × Sent (s .sender) reply (w .answer .state .sender)
+  -- "so while one is out, a new message that calls for a reply is met with silence, not carried out and not remembered"
+  pub silent : (seq : ℕ) (info : List ℕ) → o ≡ sound (message seq (s .own) info) → CallsForReply (s .memory) seq info → (s .sender .out .len ≡ 0 → ⊥)
+      → Wrote w [] × (w .answer .told .refusal ≡ 0) × OnlyTaken s (s .memory) book b w
   -- "FFFF is for all: carried out, never replied to."
-  pub forAll : (seq : ℕ) (info : List ℕ) → o ≡ sound (message seq 0xFFFF info) → Wrote w [] × (w .answer .state .seq ≡ s .seq)
+  pub forAll : (seq : ℕ) (info : List ℕ) → o ≡ sound (message seq 0xFFFF info) → Wrote w [] × (w .answer .state .seq ≡ s .seq) × (w .answer .state .sender ≡ s .sender)
   -- of 0F 80 and 0F 81: "(nothing for FFFF) and is no refusal"
   pub answerForAll : (seq : ℕ) (info : List ℕ) → o ≡ sound (message seq 0xFFFF info) → IsAnswer info → (w .answer .told .refusal ≡ 0) × OnlyTaken s (w .answer .state .memory) book b w
   -- "A sound frame for another address is dropped silently."; "Address is judged after CKS."
@@ -106,8 +155,9 @@ pub record RepliesSo (s : State) (book : List ℕ) (b : ℕ) (o : Outcome) (w : 
       → Wrote w (ack seq (s .own) ∷ []) × (w .answer .told .refusal ≡ 0) × OnlyTaken s (s .memory) book b w
   pub repeatedForAll : (seq : ℕ) (info : List ℕ) → o ≡ sound (message seq 0xFFFF info) → Repeats (s .memory) seq info
       → Wrote w [] × (w .answer .told .refusal ≡ 0) × OnlyTaken s (s .memory) book b w
-  -- "the last one accepted (for us or FFFF, refused 10 to 14 or not)", whatever was answered: sent again it is a repeat
-  pub remembered : (seq addr : ℕ) (info : List ℕ) → o ≡ sound (message seq addr info) → (addr ≡ s .own) ⊎ (addr ≡ 0xFFFF) → Repeats (w .answer .state .memory) seq info
+  -- "the last one accepted (for us or FFFF, refused 10 to 14 or not)", whatever was answered: sent again it is a repeat, unless it was met with silence
+  pub remembered : (seq addr : ℕ) (info : List ℕ) → o ≡ sound (message seq addr info) → (addr ≡ s .own) ⊎ (addr ≡ 0xFFFF) → NoSilence s seq addr info
+      → Repeats (w .answer .state .memory) seq info
   -- of the octets that INFO is kept in those beyond it stay
   pub beyond : (seq addr : ℕ) (info : List ℕ) → o ≡ sound (message seq addr info)
       → drop (length info) (w .answer .state .memory .info) ≡ drop (length info) (s .memory .info)
@@ -116,13 +166,26 @@ pub record RepliesSo (s : State) (book : List ℕ) (b : ℕ) (o : Outcome) (w : 
   -- "A sound ACK or NAK for us is handed to the host as an event and changes nothing; one to FFFF is dropped."
   pub ackEvent : (seq : ℕ) → o ≡ sound (ack seq (s .own)) → Hands s (ack seq (s .own) ∷ []) w
   pub nakEvent : (seq err : ℕ) → o ≡ sound (nak seq (s .own) err) → Hands s (nak seq (s .own) err ∷ []) w
-  pub ackQuiet : (seq addr : ℕ) → o ≡ sound (ack seq addr) → Wrote w [] × (w .answer .told .refusal ≡ 0) × OnlyTaken s (s .memory) book b w
-  pub nakQuiet : (seq addr err : ℕ) → o ≡ sound (nak seq addr err) → Wrote w [] × (w .answer .told .refusal ≡ 0) × OnlyTaken s (s .memory) book b w
+  -- 02, E6: unless it answers the frame out
+  pub ackQuiet : (seq addr : ℕ) → o ≡ sound (ack seq addr) → ((addr ≡ s .own) × AnswersOut s seq → ⊥)
+      → Wrote w [] × (w .answer .told .refusal ≡ 0) × OnlyTaken s (s .memory) book b w
+  pub nakQuiet : (seq addr err : ℕ) → o ≡ sound (nak seq addr err) → ((addr ≡ s .own) × AnswersOut s seq → ⊥)
+      → Wrote w [] × (w .answer .told .refusal ≡ 0) × OnlyTaken s (s .memory) book b w
   pub ackOther : (seq addr : ℕ) → o ≡ sound (ack seq addr) → (addr ≡ s .own → ⊥) → Hands s [] w
   pub nakOther : (seq addr err : ℕ) → o ≡ sound (nak seq addr err) → (addr ≡ s .own → ⊥) → Hands s [] w
-  -- whatever it brought: the octet is taken, and own address and running plan stay
+  -- an ACK ends the frame out as heard
+  pub heard : (seq : ℕ) → o ≡ sound (ack seq (s .own)) → AnswersOut s seq → Wrote w [] × (w .answer .told .refusal ≡ 0) × OnlySender s nothingOut link.Heard book b w
+  -- "on a NAK .. the same frame goes again", with the SEQ and the octets that it had; "a NAK of the fifth send ends it as down"
+  pub again : (seq err : ℕ) → o ≡ sound (nak seq (s .own) err) → AnswersOut s seq → s .sender .out .sends < 5
+      → Wrote w (message ((s .seq + 255) % 256) (s .own) (take (s .sender .out .len) (s .sender .info)) ∷ []) × (w .answer .told .refusal ≡ 0)
+      × OnlySender s (onceMore (s .sender .out)) link.Again book b w
+  pub down : (seq err : ℕ) → o ≡ sound (nak seq (s .own) err) → AnswersOut s seq → 5 ≤ s .sender .out .sends
+      → Wrote w [] × (w .answer .told .refusal ≡ 0) × OnlySender s nothingOut link.Down book b w
+  -- nothing else is told of the link
+  pub noLink : (w .answer .told .link ≡ link.Still) ⊎ ((seq : ℕ) × AnswersOut s seq × ((o ≡ sound (ack seq (s .own))) ⊎ ((err : ℕ) × (o ≡ sound (nak seq (s .own) err)))))
+  -- whatever it brought: the octet is taken, and own address, T and running plan stay
   pub rest : w .answer .state
-      ≡ record { own = s .own; seq = w .answer .state .seq; requested = w .answer .state .requested; decoder = takenOf (s .decoder) b .decoder; dropped = w .answer .state .dropped; memory = w .answer .state .memory; running = s .running }
+      ≡ record { own = s .own; seq = w .answer .state .seq; requested = w .answer .state .requested; wait = s .wait; decoder = takenOf (s .decoder) b .decoder; dropped = w .answer .state .dropped; memory = w .answer .state .memory; sender = w .answer .state .sender; running = s .running }
 
 abbrev pub Replies : Type 0
 Replies =
@@ -168,7 +231,7 @@ pub data RecordOfPlan (which : Which) (book : List ℕ) : ℕ → List ℕ → T
   zero : RecordOfPlan which book 0 (builtIn which)
   other : (p : ℕ) → (p ≡ 0 → ⊥) → RecordOfPlan which book p (recordAt book p)
 
--- a sound message frame for us or for all that is no repeat, in an octet call that is done
+-- a sound message frame for us or for all that is no repeat and not met with silence, in an octet call that is done
 pub record HandledSo (s : State) (seq addr : ℕ) (book info : List ℕ) (w : Call) : Type 0 where
   -- 5F 14: stored and replied to with 0F 80 exactly when the listed checks pass; else refused by the first that fails
   pub times : codeIn info ≡ 0x5F14 → Fit14 (bodyIn info) → CarriedOut s seq addr (s .requested) (setTimesOf book info .book) info w
@@ -206,7 +269,8 @@ abbrev pub Handles : Type 0
 Handles =
     (s : State) (book out : List ℕ) (b seq addr : ℕ) (info : List ℕ) → soundOf s ≡ true → length book ≡ 3840 → 544 ≤ length out
     → Octets book → Octets (s .running .copy)
-    → outcomeOf (takenOf (s .decoder) b) ≡ sound (message seq addr info) → (addr ≡ s .own) ⊎ (addr ≡ 0xFFFF) → (IsAnswer info → ⊥) → (Repeats (s .memory) seq info → ⊥)
+    → outcomeOf (takenOf (s .decoder) b) ≡ sound (message seq addr info) → ((addr ≡ s .own) × (s .sender .out .len ≡ 0)) ⊎ (addr ≡ 0xFFFF)
+    → (IsAnswer info → ⊥) → (Repeats (s .memory) seq info → ⊥)
     → HandledSo s seq addr book info (octetOf s book out b)
 
 -- 02, E3: "Write the octets straight into the output. Every octet and refusal stays the same." No message value is made of a reply, and yet
@@ -223,18 +287,61 @@ abbrev pub RepliesAsWritten : Type 0
 RepliesAsWritten =
     (s : State) (book out : List ℕ) (b seq : ℕ) (info : List ℕ) → soundOf s ≡ true → length book ≡ 3840 → 544 ≤ length out
     → Octets book → Octets (s .running .copy) → Octets info
-    → outcomeOf (takenOf (s .decoder) b) ≡ sound (message seq (s .own) info) → (IsAnswer info → ⊥) → (Repeats (s .memory) seq info → ⊥)
+    → outcomeOf (takenOf (s .decoder) b) ≡ sound (message seq (s .own) info) → CallsForReply (s .memory) seq info → s .sender .out .len ≡ 0
     → (reply : List ℕ) × Wrote (octetOf s book out b) (ack seq (s .own) ∷ message (s .seq) (s .own) reply ∷ []) × AsWritten reply
 
 -- What a second shows
 
 -- "A second call answers the current plan, step, seconds left in the step (this one counted) and both words", by the step table
--- of the running copy; nothing but the running plan moves
-pub record ShowsStep (s : State) (book : List ℕ) : Type 0 where
-  pub plan : secondOf s book .plan ≡ s .running .plan
-  pub row : Due (secondsOf (s .running .copy)) (orderOf (s .running .copy)) (stepsOfPlan (s .running .copy)) (s .running .position) (secondOf s book .row)
-  pub rest : secondOf s book .state
-      ≡ record { own = s .own; seq = s .seq; requested = s .requested; decoder = s .decoder; dropped = s .dropped; memory = s .memory; running = secondOf s book .state .running }
+-- of the running copy; nothing but the running plan and the frame out moves
+pub record ShowsStep (s : State) (book out : List ℕ) : Type 0 where
+  pub plan : secondOf s book out .plan ≡ s .running .plan
+  pub row : Due (secondsOf (s .running .copy)) (orderOf (s .running .copy)) (stepsOfPlan (s .running .copy)) (s .running .position) (secondOf s book out .row)
+  pub rest : secondOf s book out .state
+      ≡ record { own = s .own; seq = s .seq; requested = s .requested; wait = s .wait; decoder = s .decoder; dropped = s .dropped; memory = s .memory; sender = record { out = secondOf s book out .state .sender .out; info = s .sender .info }; running = secondOf s book out .state .running }
 
 abbrev pub SecondsShow : Type 0
-SecondsShow = (s : State) (book : List ℕ) → soundOf s ≡ true → length book ≡ 3840 → Octets (s .running .copy) → ShowsStep s book
+SecondsShow =
+    (s : State) (book out : List ℕ) → soundOf s ≡ true → length book ≡ 3840 → 544 ≤ length out → Octets (s .running .copy) → ShowsStep s book out
+
+-- 02, E6: what a second does with the frame out; it tells how the link stands and what it writes, which is counted, and nothing else
+pub record SecondTells (w : Shown) (o : Out) (l : Link) (fs : List Frame) : Type 0 where
+  pub out : w .state .sender .out ≡ o
+  pub told : w .told ≡ record { refusal = 0; parameter = 0; event = event.Nothing; count = w .told .count; dropped = 0; link = l }
+  pub wrote : Writes (w .told .count) (w .out) fs
+
+pub record SecondSends (s : State) (w : Shown) : Type 0 where
+  pub none : s .sender .out .len ≡ 0 → SecondTells w (s .sender .out) link.Still []
+  -- T seconds have not passed
+  pub waits : (s .sender .out .len ≡ 0 → ⊥) → s .sender .out .waited + 1 < s .wait
+      → SecondTells w (record { sends = s .sender .out .sends; waited = s .sender .out .waited + 1; len = s .sender .out .len }) link.Still []
+  -- "when T seconds .. pass unanswered, the same frame goes again", with the SEQ and the octets that it had
+  pub again : (s .sender .out .len ≡ 0 → ⊥) → s .wait ≤ s .sender .out .waited + 1 → s .sender .out .sends < 5
+      → SecondTells w (onceMore (s .sender .out)) link.Again (message ((s .seq + 255) % 256) (s .own) (take (s .sender .out .len) (s .sender .info)) ∷ [])
+  -- "after five sends without an ACK, the link is reported down"
+  pub down : (s .sender .out .len ≡ 0 → ⊥) → s .wait ≤ s .sender .out .waited + 1 → 5 ≤ s .sender .out .sends → SecondTells w nothingOut link.Down []
+
+abbrev pub SecondsSend : Type 0
+SecondsSend = (s : State) (book out : List ℕ) → soundOf s ≡ true → length book ≡ 3840 → 544 ≤ length out → SecondSends s (secondOf s book out)
+
+-- Lamps never wait: a second shows, and leaves running, what it would with nothing out
+abbrev pub LampsNeverWait : Type 0
+LampsNeverWait =
+    (s : State) (book out : List ℕ) → soundOf s ≡ true → length book ≡ 3840 → 544 ≤ length out
+    → (let w = secondOf s book out in
+    let t : State = record { own = s .own; seq = s .seq; requested = s .requested; wait = s .wait; decoder = s .decoder; dropped = s .dropped; memory = s .memory; sender = record { out = nothingOut; info = s .sender .info }; running = s .running } in
+    let v = secondOf t book out in
+    (w .plan ≡ v .plan) × (w .row ≡ v .row) × (w .state .running ≡ v .state .running))
+
+-- 02, E6: what an offer does
+
+-- the frame is written with our next SEQ, and is then out; "decoder, E5's number, memory, request and running plan stay"
+pub record OffersSo (s : State) (octets : List ℕ) (w : Offer) : Type 0 where
+  pub wrote : Writes (w .answer .told .count) (w .out) (message (s .seq) (s .own) octets ∷ [])
+  pub sent : Sent (s .sender) octets (w .answer .state .sender)
+  pub state : w .answer .state
+      ≡ record { own = s .own; seq = (s .seq + 1) % 256; requested = s .requested; wait = s .wait; decoder = s .decoder; dropped = s .dropped; memory = s .memory; sender = w .answer .state .sender; running = s .running }
+  pub told : w .answer .told ≡ record { refusal = 0; parameter = 0; event = event.Nothing; count = w .answer .told .count; dropped = 0; link = link.Still }
+
+abbrev pub OffersSend : Type 0
+OffersSend = (s : State) (info out : List ℕ) → OfferDone s info out → OffersSo s info (offerOf s info out)

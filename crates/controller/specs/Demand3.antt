@@ -5,13 +5,13 @@
 -- all-red."
 --
 -- 02, E1: "The state keeps which one, and plan 0 means that one throughout .. Demand 3 is read so.": all of it holds for both starts, and the
--- plan 0 of a run is that of its start.
+-- plan 0 of a run is that of its start; E6: offers are mixed in too.
 use Prim.Native.Nat.{ℕ, _+_, _≤_, _<_}
 use mathlib.Core.Path.{_≡_}
 use mathlib.Core.Bool.{Bool, true, false, not}
 use mathlib.Core.List.{List, [], _∷_, _++_, map}
 use mathlib.Core.Option.{Option, none, some}
-use lib.Dec.{eqb, leb}
+use lib.Dec.{eqb, ltb, leb}
 use lib.ListN.{length, take, drop}
 use Rattle.octets.specs.Choice.{pick, both}
 use Rattle.octets.specs.Octet.{Octets}
@@ -34,6 +34,7 @@ use Rattle.cycles.specs.Cycles.{Cycles, HoldsCycle}
 use Rattle.controller.specs.declared.Running.{Running}
 use Rattle.controller.specs.State.{State, soundOf}
 use Rattle.controller.specs.Replies.{octetOf, lineIdleOf}
+use Rattle.controller.specs.Offers.{offerOf}
 use Rattle.controller.specs.Seconds.{Shown, startedOf, secondOf}
 
 -- A run
@@ -42,20 +43,40 @@ use Rattle.controller.specs.Seconds.{Shown, startedOf, secondOf}
 pub data HostCall : Type 0 where
   octet : (b : ℕ) → b < 256 → (book out : List ℕ) → Octets book → HostCall
   lineIdle : HostCall
-  second : (book : List ℕ) → Octets book → HostCall
+  second : (book out : List ℕ) → Octets book → HostCall
+  offer : (info out : List ℕ) → Octets info → HostCall
 
--- "states handed back as given": the state after the events, from a fresh start with any 512 octets or more kept
+-- "states handed back as given"
 abbrev pub next : State → HostCall → State
 next s (octet b _ book out _) = octetOf s book out b .answer .state
 next s lineIdle = lineIdleOf s .state
-next s (second book _) = secondOf s book .state
+next s (second book out _) = secondOf s book out .state
+next s (offer info out _) = offerOf s info out .answer .state
 
 abbrev pub goesOn : State → List HostCall → State
 goesOn s [] = s
 goesOn s (e ∷ es) = goesOn (next s e) es
 
-abbrev pub run : Which → ℕ → List ℕ → List HostCall → State
-run which own kept es = goesOn (startedOf which own kept .state) es
+-- a fresh start: which plan 0, the address, T, and the octets that are kept
+pub record Start : Type 0 where
+  pub which : Which
+  pub own : ℕ
+  pub wait : ℕ
+  pub kept : List ℕ
+
+-- it is not refused, and as many octets are kept as are wanted
+pub record Starts (a : Start) : Type 0 where
+  pub own : a .own ≡ 0xFFFF → ⊥
+  pub least : 1 ≤ a .wait
+  pub most : a .wait ≤ 60
+  pub kept : 768 ≤ length (a .kept)
+
+abbrev pub startOf : Start → State
+startOf a = startedOf (a .which) (a .own) (a .wait) (a .kept) .state
+
+-- the state after the events
+abbrev pub run : Start → List HostCall → State
+run a es = goesOn (startOf a) es
 
 -- what an accepted second shows: the plan, the step, the seconds left and both words
 pub record Second : Type 0 where
@@ -71,7 +92,8 @@ secondAccepted a = pick (eqb (a .told .refusal) 0) (some (secondOfPlan (a .plan)
 abbrev pub says : State → HostCall → Option Second
 says s (octet b _ book out _) = none
 says s lineIdle = none
-says s (second book _) = secondAccepted (secondOf s book)
+says s (second book out _) = secondAccepted (secondOf s book out)
+says s (offer info out _) = none
 
 abbrev pub saysOn : State → List HostCall → List Second
 saysOn s [] = []
@@ -87,22 +109,21 @@ abbrev pub SecondsInARow : Type 0
 SecondsInARow = (s : State) → InARow s
 
 -- the accepted seconds of the events es, after those of `past`
-abbrev pub seconds : Which → ℕ → List ℕ → List HostCall → List HostCall → List Second
-seconds which own kept past es = saysOn (run which own kept past) es
+abbrev pub seconds : Start → List HostCall → List HostCall → List Second
+seconds a past es = saysOn (run a past) es
 
 -- "The state keeps which one": no call changes it, whatever it is handed and whether it is refused or done; over any run it is that of the start
 abbrev pub WhichKept : Type 0
 WhichKept =
     ((s : State) (e : HostCall) → next s e .running .which ≡ s .running .which)
-    × ((which : Which) (own : ℕ) (kept : List ℕ) (es : List HostCall) → run which own kept es .running .which ≡ which)
+    × ((a : Start) (es : List HostCall) → run a es .running .which ≡ a .which)
 
 -- "and plan 0 means that one throughout": whenever plan 0 runs, after whatever calls, its record is that of the start
 abbrev pub PlanZeroThroughout : Type 0
 PlanZeroThroughout =
-    (which : Which) (own : ℕ) (kept : List ℕ) → (own ≡ 0xFFFF → ⊥) → 512 ≤ length kept → (es : List HostCall)
-    → run which own kept es .running .plan ≡ 0 → run which own kept es .running .copy ≡ builtIn which
+    (a : Start) → Starts a → (es : List HostCall) → run a es .running .plan ≡ 0 → run a es .running .copy ≡ builtIn (a .which)
 
--- "The latest run message carried out", told from the octets handed in
+-- "The latest run message carried out", told from the octets handed in and from whether a call wrote any
 
 -- 02, E4: a message frame that was accepted, by its SEQ and INFO
 pub record Accepted : Type 0 where
@@ -120,66 +141,72 @@ abbrev pub isAgain : Option Accepted → ℕ → List ℕ → Bool
 isAgain none seq info = false
 isAgain (some a) seq info = both (eqb seq (a .seq)) (same info (a .info))
 
--- a sound message frame is accepted: it is for us or for all, and no repeat
-abbrev pub accepts : ℕ → Option Accepted → ℕ → ℕ → List ℕ → Bool
-accepts own last seq addr info = both (pick (eqb addr own) true (eqb addr 0xFFFF)) (not (isAgain last seq info))
+-- a sound message frame is accepted: it is for us or for all, and no repeat; 02, E6: one for us, in a call that wrote nothing, was "met with silence, not
+-- carried out and not remembered"
+abbrev pub accepts : ℕ → Bool → Option Accepted → ℕ → ℕ → List ℕ → Bool
+accepts own wrote last seq addr info = both (pick (eqb addr own) wrote (eqb addr 0xFFFF)) (not (isAgain last seq info))
 
 -- "if it is plan 0 or ready in the book"
 abbrev pub mayRun : List ℕ → ℕ → Bool
 mayRun book p = pick (eqb p 0) true (eqb (standingOf (recordAt book p)) 2)
 
 -- a message frame accepted with a 5F 18 that is not refused: its plan is the latest
-abbrev pub runIn : ℕ → List ℕ → Option Accepted → ℕ → ℕ → List ℕ → Bool
-runIn own book last seq addr info =
-    both (accepts own last seq addr info)
+abbrev pub runIn : ℕ → Bool → List ℕ → Option Accepted → ℕ → ℕ → List ℕ → Bool
+runIn own wrote book last seq addr info =
+    both (accepts own wrote last seq addr info)
     (both (eqb (codeIn info) 0x5F18)
     (both (eqb (readOf info .refusal) 0)
     (mayRun book (planIn (bodyIn info)))))
 
-abbrev pub latestAfter : ℕ → List ℕ → Option Accepted → ℕ → Outcome → ℕ
-latestAfter own book last latest nothing = latest
-latestAfter own book last latest (refused n k seq addr) = latest
-latestAfter own book last latest (sound (message seq addr info)) = pick (runIn own book last seq addr info) (planIn (bodyIn info)) latest
-latestAfter own book last latest (sound (ack seq addr)) = latest
-latestAfter own book last latest (sound (nak seq addr err)) = latest
+abbrev pub latestAfter : ℕ → Bool → List ℕ → Option Accepted → ℕ → Outcome → ℕ
+latestAfter own wrote book last latest nothing = latest
+latestAfter own wrote book last latest (refused n k seq addr) = latest
+latestAfter own wrote book last latest (sound (message seq addr info)) = pick (runIn own wrote book last seq addr info) (planIn (bodyIn info)) latest
+latestAfter own wrote book last latest (sound (ack seq addr)) = latest
+latestAfter own wrote book last latest (sound (nak seq addr err)) = latest
 
 -- the last one accepted then, whatever was answered; faulty frames, frames for others, ACK and NAK frames are not
-abbrev pub lastAfter : ℕ → Option Accepted → Outcome → Option Accepted
-lastAfter own last nothing = last
-lastAfter own last (refused n k seq addr) = last
-lastAfter own last (sound (message seq addr info)) = pick (accepts own last seq addr info) (some (record { seq = seq; info = info })) last
-lastAfter own last (sound (ack seq addr)) = last
-lastAfter own last (sound (nak seq addr err)) = last
+abbrev pub lastAfter : ℕ → Bool → Option Accepted → Outcome → Option Accepted
+lastAfter own wrote last nothing = last
+lastAfter own wrote last (refused n k seq addr) = last
+lastAfter own wrote last (sound (message seq addr info)) = pick (accepts own wrote last seq addr info) (some (record { seq = seq; info = info })) last
+lastAfter own wrote last (sound (ack seq addr)) = last
+lastAfter own wrote last (sound (nak seq addr err)) = last
 
-abbrev pub hearsOctet : ℕ → List ℕ → Heard → Taken → Heard
-hearsOctet own book h t =
+abbrev pub hearsOctet : ℕ → Bool → List ℕ → Heard → Taken → Heard
+hearsOctet own wrote book h t =
     record {
       decoder = t .decoder;
-      last = lastAfter own (h .last) (outcomeOf t);
-      latest = latestAfter own book (h .last) (h .latest) (outcomeOf t);
+      last = lastAfter own wrote (h .last) (outcomeOf t);
+      latest = latestAfter own wrote book (h .last) (h .latest) (outcomeOf t);
     }
 
--- an octet is taken where book and output are long enough; a line-idle call returns the decoder to idle
-abbrev pub hears : ℕ → Heard → HostCall → Heard
-hears own h (octet b _ book out _) =
-    pick (both (eqb (length book) 3840) (leb 544 (length out))) (hearsOctet own book h (takenOf (h .decoder) b)) h
-hears own h lineIdle = record { decoder = idledOf (h .decoder) .decoder; last = h .last; latest = h .latest }
-hears own h (second book _) = h
+-- an octet is taken where book and output are long enough, and its call wrote something or nothing; a line-idle call returns the decoder to idle
+abbrev pub hears : ℕ → State → Heard → HostCall → Heard
+hears own s h (octet b _ book out _) =
+    let wrote = ltb 0 (octetOf s book out b .answer .told .count) in
+    pick (both (eqb (length book) 3840) (leb 544 (length out))) (hearsOctet own wrote book h (takenOf (h .decoder) b)) h
+hears own s h lineIdle = record { decoder = idledOf (h .decoder) .decoder; last = h .last; latest = h .latest }
+hears own s h (second book out _) = h
+hears own s h (offer info out _) = h
 
-abbrev pub hearsOn : ℕ → Heard → List HostCall → Heard
-hearsOn own h [] = h
-hearsOn own h (e ∷ es) = hearsOn own (hears own h e) es
+abbrev pub hearsOn : ℕ → State → Heard → List HostCall → Heard
+hearsOn own s h [] = h
+hearsOn own s h (e ∷ es) = hearsOn own (next s e) (hears own s h e) es
 
 -- from a fresh start: "A fresh start remembers none", and no run message was carried out
-abbrev pub heardIn : ℕ → List ℕ → List HostCall → Heard
-heardIn own kept es = hearsOn own (record { decoder = freshDecoder (take 256 kept); last = none; latest = 0 }) es
+abbrev pub heardFirst : Start → Heard
+heardFirst a = record { decoder = freshDecoder (take 256 (a .kept)); last = none; latest = 0 }
 
-abbrev pub latestRun : ℕ → List ℕ → List HostCall → ℕ
-latestRun own kept es = heardIn own kept es .latest
+abbrev pub heardIn : Start → List HostCall → Heard
+heardIn a es = hearsOn (a .own) (startOf a) (heardFirst a) es
+
+abbrev pub latestRun : Start → List HostCall → ℕ
+latestRun a es = heardIn a es .latest
 
 -- it is what the state keeps
 abbrev pub LatestKept : Type 0
-LatestKept = (which : Which) (own : ℕ) (kept : List ℕ) → (own ≡ 0xFFFF → ⊥) → 512 ≤ length kept → (es : List HostCall) → run which own kept es .requested ≡ latestRun own kept es
+LatestKept = (a : Start) → Starts a → (es : List HostCall) → run a es .requested ≡ latestRun a es
 
 -- Whole cycles
 
@@ -201,14 +228,16 @@ OneChoice =
     → Chosen which latest book p rec p₁ rec₁ → Chosen which latest book p rec p₂ rec₂ → (p₁ ≡ p₂) × (rec₁ ≡ rec₂)
 
 -- "A second call answers .., then moves on. The call that answers a cycle's last second also picks the next plan": what a second
--- leaves, by the fields of the state; "the request stays"
+-- leaves, by the fields of the state; "the request stays"; what is then out is said in `SecondsSend`
 pub record SecondLeft (s : State) (book : List ℕ) (t : State) : Type 0 where
   pub own : t .own ≡ s .own
   pub seq : t .seq ≡ s .seq
   pub requested : t .requested ≡ s .requested
   pub decoder : t .decoder ≡ s .decoder
+  pub wait : t .wait ≡ s .wait
   pub dropped : t .dropped ≡ s .dropped
   pub memory : t .memory ≡ s .memory
+  pub outInfo : t .sender .info ≡ s .sender .info
   pub which : t .running .which ≡ s .running .which
   pub onward : s .running .position + 1 < cycleOf (s .running .copy)
       → t .running ≡ record { which = s .running .which; plan = s .running .plan; position = s .running .position + 1; copy = s .running .copy }
@@ -216,36 +245,37 @@ pub record SecondLeft (s : State) (book : List ℕ) (t : State) : Type 0 where
       → (t .running .position ≡ 0) × Chosen (s .running .which) (s .requested) book (s .running .plan) (s .running .copy) (t .running .plan) (t .running .copy)
 
 abbrev pub SecondsLeave : Type 0
-SecondsLeave = (s : State) (book : List ℕ) → soundOf s ≡ true → length book ≡ 3840 → Octets book → SecondLeft s book (secondOf s book .state)
+SecondsLeave =
+    (s : State) (book out : List ℕ) → soundOf s ≡ true → length book ≡ 3840 → 544 ≤ length out → Octets book → SecondLeft s book (secondOf s book out .state)
 
 -- After the events `past` a cycle of plan p with record rec is due; the accepted seconds of the events es are that cycle and
 -- others after it, one by one.
-pub data CyclesInRun (which : Which) (own : ℕ) (kept : List ℕ) : ℕ → List ℕ → List HostCall → List HostCall → Type 0 where
+pub data CyclesInRun (a : Start) : ℕ → List ℕ → List HostCall → List HostCall → Type 0 where
   -- "the last perhaps unfinished": rows of it are still to come
-  unfinished : {p : ℕ} {rec : List ℕ} {past es : List HostCall} (rest : List Second) → seconds which own kept past es ++ rest ≡ cycleOfPlan p rec → 0 < length rest
-      → CyclesInRun which own kept p rec past es
+  unfinished : {p : ℕ} {rec : List ℕ} {past es : List HostCall} (rest : List Second) → seconds a past es ++ rest ≡ cycleOfPlan p rec → 0 < length rest
+      → CyclesInRun a p rec past es
   -- `before` and then the second call with `book` answer the whole cycle, that call its last second; it chooses the next
-  whole : {p : ℕ} {rec : List ℕ} {past es : List HostCall} (before : List HostCall) (book : List ℕ) (o : Octets book) (last : Second) (p′ : ℕ) (rec′ : List ℕ)
-      → says (run which own kept (past ++ before)) (second book o) ≡ some last
-      → seconds which own kept past before ++ (last ∷ []) ≡ cycleOfPlan p rec
-      → Chosen which (latestRun own kept (past ++ before)) book p rec p′ rec′ → Ready rec′
-      → CyclesInRun which own kept p′ rec′ (past ++ (before ++ (second book o ∷ []))) es
-      → CyclesInRun which own kept p rec past (before ++ (second book o ∷ es))
+  whole : {p : ℕ} {rec : List ℕ} {past es : List HostCall} (before : List HostCall) (book out : List ℕ) (o : Octets book) (last : Second) (p′ : ℕ) (rec′ : List ℕ)
+      → says (run a (past ++ before)) (second book out o) ≡ some last
+      → seconds a past before ++ (last ∷ []) ≡ cycleOfPlan p rec
+      → Chosen (a .which) (latestRun a (past ++ before)) book p rec p′ rec′ → Ready rec′
+      → CyclesInRun a p′ rec′ (past ++ (before ++ (second book out o ∷ []))) es
+      → CyclesInRun a p rec past (before ++ (second book out o ∷ es))
 
 -- "The first is plan 0", that of its start
 abbrev pub RunsWholeCycles : Type 0
-RunsWholeCycles = (which : Which) (own : ℕ) (kept : List ℕ) → (own ≡ 0xFFFF → ⊥) → 512 ≤ length kept → (es : List HostCall) → CyclesInRun which own kept 0 (builtIn which) [] es
+RunsWholeCycles = (a : Start) → Starts a → (es : List HostCall) → CyclesInRun a 0 (builtIn (a .which)) [] es
 
 -- Any 1,799
 
 -- of the accepted seconds of the run, counted from 0, those from number n on hold a whole cycle, which begins within the first
 -- 900 and ends within the first 1,799; each of its phases stands whole in it
-pub record HoldsWhole (which : Which) (own : ℕ) (kept : List ℕ) (es : List HostCall) (n : ℕ) : Type 0 where
+pub record HoldsWhole (a : Start) (es : List HostCall) (n : ℕ) : Type 0 where
   pub plan : ℕ
   pub rec : List ℕ
   pub before : List Second
   pub later : List Second
-  pub run : seconds which own kept [] es ≡ before ++ (cycleOfPlan plan rec ++ later)
+  pub run : seconds a [] es ≡ before ++ (cycleOfPlan plan rec ++ later)
   pub from : n ≤ length before
   pub soon : length before < n + 900
   pub within : length before + length (cycleOfPlan plan rec) ≤ n + 1799
@@ -253,8 +283,7 @@ pub record HoldsWhole (which : Which) (own : ℕ) (kept : List ℕ) (es : List H
   pub phases : (i : ℕ) → i < kOf rec → PhaseWhole rec i
 
 abbrev pub AnyWindow : Type 0
-AnyWindow =
-    (which : Which) (own : ℕ) (kept : List ℕ) → (own ≡ 0xFFFF → ⊥) → 512 ≤ length kept → (es : List HostCall) (n : ℕ) → n + 1799 ≤ length (seconds which own kept [] es) → HoldsWhole which own kept es n
+AnyWindow = (a : Start) → Starts a → (es : List HostCall) (n : ℕ) → n + 1799 ≤ length (seconds a [] es) → HoldsWhole a es n
 
 -- Sets
 
@@ -263,14 +292,15 @@ abbrev pub NoSecond : List HostCall → Type 0
 NoSecond [] = Unit
 NoSecond (octet b _ book out _ ∷ es) = NoSecond es
 NoSecond (lineIdle ∷ es) = NoSecond es
-NoSecond (second book _ ∷ es) = ⊥
+NoSecond (second book out _ ∷ es) = ⊥
+NoSecond (offer info out _ ∷ es) = NoSecond es
 
--- "a set never alters a cycle under way": whatever octets come between two seconds, the second shows what it would have shown
+-- "a set never alters a cycle under way": whatever octets and offers come between two seconds, the second shows what it would have shown
 -- without them
 abbrev pub SetsNeverAlter : Type 0
 SetsNeverAlter =
-    (which : Which) (own : ℕ) (kept : List ℕ) → (own ≡ 0xFFFF → ⊥) → 512 ≤ length kept → (past between : List HostCall) (book : List ℕ) (o : Octets book) → NoSecond between
-    → says (run which own kept (past ++ between)) (second book o) ≡ says (run which own kept past) (second book o)
+    (a : Start) → Starts a → (past between : List HostCall) (book out : List ℕ) (o : Octets book) → NoSecond between
+    → says (run a (past ++ between)) (second book out o) ≡ says (run a past) (second book out o)
 
 -- The controller as a machine of the crate `cycles`, from whose theorems whole cycles and the window follow
 
@@ -279,32 +309,32 @@ unfoldable pub leftOf : Running → List Second
 leftOf u = map (secondOfPlan (u .plan)) (drop (u .position) (rowsOf (u .copy)))
 
 -- the rule at the call that answers a cycle's last second, after the events `past`; `later` are these and that call
-abbrev pub Picks : Which → ℕ → List ℕ → List HostCall → HostCall → List HostCall → Type 0
-Picks which own kept past (octet b _ book out _) later = ⊥
-Picks which own kept past lineIdle later = ⊥
-Picks which own kept past (second book _) later =
-    let u = run which own kept past .running in
-    let v = run which own kept later .running in
-    Chosen which (latestRun own kept past) book (u .plan) (u .copy) (v .plan) (v .copy)
+abbrev pub Picks : Start → List HostCall → HostCall → List HostCall → Type 0
+Picks a past (octet b _ book out _) later = ⊥
+Picks a past lineIdle later = ⊥
+Picks a past (second book out _) later =
+    let u = run a past .running in
+    let v = run a later .running in
+    Chosen (a .which) (latestRun a past) book (u .plan) (u .copy) (v .plan) (v .copy)
+Picks a past (offer info out _) later = ⊥
 
 -- its states are the events so far; no event alters a cycle under way
-abbrev pub crossing : Which → ℕ → List ℕ → Machine
-crossing which own kept = record {
+abbrev pub crossing : Start → Machine
+crossing a = record {
   State = List HostCall;
   Event = HostCall;
   Row = Second;
   next = λ past e. past ++ (e ∷ []);
-  says = λ past e. says (run which own kept past) e;
-  left = λ past. leftOf (run which own kept past .running);
-  Start = λ past. run which own kept past .running .position ≡ 0;
-  Picks = Picks which own kept;
+  says = λ past e. says (run a past) e;
+  left = λ past. leftOf (run a past .running);
+  Start = λ past. run a past .running .position ≡ 0;
+  Picks = Picks a;
   Alters = λ past e later. ⊥;
 }
 
 abbrev pub CrossingCycles : Type 0
-CrossingCycles = (which : Which) (own : ℕ) (kept : List ℕ) → (own ≡ 0xFFFF → ⊥) → 512 ≤ length kept → (es : List HostCall) → Cycles (crossing which own kept) [] es
+CrossingCycles = (a : Start) → Starts a → (es : List HostCall) → Cycles (crossing a) [] es
 
 abbrev pub CrossingHolds : Type 0
 CrossingHolds =
-    (which : Which) (own : ℕ) (kept : List ℕ) → (own ≡ 0xFFFF → ⊥) → 512 ≤ length kept → (es : List HostCall) (n : ℕ) → n + 1799 ≤ length (answers (crossing which own kept) [] es)
-    → HoldsCycle (crossing which own kept) [] es n 900 1799
+    (a : Start) → Starts a → (es : List HostCall) (n : ℕ) → n + 1799 ≤ length (answers (crossing a) [] es) → HoldsCycle (crossing a) [] es n 900 1799

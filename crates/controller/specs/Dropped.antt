@@ -11,12 +11,12 @@ use Rattle.frame.specs.Decoder.{takenOf}
 use Rattle.frame.specs.Run.{sound, outcomeOf}
 use Rattle.frame.specs.Dropped.{countedOf, idleCounted}
 use Rattle.frame.specs.Noise.{Stops, NoiseIs}
-use Rattle.plan.specs.declared.Which.{Which}
 use Rattle.controller.specs.State.{State, soundOf}
 use Rattle.controller.specs.Replies.{octetOf, lineIdleOf}
-use Rattle.controller.specs.Seconds.{startedOf, secondOf}
+use Rattle.controller.specs.Offers.{offerOf}
+use Rattle.controller.specs.Seconds.{secondOf}
 use Rattle.controller.specs.Demand1.{OctetRefused}
-use Rattle.controller.specs.Demand3.{HostCall, octet, lineIdle, second, next}
+use Rattle.controller.specs.Demand3.{HostCall, octet, lineIdle, second, offer, next, Start, Starts, startOf}
 
 -- What a call tells
 
@@ -24,14 +24,15 @@ use Rattle.controller.specs.Demand3.{HostCall, octet, lineIdle, second, 
 abbrev pub OctetDone : State → List ℕ → List ℕ → Type 0
 OctetDone s book out = (soundOf s ≡ true) × (length book ≡ 3840) × (544 ≤ length out)
 
--- "Every caller passes it up": a call that is done tells what the decoder's own call tells, and keeps what that keeps; a second has nothing to do with it
+-- "Every caller passes it up": a call that is done tells what the decoder's own call tells, and keeps what that keeps; a second and an offer have nothing to do with it
 pub record PassedUp (s : State) : Type 0 where
   pub octet : (book out : List ℕ) (b : ℕ) → OctetDone s book out
       → (let w = octetOf s book out b .answer in
       (w .told .dropped ≡ countedOf (s .decoder) (s .dropped) b .told) × (w .state .dropped ≡ countedOf (s .decoder) (s .dropped) b .kept))
   pub lineIdle : soundOf s ≡ true
       → (lineIdleOf s .told .dropped ≡ idleCounted (s .decoder) (s .dropped) .told) × (lineIdleOf s .state .dropped ≡ idleCounted (s .decoder) (s .dropped) .kept)
-  pub second : (book : List ℕ) → (secondOf s book .told .dropped ≡ 0) × (secondOf s book .state .dropped ≡ s .dropped)
+  pub second : (book out : List ℕ) → (secondOf s book out .told .dropped ≡ 0) × (secondOf s book out .state .dropped ≡ s .dropped)
+  pub offer : (info out : List ℕ) → (offerOf s info out .answer .told .dropped ≡ 0) × (offerOf s info out .answer .state .dropped ≡ s .dropped)
 
 abbrev pub DroppedPassedUp : Type 0
 DroppedPassedUp = (s : State) → PassedUp s
@@ -70,11 +71,16 @@ pub data NoiseInRun : (since : List ℕ) (s : State) → List HostCall → Type 
       → NoiseInRun since (next s lineIdle) es
       → NoiseInRun since s (lineIdle ∷ es)
   -- a second, refused or done
-  shows : {since : List ℕ} {s : State} {book : List ℕ} {o : Octets book} {es : List HostCall} → Counts since s
-      → secondOf s book .told .dropped ≡ 0 → next s (second book o) .dropped ≡ s .dropped
-      → NoiseInRun since (next s (second book o)) es
-      → NoiseInRun since s (second book o ∷ es)
+  shows : {since : List ℕ} {s : State} {book out : List ℕ} {o : Octets book} {es : List HostCall} → Counts since s
+      → secondOf s book out .told .dropped ≡ 0 → next s (second book out o) .dropped ≡ s .dropped
+      → NoiseInRun since (next s (second book out o)) es
+      → NoiseInRun since s (second book out o ∷ es)
+  -- an offer, refused or done
+  offers : {since : List ℕ} {s : State} {info out : List ℕ} {o : Octets info} {es : List HostCall} → Counts since s
+      → offerOf s info out .answer .told .dropped ≡ 0 → next s (offer info out o) .dropped ≡ s .dropped
+      → NoiseInRun since (next s (offer info out o)) es
+      → NoiseInRun since s (offer info out o ∷ es)
 
--- From a fresh start, states handed back as given, octets, line-idle calls and seconds mixed at will.
+-- From a fresh start, states handed back as given, octets, line-idle calls, offers and seconds mixed at will.
 abbrev pub NoiseTold : Type 0
-NoiseTold = (which : Which) (own : ℕ) (kept : List ℕ) → (own ≡ 0xFFFF → ⊥) → 512 ≤ length kept → (es : List HostCall) → NoiseInRun [] (startedOf which own kept .state) es
+NoiseTold = (a : Start) → Starts a → (es : List HostCall) → NoiseInRun [] (startOf a) es

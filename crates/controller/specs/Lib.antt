@@ -1,12 +1,15 @@
 pub mod Memory
+pub mod Sender
 pub mod State
 pub mod Handling
 pub mod Replies
+pub mod Offers
 pub mod Seconds
 pub mod Demand1
 pub mod Demand2
 pub mod Demand3
 pub mod OurSeq
+pub mod OneOut
 pub mod Repeats
 pub mod Dropped
 pub mod Table

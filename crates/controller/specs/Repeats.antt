@@ -11,14 +11,13 @@ use Rattle.octets.specs.Octet.{Octets}
 use Rattle.frame.specs.Frame.{message, ack, written}
 use Rattle.frame.specs.Promises.{InOctets, InfoFits}
 use Rattle.frame.specs.Run.{AtRest}
-use Rattle.plan.specs.declared.Which.{Which}
 use Rattle.controller.specs.Memory.{Memory}
 use Rattle.controller.specs.State.{State, soundOf}
 use Rattle.controller.specs.declared.Event.the-variants as event
 use Rattle.controller.specs.Replies.{Call, octetOf}
 use Rattle.controller.specs.Seconds.{secondOf}
-use Rattle.controller.specs.Demand2.{Repeats}
-use Rattle.controller.specs.Demand3.{HostCall, octet, lineIdle, second, next, goesOn, run, Accepted, heardIn, secondAccepted}
+use Rattle.controller.specs.Demand2.{Repeats, NoSilence}
+use Rattle.controller.specs.Demand3.{HostCall, octet, lineIdle, second, offer, next, goesOn, Start, Starts, run, Accepted, heardIn, secondAccepted}
 use Rattle.controller.specs.OurSeq.{writesOn}
 
 -- What is remembered
@@ -28,12 +27,10 @@ abbrev pub IsLast : Memory → Option Accepted → Type 0
 IsLast m none = m .last .len ≡ 0
 IsLast m (some a) = Repeats m (a .seq) (a .info)
 
--- From a fresh start, states handed back as given, octets, line-idle calls and seconds mixed at will, refused calls too: which frames were accepted is
--- told from the octets handed in.
+-- From a fresh start, states handed back as given, octets, line-idle calls, offers and seconds mixed at will, refused calls too: which frames were
+-- accepted is told from the octets handed in, and from whether a call wrote any: 02, E6, "met with silence, not carried out and not remembered".
 abbrev pub LastKept : Type 0
-LastKept =
-    (which : Which) (own : ℕ) (kept : List ℕ) → (own ≡ 0xFFFF → ⊥) → 512 ≤ length kept → (es : List HostCall)
-    → IsLast (run which own kept es .memory) (heardIn own kept es .last)
+LastKept = (a : Start) → Starts a → (es : List HostCall) → IsLast (run a es .memory) (heardIn a es .last)
 
 -- Sent twice
 
@@ -55,10 +52,11 @@ abbrev pub AllTellNothing : State → List HostCall → Type 0
 AllTellNothing s [] = Unit
 AllTellNothing s (octet b l book out o ∷ es) = TellsNothing book (octetOf s book out b) × AllTellNothing (next s (octet b l book out o)) es
 AllTellNothing s (lineIdle ∷ es) = AllTellNothing (next s lineIdle) es
-AllTellNothing s (second book o ∷ es) = AllTellNothing (next s (second book o)) es
+AllTellNothing s (second book out o ∷ es) = AllTellNothing (next s (second book out o)) es
+AllTellNothing s (offer info out o ∷ es) = AllTellNothing (next s (offer info out o)) es
 
--- the calls `again` do nothing to the state t but write these octets: request, our SEQ and memory stay, no plan is altered, and every second shows what
--- it would have shown; the decoder is at rest again, so that the same holds of a third time
+-- the calls `again` do nothing to the state t but write these octets: request, our SEQ, memory and what is out stay, no plan is altered, and every second
+-- shows what it would have shown; the decoder is at rest again, so that the same holds of a third time
 pub record NothingElse (t : State) (again : List HostCall) (octets : List ℕ) : Type 0 where
   pub writes : writesOn t again ≡ octets
   pub tells : AllTellNothing t again
@@ -66,11 +64,12 @@ pub record NothingElse (t : State) (again : List HostCall) (octets : List ℕ) :
   pub requested : goesOn t again .requested ≡ t .requested
   pub seq : goesOn t again .seq ≡ t .seq
   pub memory : goesOn t again .memory ≡ t .memory
+  pub sender : goesOn t again .sender ≡ t .sender
   pub running : goesOn t again .running ≡ t .running
-  pub lamps : (book : List ℕ) → secondAccepted (secondOf (goesOn t again) book) ≡ secondAccepted (secondOf t book)
+  pub lamps : (book out : List ℕ) → secondAccepted (secondOf (goesOn t again) book out) ≡ secondAccepted (secondOf t book out)
 
 -- "it gets the ACK (none for FFFF) and nothing else": from any sound state with its decoder at rest, a message frame and then the same octets,
--- whatever books are lent then
+-- whatever books are lent then; 02, E6: where the first is not met with silence
 pub record TwiceAsOnce (s : State) (seq addr : ℕ) (first again : List HostCall) : Type 0 where
   pub ours : addr ≡ s .own → NothingElse (goesOn s first) again (written (ack seq (s .own)))
   pub forAll : addr ≡ 0xFFFF → NothingElse (goesOn s first) again []
@@ -78,5 +77,5 @@ pub record TwiceAsOnce (s : State) (seq addr : ℕ) (first again : List HostCall
 abbrev pub SentTwice : Type 0
 SentTwice =
     (s : State) → soundOf s ≡ true → AtRest (s .decoder) → (seq addr : ℕ) (info : List ℕ) → InOctets (message seq addr info) → InfoFits (message seq addr info)
-    → (first again : List HostCall) → HandsIn (written (message seq addr info)) first → HandsIn (written (message seq addr info)) again
+    → NoSilence s seq addr info → (first again : List HostCall) → HandsIn (written (message seq addr info)) first → HandsIn (written (message seq addr info)) again
     → TwiceAsOnce s seq addr first again

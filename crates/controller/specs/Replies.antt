@@ -6,7 +6,7 @@ use mathlib.Core.List.{List, [], _∷_, _++_}
 use lib.Dec.{eqb, leb}
 use lib.ListN.{length, drop}
 use lib.Seq.{sets}
-use Rattle.octets.specs.Choice.{pick}
+use Rattle.octets.specs.Choice.{pick, both}
 use Rattle.octets.specs.Part.{codeLen}
 use Rattle.octets.specs.Refusal as refusal
 use Rattle.frame.specs.declared.Kind.{Kind}
@@ -23,7 +23,11 @@ use Rattle.controller.specs.declared.Event.the-variants as event
 use Rattle.controller.specs.declared.Told.{Told}
 use Rattle.controller.specs.declared.HeldAnswer.{HeldAnswer}
 use Rattle.controller.specs.declared.Handled.{Handled}
+use Rattle.controller.specs.declared.Link.{Link}
+use Rattle.controller.specs.declared.Link.the-variants as link
+use Rattle.controller.specs.declared.Turn.{Turn}
 use Rattle.controller.specs.Memory.{Memory, isRepeat, remembering}
+use Rattle.controller.specs.Sender.{Sender, isOut, outSeq, outInfo, sending, ackTurn, nakTurn}
 use Rattle.controller.specs.State.{State, joined, keptLen, all, outputLen, soundOf, withDecoder}
 use Rattle.controller.specs.Handling.{Handling, carriedOutCode, refusedCode, replyInfo, handlingOf}
 
@@ -57,19 +61,20 @@ abbrev pub sent : List Frame → List ℕ
 sent [] = []
 sent (f ∷ fs) = written f ++ sent fs
 
--- the answer of a call that leaves the state s, names refusal n and its parameter, hands e to the host, writes the frames fs and tells `dropped` octets
-abbrev pub answerOf : State → ℕ → ℕ → Event → List Frame → ℕ → Answer
-answerOf s n parameter e fs dropped = record { state = s; told = record { refusal = n; parameter = parameter; event = e; count = length (sent fs); dropped = dropped } }
+-- the answer of a call that leaves the state s, names refusal n and its parameter, hands e to the host, writes the frames fs, tells `dropped` octets
+-- and that the link stands as l
+abbrev pub answerOf : State → ℕ → ℕ → Event → List Frame → ℕ → Link → Answer
+answerOf s n parameter e fs dropped l = record { state = s; told = record { refusal = n; parameter = parameter; event = e; count = length (sent fs); dropped = dropped; link = l } }
 
-abbrev pub callOf : State → ℕ → ℕ → Event → List Frame → ℕ → List ℕ → List ℕ → Call
-callOf s n parameter e fs dropped book out = record { answer = answerOf s n parameter e fs dropped; book = book; out = sets out 0 (sent fs) }
+abbrev pub callOf : State → ℕ → ℕ → Event → List Frame → ℕ → Link → List ℕ → List ℕ → Call
+callOf s n parameter e fs dropped l book out = record { answer = answerOf s n parameter e fs dropped l; book = book; out = sets out 0 (sent fs) }
 
 -- a call that writes nothing: "same state, nothing written", "Other numbers in a refused call's result are 0."; or one that has only counted
 abbrev pub quiet : State → ℕ → ℕ → Answer
-quiet s n dropped = answerOf s n 0 event.Nothing [] dropped
+quiet s n dropped = answerOf s n 0 event.Nothing [] dropped link.Still
 
 abbrev pub refusedCall : State → ℕ → List ℕ → List ℕ → Call
-refusedCall s n book out = callOf s n 0 event.Nothing [] 0 book out
+refusedCall s n book out = callOf s n 0 event.Nothing [] 0 link.Still book out
 
 -- "NAK, ERR 01", "NAK, ERR 02", "NAK, ERR 04"
 abbrev pub errOf : ℕ → ℕ
@@ -106,8 +111,8 @@ CanFind (found.Message seq addr n) = (codeLen ≤ n) × (n ≤ infoMost)
 CanFind (found.Ack seq addr) = Unit
 CanFind (found.Nak seq addr err) = Unit
 
--- what an octet brings: the refusal that the result names and its parameter, the event, the frames written, and the SEQ and the
--- request that the state then has
+-- what an octet brings: the refusal that the result names and its parameter, the event, the frames written, the SEQ, the request and the sender that
+-- the state then has, and how the link stands
 pub record Result : Type 0 where
   pub refusal : ℕ
   pub parameter : ℕ
@@ -115,20 +120,23 @@ pub record Result : Type 0 where
   pub frames : List Frame
   pub seq : ℕ
   pub requested : ℕ
+  pub sender : Sender
+  pub link : Link
 
 -- and the book then
 pub record ResultAndBook : Type 0 where
   pub result : Result
   pub book : List ℕ
 
--- where no message is handled there is no parameter; SEQ, request and book stay
+-- where no message is handled there is no parameter; SEQ, request, sender and book stay
 abbrev pub unchanged : State → ℕ → Event → List Frame → Result
-unchanged s n e fs = record { refusal = n; parameter = 0; event = e; frames = fs; seq = s .seq; requested = s .requested }
+unchanged s n e fs = record { refusal = n; parameter = 0; event = e; frames = fs; seq = s .seq; requested = s .requested; sender = s .sender; link = link.Still }
 
 abbrev pub leaves : List ℕ → Result → ResultAndBook
 leaves book w = record { result = w; book = book }
 
--- "Our SEQ .. grows by one per message frame written, and after 255 comes 0."
+-- "Our SEQ .. grows by one per message frame written, and after 255 comes 0."; 02, E6: "The octet call hands its reply to this sender, which writes it
+-- in that call"
 unfoldable pub repliedOf : State → List ℕ → ℕ → ℕ → Handled → Result
 repliedOf s book seq addr h =
     record {
@@ -138,6 +146,8 @@ repliedOf s book seq addr h =
       frames = pick (eqb addr (s .own)) (repliesOf seq (s .seq) (s .own) (replyInfo s book (h .reply))) [];
       seq = pick (eqb addr (s .own)) ((s .seq + 1) % 256) (s .seq);
       requested = h .requested;
+      sender = pick (eqb addr (s .own)) (sending (s .sender) (replyInfo s book (h .reply))) (s .sender);
+      link = link.Still;
     }
 
 -- a message carried out and replied to
@@ -152,29 +162,62 @@ ackedOf s seq addr book = leaves book (unchanged s refusal.none event.Nothing (a
 unfoldable pub acceptedOf : State → ℕ → ℕ → List ℕ → List ℕ → ResultAndBook
 acceptedOf s seq addr info book = pick (isAnswer (codeIn info)) (ackedOf s seq addr book) (handledOf s book seq addr (handlingOf s book info))
 
+-- nothing but the octet is taken
+abbrev pub passedOver : State → List ℕ → ResultAndBook
+passedOver s book = leaves book (unchanged s refusal.none event.Nothing [])
+
+-- 02, E6: "while one is out, a new message that calls for a reply is met with silence"; "0F 80, 0F 81 and messages to FFFF go on as before"
+unfoldable pub metWithSilence : State → ℕ → List ℕ → Bool
+metWithSilence s addr info = both (isOut (s .sender .out)) (both (eqb addr (s .own)) (not (isAnswer (codeIn info))))
+
 -- a sound message frame; "A sound frame for another address is dropped silently."; 02, E4: a repeat "gets the ACK (none for FFFF) and nothing else"
 unfoldable pub messageOf : State → ℕ → ℕ → List ℕ → List ℕ → ResultAndBook
 messageOf s seq addr info book =
     pick (forUs (s .own) addr)
-    (pick (isRepeat (s .memory) seq info) (ackedOf s seq addr book) (acceptedOf s seq addr info book))
-    (leaves book (unchanged s refusal.none event.Nothing []))
+    (pick (isRepeat (s .memory) seq info) (ackedOf s seq addr book)
+    (pick (metWithSilence s addr info) (passedOver s book) (acceptedOf s seq addr info book)))
+    (passedOver s book)
 
--- "A sound ACK or NAK for us is handed to the host as an event and changes nothing; one to FFFF is dropped."
-abbrev pub eventFor : ℕ → ℕ → Event → Event
-eventFor own addr e = pick (eqb addr own) e event.Nothing
+-- the frame out, where it is sent again: SEQ and octets are those that it had
+abbrev pub resent : State → Link → List Frame
+resent s link.Still = []
+resent s link.Again = message (outSeq (s .seq)) (s .own) (outInfo (s .sender)) ∷ []
+resent s link.Heard = []
+resent s link.Down = []
+
+-- "A sound ACK or NAK for us is handed to the host as an event"; 02, E6: and to the sender; "one to FFFF is dropped."
+abbrev pub turned : State → Event → Turn → Result
+turned s e t =
+    record {
+      refusal = refusal.none;
+      parameter = 0;
+      event = e;
+      frames = resent s (t .link);
+      seq = s .seq;
+      requested = s .requested;
+      sender = record { out = t .out; info = s .sender .info };
+      link = t .link;
+    }
+
+unfoldable pub answeredOf : State → ℕ → Event → Turn → List ℕ → ResultAndBook
+answeredOf s addr e t book = pick (eqb addr (s .own)) (leaves book (turned s e t)) (passedOver s book)
 
 -- by what the octet ended
 abbrev pub broughtOf : Outcome → State → List ℕ → ResultAndBook
-broughtOf nothing s book = leaves book (unchanged s refusal.none event.Nothing [])
+broughtOf nothing s book = passedOver s book
 broughtOf (refused n k seq addr) s book = leaves book (unchanged s n event.Nothing (naks k (s .own) n seq addr))
 broughtOf (sound (message seq addr info)) s book = messageOf s seq addr info book
-broughtOf (sound (ack seq addr)) s book = leaves book (unchanged s refusal.none (eventFor (s .own) addr (event.Ack seq)) [])
-broughtOf (sound (nak seq addr err)) s book = leaves book (unchanged s refusal.none (eventFor (s .own) addr (event.Nak seq err)) [])
+broughtOf (sound (ack seq addr)) s book = answeredOf s addr (event.Ack seq) (ackTurn (s .seq) (s .sender .out) seq) book
+broughtOf (sound (nak seq addr err)) s book = answeredOf s addr (event.Nak seq err) (nakTurn (s .seq) (s .sender .out) seq) book
 
--- 02, E4: what is then remembered: a message frame "(for us or FFFF, refused 10 to 14 or not)" that is no repeat; all else leaves the memory
+-- 02, E4: what is then remembered: a message frame "(for us or FFFF, refused 10 to 14 or not)" that is no repeat; all else leaves the memory; E6: so
+-- does a message that is "met with silence, not carried out and not remembered"
 unfoldable pub memoryOf : State → ℕ → ℕ → List ℕ → Memory
 memoryOf s seq addr info =
-    pick (forUs (s .own) addr) (pick (isRepeat (s .memory) seq info) (s .memory) (remembering (s .memory) seq info)) (s .memory)
+    pick (forUs (s .own) addr)
+    (pick (isRepeat (s .memory) seq info) (s .memory)
+    (pick (metWithSilence s addr info) (s .memory) (remembering (s .memory) seq info)))
+    (s .memory)
 
 abbrev pub memoryThen : Outcome → State → Memory
 memoryThen nothing s = s .memory
@@ -187,8 +230,8 @@ memoryThen (sound (nak seq addr err)) s = s .memory
 abbrev pub madeOf : State → Counted → Memory → ResultAndBook → List ℕ → Call
 madeOf s c m w out =
     let r = w .result in
-    let t : State = record { own = s .own; seq = r .seq; requested = r .requested; decoder = c .taken .decoder; dropped = c .kept; memory = m; running = s .running } in
-    callOf t (r .refusal) (r .parameter) (r .event) (r .frames) (c .told) (w .book) out
+    let t : State = record { own = s .own; seq = r .seq; requested = r .requested; wait = s .wait; decoder = c .taken .decoder; dropped = c .kept; memory = m; sender = r .sender; running = s .running } in
+    callOf t (r .refusal) (r .parameter) (r .event) (r .frames) (c .told) (r .link) (w .book) out
 
 unfoldable pub doneOf : State → Counted → List ℕ → List ℕ → Call
 doneOf s c book out = let o = outcomeOf (c .taken) in madeOf s c (memoryThen o s) (broughtOf o s book) out

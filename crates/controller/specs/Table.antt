@@ -29,9 +29,12 @@ unfoldable pub stateAfter : State → List ℕ → State
 stateAfter s [] = s
 stateAfter s (b ∷ bs) = stateAfter (octetOf s emptyBook emptyOut b .answer .state) bs
 
--- "P1 fresh", "P4 next, run empty plan 3"
+-- "P1 fresh"; 02, E6: "P3 is acknowledged before P4"; "P4 next, run empty plan 3"
 abbrev pub p1 : List ℕ
 p1 = 0xAA ∷ 0xBB ∷ 0x07 ∷ 0x00 ∷ 0x01 ∷ 0x00 ∷ 0x0C ∷ 0x5F ∷ 0x48 ∷ 0xAA ∷ 0xCC ∷ 0x6A ∷ []
+
+abbrev pub ackOfP3 : List ℕ
+ackOfP3 = 0xAA ∷ 0xDD ∷ 0x00 ∷ 0x00 ∷ 0x01 ∷ 0x00 ∷ 0x08 ∷ 0x7E ∷ []
 
 abbrev pub p4 : List ℕ
 p4 = 0xAA ∷ 0xBB ∷ 0x08 ∷ 0x00 ∷ 0x01 ∷ 0x00 ∷ 0x0D ∷ 0x5F ∷ 0x18 ∷ 0x03 ∷ 0xAA ∷ 0xCC ∷ 0x37 ∷ []
@@ -40,19 +43,25 @@ p4 = 0xAA ∷ 0xBB ∷ 0x08 ∷ 0x00 ∷ 0x01 ∷ 0x00 ∷ 0x0D ∷ 0x5F ∷ 0x1
 abbrev pub stepRow : Which → ℕ → List ℕ
 stepRow which step = steadyOf 0 step ∷ flashingOf 0 step ∷ secondsOf (builtIn which) step ∷ []
 
--- the ten step rows, then what comes out when P1 goes in after this start, and when P4 goes in next
+-- a fresh start, with T = 10 as the listing has it
+abbrev pub startAt1 : Which → State
+startAt1 which = freshOf which 0x0001 10 (replicate 768 0)
+
+-- the ten step rows, then what comes out when P1 goes in after this start, when the ACK of P3 goes in next, and then P4
 abbrev pub rowsOfStart : Which → List (List ℕ)
 rowsOfStart which =
     let step = stepRow which in
     step 1 ∷ step 2 ∷ step 3 ∷ step 4 ∷ step 5 ∷ step 6 ∷ step 7 ∷ step 8 ∷ step 9 ∷ step 10
-    ∷ cameOut (freshOf which 0x0001 (replicate 512 0)) p1
-    ∷ cameOut (stateAfter (freshOf which 0x0001 (replicate 512 0)) p1) p4
+    ∷ cameOut (startAt1 which) p1
+    ∷ cameOut (stateAfter (startAt1 which) p1) ackOfP3
+    ∷ cameOut (stateAfter (stateAfter (startAt1 which) p1) ackOfP3) p4
     ∷ []
 
 unfoldable pub rows : List (List ℕ)
 rows = rowsOfStart New ++ rowsOfStart Old
 
--- "| Step | Steady, flashing | Seconds |", where steps 1 and 6 have so many; "P2 its ACK", then P3; the ACK of P4, "P5 its message"
+-- "| Step | Steady, flashing | Seconds |", where steps 1 and 6 have so many; "P2 its ACK", then P3; nothing for the ACK of P3; the ACK of P4, "P5 its
+-- message"
 abbrev pub dueWith : ℕ → List ℕ → List (List ℕ)
 dueWith first report =
     (0x41418888 ∷ 0 ∷ first ∷ [])
@@ -66,6 +75,7 @@ dueWith first report =
     ∷ (0x42424141 ∷ 0 ∷ 3 ∷ [])
     ∷ (0x41414141 ∷ 0 ∷ 2 ∷ [])
     ∷ ((0xAA ∷ 0xDD ∷ 0x07 ∷ 0x00 ∷ 0x01 ∷ 0x00 ∷ 0x08 ∷ 0x79 ∷ []) ++ report)
+    ∷ []
     ∷ ((0xAA ∷ 0xDD ∷ 0x08 ∷ 0x00 ∷ 0x01 ∷ 0x00 ∷ 0x08 ∷ 0x76 ∷ [])
     ++ (0xAA ∷ 0xBB ∷ 0x01 ∷ 0x00 ∷ 0x01 ∷ 0x00 ∷ 0x10 ∷ 0x0F ∷ 0x81 ∷ 0x5F ∷ 0x18 ∷ 0x0D ∷ 0x01 ∷ 0xAA ∷ 0xCC ∷ 0xA2 ∷ []))
     ∷ []

@@ -10,12 +10,21 @@ use record::RECORD_LEN;
 // "FFFF is for all".
 pub const ALL: u16 = 0xFFFF;
 
-// The output that an octet call is lent, at least.
+// The output that an octet call and a second are lent, at least.
 pub const OUTPUT_LEN: usize = 544;
 
-// The octets that a host lends with the struct, at least: those that the decoder keeps for INFO, and behind them those that INFO of the last
-// message frame accepted is kept in (02, E4). E6 will keep another INFO behind these.
-pub const KEPT_LEN: usize = 2 * INFO_MOST;
+// The octets that a host lends with the struct, at least: those that the decoder keeps for INFO, behind them those that INFO of the last message
+// frame accepted is kept in (02, E4), and behind these, from here on, those of INFO of the frame out (E6).
+pub const OUT_AT: usize = 2 * INFO_MOST;
+
+pub const KEPT_LEN: usize = 3 * INFO_MOST;
+
+// 02, E6: "T seconds (1 to 60, given at the start)"; "five tries".
+pub const WAIT_LEAST: u8 = 1;
+
+pub const WAIT_MOST: u8 = 60;
+
+pub const SENDS_MOST: u8 = 5;
 
 // What the stepper owns: "The running plan is a copy"; 02, E1: "The state keeps which one, and plan 0 means that one throughout".
 pub struct Running {
@@ -34,13 +43,43 @@ pub struct Last {
 // "A fresh start remembers none".
 pub const NONE_ACCEPTED: Last = Last { seq: 0, len: 0 };
 
-// The state, but for the octets of INFO, the decoder's and those of the last frame accepted: these are lent to the calls, and all together are
-// the state of 01.
+// 02, E6: of our message frame that is out how often it was sent, the accepted seconds since it was sent last, and how long its INFO is, 0 where none
+// is out. Its SEQ is ours less one.
+pub struct Out {
+    pub sends: u8,
+    pub waited: u8,
+    pub len: u16,
+}
+
+pub const NONE_OUT: Out = Out {
+    sends: 0,
+    waited: 0,
+    len: 0,
+};
+
+// How the link stands: nothing new; the frame out is sent again; it is heard, by an ACK; or "the link is reported down".
+pub enum Link {
+    Still,
+    Again,
+    Heard,
+    Down,
+}
+
+// What becomes of the frame out.
+pub struct Turn {
+    pub out: Out,
+    pub link: Link,
+}
+
+// The state, but for the octets of INFO, the decoder's, those of the last frame accepted and those of the frame out: these are lent to the calls,
+// and all together are the state of 01. `wait` is the T of 02, E6.
 pub struct Held {
     pub own: u16,
     pub seq: u8,
     pub requested: u8,
+    pub wait: u8,
     pub last: Last,
+    pub out: Out,
     pub receiver: Receiver,
     pub running: Running,
 }
@@ -54,16 +93,17 @@ pub enum Event {
 
 // What every call tells. The refusal is that of the call, or of the frame or message that the octet ended; the parameter is the
 // field that a refused message's reply names; the count is of octets written. 02, E5: the octets dropped since the last sound frame or the start, as
-// the decoder tells them; a start and a second tell 0.
+// the decoder tells them; a start, a second and an offer tell 0. E6: how the link stands.
 pub struct Told {
     pub refusal: u8,
     pub parameter: u8,
     pub event: Event,
     pub count: usize,
     pub dropped: u16,
+    pub link: Link,
 }
 
-// What a fresh start, an octet call or a line-idle call answers.
+// What a fresh start, an octet call, a line-idle call or an offer answers.
 pub struct HeldAnswer {
     pub state: Held,
     pub told: Told,

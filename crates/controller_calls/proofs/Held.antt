@@ -1,5 +1,5 @@
 -- The code's struct and the octets lent are the state: what is said of the struct is so of the state.
-use Prim.Native.Nat.{ℕ, _≤_, _<_}
+use Prim.Native.Nat.{ℕ, _+_, _≤_, _<_}
 use mathlib.Core.Path.{_≡_, refl, sym, ap, subst, _∙_}
 use mathlib.Core.Bool.{Bool, true, false, not}
 use mathlib.Core.List.{List}
@@ -7,7 +7,7 @@ use native.Mathlib.Decide.{decLt}
 use native.Mathlib.Omega.{arith}
 use borrow.Author.Tests.{eq-eqb, ne-eqb, le-leb, lt-leb}
 use lib.Dec.{eqb, leb}
-use lib.ListN.{length, take, drop, set, replicate, length-drop, length-replicate}
+use lib.ListN.{length, take, drop, set, length-drop}
 use lib.Seq.{take-set-lt, drop-set-lt}
 use Rattle.octets.specs.Choice.{both}
 use Rattle.frame.specs.Frame.{infoMost}
@@ -23,10 +23,11 @@ use Rattle.checks.proofs.Stands.{plan-fits, ready-plan}
 use Rattle.controller.specs.declared.Held.{Held}
 use Rattle.controller.specs.declared.HeldAnswer.{HeldAnswer}
 use Rattle.controller.specs.Memory.{lastFits}
+use Rattle.controller.specs.Sender.{waitFits, outStart, outFits}
 use Rattle.controller.specs.State.{joined, keptLen, all, runningSound, soundOf}
 use Rattle.controller.specs.Replies.{CanFind, CallLeaves, answerWith, refusedCall, doneOf, idledAs, lineIdleOf}
 use Rattle.controller.proofs.Judging.{sound-parts}
-use Rattle.controller.proofs.Laws.{counted-idles, idle-done}
+use Rattle.controller.proofs.Laws.{both-false, counted-idles, idle-done}
 use Rattle.controller.proofs.Replying.{can-find}
 use Rattle.controller_calls.specs.Held.{heldSound, heldQuiet, heldCounted, withReceiver, oneDropped, oneKept, heldReceived}
 
@@ -52,55 +53,65 @@ module _ (s : Held) (lent : ℕ) where
         unfolding heldSound
         unfit h = rw (ne-eqb (s .own) all ho, le-leb (s .requested) plansMost hr, le-leb keptLen lent hl, ← ef, h)
 
-        module _ (hf : f ≡ true) {p : Bool} (ep : p ≡ possibleOf (s .receiver .head)) where
-          pub impossible : p ≡ false → false ≡ heldSound s lent
+        module _ (hf : f ≡ true) {w : Bool} (ew : w ≡ waitFits (s .wait)) where
+          pub wait-wrong : w ≡ false → false ≡ heldSound s lent
           unfolding heldSound
-          impossible h = rw (ne-eqb (s .own) all ho, le-leb (s .requested) plansMost hr, le-leb keptLen lent hl, ← ef, hf, ← ep, h)
+          wait-wrong h = rw (ne-eqb (s .own) all ho, le-leb (s .requested) plansMost hr, le-leb keptLen lent hl, ← ef, hf, ← ew, h)
 
-          pub by-running : p ≡ true → {r : Bool} → r ≡ runningSound (s .running) → r ≡ heldSound s lent
-          unfolding heldSound
-          by-running h e = rw (ne-eqb (s .own) all ho, le-leb (s .requested) plansMost hr, le-leb keptLen lent hl, ← ef, hf, ← ep, h) e
+          module _ (hw : w ≡ true) {o : Bool} (eo : o ≡ outFits (s .wait) (s .out)) where
+            pub out-wrong : o ≡ false → false ≡ heldSound s lent
+            unfolding heldSound
+            out-wrong h = rw (ne-eqb (s .own) all ho, le-leb (s .requested) plansMost hr, le-leb keptLen lent hl, ← ef, hf, ← ew, hw, ← eo, h)
+
+            module _ (hu : o ≡ true) {p : Bool} (ep : p ≡ possibleOf (s .receiver .head)) where
+              pub impossible : p ≡ false → false ≡ heldSound s lent
+              unfolding heldSound
+              impossible h = rw (ne-eqb (s .own) all ho, le-leb (s .requested) plansMost hr, le-leb keptLen lent hl, ← ef, hf, ← ew, hw, ← eo, hu, ← ep, h)
+
+              pub by-running : p ≡ true → {r : Bool} → r ≡ runningSound (s .running) → r ≡ heldSound s lent
+              unfolding heldSound
+              by-running h e = rw (ne-eqb (s .own) all ho, le-leb (s .requested) plansMost hr, le-leb keptLen lent hl, ← ef, hf, ← ew, hw, ← eo, hu, ← ep, h) e
 
 -- It is the state's
 
 -- as many octets are lent as the state wants
 module _ (h : Head) (kept : List ℕ) where
-  abbrev bothLong : Bool → Bool
-  bothLong t = both (eqb (length (take infoMost kept)) infoMost) (both (eqb (length (take infoMost (drop infoMost kept))) infoMost) t)
+  abbrev allLong : Bool → Bool
+  allLong t =
+      both (eqb (length (take infoMost kept)) infoMost)
+      (both (eqb (length (take infoMost (drop infoMost kept))) infoMost)
+      (both (eqb (length (take infoMost (drop outStart kept))) infoMost) t))
 
-  long-both : keptLen ≤ length kept → (t : Bool) → bothLong t ≡ t
-  long-both l t = rw (enough h kept (omega arith), enough h (drop infoMost kept) (omega (arith, length-drop infoMost kept)))
+  enough-at : (n : ℕ) → n + infoMost ≤ length kept → eqb (length (take infoMost (drop n kept))) infoMost ≡ true
+  enough-at n l = enough h (drop n kept) (omega (arith, length-drop n kept))
 
-  short-both : length kept < keptLen → (t : Bool) → bothLong t ≡ false
-  short-both l t =
-      elim (decLt (length kept) infoMost) [
-        | yes g ↦ rw (short h kept g)
-        | no g ↦ rw (enough h kept (omega arith), short h (drop infoMost kept) (omega (arith, length-drop infoMost kept)))
-      ]
+  short-at : (n : ℕ) → length kept < n + infoMost → eqb (length (take infoMost (drop n kept))) infoMost ≡ false
+  short-at n l = short h (drop n kept) (omega (arith, length-drop n kept))
 
-  enough-lent : (t : Bool) → both (leb keptLen (length kept)) t ≡ bothLong t
+  long-all : keptLen ≤ length kept → (t : Bool) → allLong t ≡ t
+  long-all l t = rw (enough h kept (omega arith), enough-at infoMost (omega arith), enough-at outStart (omega arith))
+
+  short-all : length kept < keptLen → (t : Bool) → allLong t ≡ false
+  short-all l t =
+      rw (short-at outStart (omega arith), both-false (eqb (length (take infoMost (drop infoMost kept))) infoMost)) (both-false (eqb (length (take infoMost kept)) infoMost))
+
+  enough-lent : (t : Bool) → both (leb keptLen (length kept)) t ≡ allLong t
   enough-lent t =
       elim (decLt (length kept) keptLen) [
-        | yes l ↦ rw (lt-leb keptLen (length kept) l) (sym (short-both l t))
-        | no l ↦ rw (le-leb keptLen (length kept) (omega arith)) (sym (long-both (omega arith) t))
+        | yes l ↦ rw (lt-leb keptLen (length kept) l) (sym (short-all l t))
+        | no l ↦ rw (le-leb keptLen (length kept) (omega arith)) (sym (long-all (omega arith) t))
       ]
 
 module _ (s : Held) (kept : List ℕ) where
   abbrev rest : Bool
-  rest = both (lastFits (s .last)) (both (possibleOf (s .receiver .head)) (runningSound (s .running)))
+  rest = both (lastFits (s .last)) (both (waitFits (s .wait)) (both (outFits (s .wait) (s .out)) (both (possibleOf (s .receiver .head)) (runningSound (s .running)))))
 
   pub sound-joined : heldSound s (length kept) ≡ soundOf (joined s kept)
   unfolding heldSound soundOf
   sound-joined = ap (λ (t : Bool). both (not (eqb (s .own) all)) (both (leb (s .requested) plansMost) t)) (enough-lent (s .receiver .head) kept rest)
 
-  pub sound-lent : keptLen ≤ length kept → heldSound s keptLen ≡ soundOf (joined s kept)
-  unfolding heldSound soundOf
-  sound-lent l = ap (λ (t : Bool). both (not (eqb (s .own) all)) (both (leb (s .requested) plansMost) t)) (sym (long-both (s .receiver .head) kept l rest))
-
   pub lent-enough : soundOf (joined s kept) ≡ true → keptLen ≤ length kept
-  lent-enough h =
-      let p = sound-parts (joined s kept) h in
-      omega (arith, p .info, p .lastInfo, take-short infoMost kept, take-short infoMost (drop infoMost kept), length-drop infoMost kept)
+  lent-enough h = omega (arith, sound-parts (joined s kept) h .outInfo, take-short infoMost (drop outStart kept), length-drop outStart kept)
 
 -- What the code does, it did
 
@@ -150,7 +161,7 @@ module _ (s : Held) (lent : List ℕ) where
         let p = sound-parts (joined s lent) h in
         rw (counted-goes d n b o l (p .info) (p .decoder) g, info-goes-on d b .kept (p .decoder) g, e, f)
         (record {
-          answer = rw (take-set-lt infoMost lent (h₀ .filled) b kept-room, drop-set-lt infoMost lent (h₀ .filled) b kept-room);
+          answer = rw (take-set-lt infoMost lent (h₀ .filled) b kept-room, drop-set-lt infoMost lent (h₀ .filled) b kept-room, drop-set-lt outStart lent (h₀ .filled) b (omega (arith, kept-room)));
           beyond = drop-set-lt keptLen lent (h₀ .filled) b (omega (arith, kept-room));
           book = refl;
           out = refl;
@@ -165,7 +176,7 @@ module _ (s : Held) (lent : List ℕ) where
 -- The next second
 
 -- a sound position is within a cycle of at most 900 seconds, so the next one is a number of two octets
-pub sound-position : (s : Held) → heldSound s keptLen ≡ true → s .running .position < 65535
-sound-position s h =
-    let p = sound-parts (joined s (replicate keptLen 0)) (sym (sound-lent s (replicate keptLen 0) (omega (arith, length-replicate {A = ℕ} keptLen 0))) ∙ h) .running in
+pub sound-position : (s : Held) (kept : List ℕ) → soundOf (joined s kept) ≡ true → s .running .position < 65535
+sound-position s kept h =
+    let p = sound-parts (joined s kept) h .running in
     omega (arith, p .position, plan-fits (s .running .copy) (ready-plan (s .running .copy) (p .checks)) .most)

@@ -36,7 +36,7 @@ use Rattle.controller.specs.declared.Handled.{Handled}
 use Rattle.controller.specs.State.{State, runningSound, recordWith, planRecord, startedAt}
 use Rattle.controller.specs.Handling.{runCode, queryTimesCode, queryPlanCode, queryRunningCode, refusedWith, setAs, runAs, queryTimesAs, queryPlanAs, queryRunningAs, handlingOf}
 use Rattle.controller.specs.Seconds.{pickedOf}
-use Rattle.controller.proofs.Laws.{picked-ready, picked-stays}
+use Rattle.controller.proofs.Laws.{both-false, picked-ready, picked-stays}
 use Rattle.controller.proofs.Replying.{plan-in-book}
 use Rattle.controller_calls.specs.Handling.{HandlingLeaves, Asks}
 use Rattle.controller_calls.specs.Stepper.{RecordOf}
@@ -215,13 +215,9 @@ module _ (s : State) (book info : List ℕ) {code : ℕ} (ec : code ≡ codeIn i
 
 -- Soundness
 
-and-true : (b : Bool) → both b true ≡ b
-and-true true = refl
-and-true false = refl
-
-and-false : (b : Bool) → both b false ≡ false
-and-false true = refl
-and-false false = refl
+pub both-true : (b : Bool) → both b true ≡ b
+both-true true = refl
+both-true false = refl
 
 module _ (u : Running) where
   module _ {c : ℕ} (ec : c ≡ cycleOf (u .copy)) where
@@ -245,12 +241,12 @@ module _ (u : Running) where
                 let s : standingOf (u .copy) ≡ ready = rw (same-is (u .copy) (builtIn (u .which)) (sym e)) (built-in-stands (u .which)) in
                 rw (← ec, lt-ltb (u .position) c hc, le-leb (u .plan) plansMost hp, eq-eqb (standingOf (u .copy)) ready s, eq-eqb (u .plan) 0 z) e
             by false e =
-                rw (← ec, lt-ltb (u .position) c hc, le-leb (u .plan) plansMost hp, eq-eqb (u .plan) 0 z, ← e) (sym (and-false (eqb (standingOf (u .copy)) ready)))
+                rw (← ec, lt-ltb (u .position) c hc, le-leb (u .plan) plansMost hp, eq-eqb (u .plan) 0 z, ← e) (sym (both-false (eqb (standingOf (u .copy)) ready)))
 
         pub other-plan : (u .plan ≡ 0 → ⊥) → {n : ℕ} → n ≡ standingOf (u .copy) → eqb n ready ≡ runningSound u
         unfolding runningSound
         other-plan z {n} e =
-            rw (← ec, lt-ltb (u .position) c hc, le-leb (u .plan) plansMost hp, ne-eqb (u .plan) 0 z, ← e) (sym (and-true (eqb n ready)))
+            rw (← ec, lt-ltb (u .position) c hc, le-leb (u .plan) plansMost hp, ne-eqb (u .plan) 0 z, ← e) (sym (both-true (eqb n ready)))
 
 -- Copies
 

@@ -12,7 +12,7 @@ use Rattle.octets.specs.Put.{Stored}
 use Rattle.octets.specs.Refusal as refusal
 use Rattle.octets.specs.declared.Written.{Written}
 use Rattle.octets.specs.Writing.{Writing, WriterLeaves, writtenAs}
-use Rattle.octets.proofs.Laws.{stored-then}
+use Rattle.octets.proofs.Laws.{pick-by, stored-then}
 use Rattle.frame.specs.declared.Kind.{Kind}
 use Rattle.frame.specs.declared.Kind.the-variants.{Message, Ack, Nak}
 use Rattle.frame.specs.Frame.{Frame, message, ack, nak, infoFits, infoLeast, infoMost, written}
@@ -33,15 +33,20 @@ use Rattle.controller.specs.declared.Held.{Held}
 use Rattle.controller.specs.declared.HeldAnswer.{HeldAnswer}
 use Rattle.controller.specs.declared.Reply.{Reply}
 use Rattle.controller.specs.declared.Reply.the-variants as reply
+use Rattle.controller.specs.declared.Link.the-variants as link
+use Rattle.controller.specs.declared.Out.{Out}
+use Rattle.controller.specs.declared.Turn.{Turn}
 use Rattle.controller.specs.Memory.{Memory, joinedMemory}
+use Rattle.controller.specs.Sender.{Sender, outStart, sending}
 use Rattle.controller.specs.State.{State, joined, keptLen, outputLen, planRecord}
 use Rattle.controller.specs.Handling.{Handling, replyInfo, handlingOf}
-use Rattle.controller.specs.Replies.{Answer, CallLeaves, CanFind, sent, naks, acks, errOf, repliesOf, ResultAndBook, unchanged, repliedOf, handledOf, doneOf}
+use Rattle.controller.specs.Replies.{Answer, CallLeaves, CanFind, sent, naks, acks, errOf, repliesOf, ResultAndBook, leaves, unchanged, repliedOf, handledOf, answeredOf, doneOf}
 use Rattle.controller.proofs.Replying.{by-reply, by-left, reply-as-came, ack-fits, nak-fits, sent-most}
 use Rattle.controller_calls.specs.declared.replies.Brought.{Brought}
 use Rattle.controller_calls.specs.declared.replies.ResultCounted.{ResultCounted}
 use Rattle.controller_calls.specs.Handling.{HandlingLeaves, Reportable}
-use Rattle.controller_calls.specs.Replies.{ResultWritten, ResultAndBookLeft, unchangedAs, ReplyWritten, ReplyStored, broughtStill, RepliedWith, BroughtLeft, BroughtWith}
+use Rattle.controller_calls.specs.Replies.{ResultWritten, unchangedAs, broughtStill, ReplyPut, RepliedWith, AcceptedLeft, AnsweredWith, BroughtLeft, BroughtWith}
+use Rattle.controller_calls.proofs.Putting.{sentOnce, info-put, put-kept, kept-as-was}
 
 -- What the decoder finds
 
@@ -78,13 +83,22 @@ sent-one f s = rw (append-nil (written f)) s
 pub sent-two : (f g : Frame) {out p o : List ℕ} {n m : ℕ} → Stored (written f) 0 out n p → Stored (written g) n p m o → Stored (sent (f ∷ g ∷ [])) 0 out m o
 sent-two f g s t = rw (append-nil (written g)) (stored-then s t)
 
+-- INFO of a length that INFO can have
+pub info-right : (seq own : ℕ) (info : List ℕ) → infoLeast ≤ length info → length info ≤ infoMost → infoFits (message seq own info) ≡ true
+info-right seq own info least most = rw (le-leb infoLeast (length info) least, le-leb (length info) infoMost most)
+
+-- a message frame alone
+pub message-stored : (seq own : ℕ) (info out : List ℕ) → infoFits (message seq own info) ≡ true → length (written (message seq own info)) ≤ length out
+    → {w : Written} {o : List ℕ} → WriterLeaves (frame.writeFrame (message seq own info) 0 out) w o → Stored (sent (message seq own info ∷ [])) 0 out (w .count) o
+message-stored seq own info out i l w = sent-one (message seq own info) (frame-stored (message seq own info) 0 out i (omega arith) w (omega arith))
+
 pub sent-none : {out : List ℕ} → Stored (sent []) 0 out 0 out
 sent-none {out} = record { place = refl; holds = refl; long = refl; fits = omega arith }
 
 -- What is told
 
 -- what is stored from the start on is counted
-stored-count : {A : Type 0} {vs out o : List ℕ} {count : ℕ} → Stored vs 0 out count o → (f : ℕ → A) → f count ≡ f (length vs)
+pub stored-count : {A : Type 0} {vs out o : List ℕ} {count : ℕ} → Stored vs 0 out count o → (f : ℕ → A) → f count ≡ f (length vs)
 stored-count p f = ap f (p .place ∙ omega arith)
 
 module _ (s : Held) (n : ℕ) (e : Event) (fs : List Frame) {out o : List ℕ} {count : ℕ} {r : ResultCounted} where
@@ -96,15 +110,15 @@ abbrev heldBy : Held → Received → Brought → HeldAnswer
 heldBy s t w =
     let r = w .result in
     record {
-      state = record { own = s .own; seq = r .seq; requested = r .requested; receiver = t .receiver; last = w .last; running = s .running };
-      told = record { refusal = r .refusal; parameter = r .parameter; event = r .event; count = r .count; dropped = t .dropped };
+      state = record { own = s .own; seq = r .seq; requested = r .requested; wait = s .wait; last = w .last; out = r .out; receiver = t .receiver; running = s .running };
+      told = record { refusal = r .refusal; parameter = r .parameter; event = r .event; count = r .count; dropped = t .dropped; link = r .link };
     }
 
-abbrev answeredBy : State → Counted → Memory → ResultCounted → Answer
-answeredBy s c m r =
+abbrev answeredBy : State → Counted → Memory → Sender → ResultCounted → Answer
+answeredBy s c m q r =
     record {
-      state = record { own = s .own; seq = r .seq; requested = r .requested; decoder = c .taken .decoder; dropped = c .kept; memory = m; running = s .running };
-      told = record { refusal = r .refusal; parameter = r .parameter; event = r .event; count = r .count; dropped = c .told };
+      state = record { own = s .own; seq = r .seq; requested = r .requested; wait = s .wait; decoder = c .taken .decoder; dropped = c .kept; memory = m; sender = q; running = s .running };
+      told = record { refusal = r .refusal; parameter = r .parameter; event = r .event; count = r .count; dropped = c .told; link = r .link };
     }
 
 -- the decoder has what its own octets are
@@ -116,8 +130,9 @@ received-info t k l e i =
       kept = t .receiver .dropped;
     }
 
-beyond-both : (k l : List ℕ) → drop infoMost k ≡ drop infoMost l → drop keptLen k ≡ drop keptLen l
-beyond-both k l e = sym (drop-drop infoMost infoMost k) ∙ ap (λ (m : List ℕ). drop infoMost m) e ∙ drop-drop infoMost infoMost l
+-- what agrees beyond the decoder's octets agrees beyond any others
+pub beyond-more : (n : ℕ) (k l : List ℕ) → drop infoMost k ≡ drop infoMost l → drop (infoMost + n) k ≡ drop (infoMost + n) l
+beyond-more n k l e = sym (drop-drop n infoMost k) ∙ ap (λ (m : List ℕ). drop n m) e ∙ drop-drop n infoMost l
 
 -- a call tells of the state what was brought; t is what the decoder took, k the octets that it left, and k′ those that are left then
 pub done-did : (s : Held) (lent book out : List ℕ) {w : Counted} {t : Received} {k k′ : List ℕ} {r : Brought} {b o : List ℕ}
@@ -129,22 +144,56 @@ done-did s lent book out {w} {t} {k} {k′} {r} h f =
     let g = rw (← e) at (f lent (sym (h .beyond))) in
     let c : receivedWith t k′ ≡ w = received-info t k′ k (g .info) ∙ h .answer in
     record {
-      answer = (λ i. answeredBy (joined s lent) (c i) (g .memory i) (g .result .tells .told i));
-      beyond = g .beyond ∙ beyond-both k lent (h .beyond);
+      answer = (λ i. answeredBy (joined s lent) (c i) (g .memory i) (g .sender i) (g .result .tells .told i));
+      beyond = g .beyond ∙ beyond-more outStart k lent (h .beyond);
       book = g .result .book;
       out = g .result .tells .out;
     }
 
 -- What is brought
 
--- what is remembered was so before the decoder's own call
-pub memory-came : (s : Held) (came lent : List ℕ) → drop infoMost came ≡ drop infoMost lent → joinedMemory (s .last) came ≡ joinedMemory (s .last) lent
-memory-came s came lent e i = record { last = s .last; info = take infoMost (e i) }
+-- what is remembered, and what is out, was so before the decoder's own call
+module _ (s : Held) (came lent : List ℕ) (e : drop infoMost came ≡ drop infoMost lent) where
+  pub memory-came : joinedMemory (s .last) came ≡ joinedMemory (s .last) lent
+  memory-came i = record { last = s .last; info = take infoMost (e i) }
 
--- no message frame is accepted
-module _ (s : Held) (lent : List ℕ) {m : Memory} {w : ResultAndBook} {before b after : List ℕ} {r : ResultCounted} {q : Brought} where
-  pub brought-still : q ≡ broughtStill s r → m ≡ joinedMemory (s .last) lent → ResultAndBookLeft w before r b after → BroughtLeft w m lent before q lent b after
-  brought-still e f l = rw (e, f) (record { result = l; memory = refl; info = refl; beyond = refl })
+  pub out-came : drop outStart came ≡ drop outStart lent
+  out-came = beyond-more infoMost came lent e
+
+  -- no message frame is accepted: an octet that leaves SEQ, request and what is out
+  pub brought-unchanged : (n : ℕ) (v : Event) (fs : List Frame) (book : List ℕ) {out o : List ℕ} {count : ℕ} {r : ResultCounted} {q : Brought} → Stored (sent fs) 0 out count o
+      → r ≡ unchangedAs s n v count → q ≡ broughtStill s r → BroughtLeft (leaves book (unchanged (joined s came) n v fs)) (joined s came .memory) lent out q lent book o
+  brought-unchanged n v fs book p u g =
+      rw (g, u)
+      (record {
+        result = record { tells = stored-tells s n v fs p refl came; book = refl };
+        memory = sym memory-came;
+        sender = (λ i. record { out = s .out; info = take infoMost (sym out-came i) });
+        info = refl;
+        beyond = refl;
+      })
+
+  -- an ACK or a NAK
+  answered-leaves : (addr : ℕ) (v : Event) (t : Turn) (book : List ℕ)
+      → (let w = answeredOf (joined s came) addr v t book in (take infoMost (drop outStart lent) ≡ w .result .sender .info) × (book ≡ w .book))
+  unfolding answeredOf
+  answered-leaves addr v t book =
+      let o : take infoMost (drop outStart lent) ≡ take infoMost (drop outStart came) = ap (λ (l : List ℕ). take infoMost l) (sym out-came) in
+      pick-by (λ (w : ResultAndBook). (take infoMost (drop outStart lent) ≡ w .result .sender .info) × (book ≡ w .book)) (eqb addr (s .own)) (λ _. (o, refl)) (λ _. (o, refl))
+
+  pub brought-answered : (addr : ℕ) (v : Event) (t : Turn) (book : List ℕ) {out o : List ℕ} {r : ResultCounted} {q : Brought} → AnsweredWith s addr v t lent out r o
+      → q ≡ broughtStill s r → BroughtLeft (answeredOf (joined s came) addr v t book) (joined s came .memory) lent out q lent book o
+  brought-answered addr v t book w g =
+      let h = w came book out-came in
+      let l = answered-leaves addr v t book in
+      rw g
+      (record {
+        result = record { tells = h; book = l .1 };
+        memory = sym memory-came;
+        sender = (λ i. record { out = h .told i .out; info = l .0 i });
+        info = refl;
+        beyond = refl;
+      })
 
 -- ACK and NAK
 
@@ -179,7 +228,7 @@ nak-other Nak own n seq addr out g = sent-none
 -- The reply
 
 -- what is there to be reported fits a frame
-info-fits : (s : Held) (book : List ℕ) (r : Reply) (kept : List ℕ) → Reportable s book r
+pub info-fits : (s : Held) (book : List ℕ) (r : Reply) (kept : List ℕ) → Reportable s book r
     → (let i = replyInfo (joined s kept) book r in (infoLeast ≤ length i) × (length i ≤ infoMost))
 unfolding replyInfo timesInfo planInfo
 info-fits s book (reply.CarriedOut code) kept g = (omega arith, omega arith)
@@ -188,11 +237,8 @@ info-fits s book (reply.Times p) kept g = (omega arith, times-most (planRecord (
 info-fits s book (reply.Plan p) kept g = (omega arith, plan-most (planRecord (s .running .which) book p) g p reportPlanCode)
 info-fits s book reply.Running kept g = (omega arith, plan-most (s .running .copy) g (s .running .plan) reportRunningCode)
 
-module _ (s : Held) (seq : ℕ) (book : List ℕ) (which : Reply) (out : List ℕ) (g : Reportable s book which) (l : outputLen ≤ length out)
-    {a : Written} {p : List ℕ} (wa : WriterLeaves (frame.writeFrame (ack seq (s .own)) 0 out) a p) (kept : List ℕ) where
-  abbrev info : List ℕ
-  info = replyInfo (joined s kept) book which
-
+module _ (s : Held) (seq : ℕ) (info out : List ℕ) (least : infoLeast ≤ length info) (most : length info ≤ infoMost) (l : outputLen ≤ length out)
+    {a : Written} {p : List ℕ} (wa : WriterLeaves (frame.writeFrame (ack seq (s .own)) 0 out) a p) where
   abbrev first : Frame
   first = ack seq (s .own)
 
@@ -202,51 +248,57 @@ module _ (s : Held) (seq : ℕ) (book : List ℕ) (which : Reply) (out : List �
   frames-most : length (written first) + length (written second) ≤ outputLen
   frames-most =
       let e : length (sent (first ∷ second ∷ [])) ≡ length (written first) + length (written second) = rw (append-nil (written second)) (length-append (written first) (written second)) in
-      omega (arith, e, sent-most seq (s .seq) (s .own) info (info-fits s book which kept g .1))
+      omega (arith, e, sent-most seq (s .seq) (s .own) info most)
 
   ack-in : Stored (written first) 0 out (a .count) p
   ack-in = frame-stored first 0 out refl (omega (arith, frames-most, l)) wa (omega arith)
 
-  module _ {w : Written} {o : List ℕ} (wm : ReplyWritten s book which (a .count) p w o) where
-    info-right : infoFits second ≡ true
-    info-right = let f = info-fits s book which kept g in rw (le-leb infoLeast (length info) (f .0), le-leb (length info) infoMost (f .1))
-
+  module _ {w : Written} {o : List ℕ} (wm : WriterLeaves (frame.writeFrame second (a .count) p) w o) where
     message-room : a .count + length (written second) ≤ length p
     message-room = omega (arith, frames-most, l, ack-in .place, ack-in .long)
 
     pub reply-count : a .count + w .count ≤ outputLen
-    reply-count = omega (arith, frame-count second (a .count) p info-right message-room (wm kept), frames-most, ack-in .place)
+    reply-count = omega (arith, frame-count second (a .count) p (info-right (s .seq) (s .own) info least most) message-room wm, frames-most, ack-in .place)
 
     pub reply-stored : Stored (sent (repliesOf seq (s .seq) (s .own) info)) 0 out (a .count + w .count) o
-    reply-stored = sent-two first second ack-in (frame-stored second (a .count) p info-right message-room (wm kept) refl)
+    reply-stored = sent-two first second ack-in (frame-stored second (a .count) p (info-right (s .seq) (s .own) info least most) message-room wm refl)
 
-module _ (s : Held) (book : List ℕ) (seq addr : ℕ) (h : Handled) (out : List ℕ) where
-  abbrev replyAs : ℕ → ℕ → ResultCounted
-  replyAs count q = record { refusal = h .refusal; parameter = h .parameter; event = event.Nothing; count = count; seq = q; requested = h .requested }
+module _ (s : Held) (book : List ℕ) (seq addr : ℕ) (h : Handled) (lent out : List ℕ) where
+  abbrev replyAs : ℕ → ℕ → Out → ResultCounted
+  replyAs count q o = record { refusal = h .refusal; parameter = h .parameter; event = event.Nothing; count = count; seq = q; requested = h .requested; out = o; link = link.Still }
 
-  pub replied-ours : eqb addr (s .own) ≡ true → {count q : ℕ} {o : List ℕ} → ReplyStored s seq book (h .reply) out count o → q ≡ (s .seq + 1) % 256
-      → RepliedWith s book seq addr h out (replyAs count q) o
+  pub replied-ours : eqb addr (s .own) ≡ true → Reportable s book (h .reply) → keptLen ≤ length lent → {n : ℕ} {k : List ℕ} → ReplyPut s book (h .reply) lent n k
+      → {count q : ℕ} {o : List ℕ} → Stored (sent (repliesOf seq (s .seq) (s .own) (take n (drop outStart k)))) 0 out count o → q ≡ (s .seq + 1) % 256
+      → RepliedWith s book seq addr h lent out (replyAs count q (sentOnce n)) k o
+  unfolding repliedOf sending
+  replied-ours e g l w p eq came d =
+      let i = w came in
+      let f = info-fits s book (h .reply) came g in
+      let p′ = rw (info-put i (f .1) l) at p in
+      rw e
+      (record {
+        tells = record { told = rw (eq, i .count) (stored-count p′ (λ k. replyAs k ((s .seq + 1) % 256) (sentOnce (length (replyInfo (joined s came) book (h .reply)))))); out = p′ .holds };
+        kept = put-kept (s .out) i (f .1) came d;
+      })
+
+  pub replied-all : eqb addr (s .own) ≡ false → RepliedWith s book seq addr h lent out (replyAs 0 (s .seq) (s .out)) lent out
   unfolding repliedOf
-  replied-ours e p eq kept = rw e (record { told = rw eq (stored-count (p kept) (λ k. replyAs k ((s .seq + 1) % 256))); out = p kept .holds })
-
-  pub replied-all : eqb addr (s .own) ≡ false → RepliedWith s book seq addr h out (replyAs 0 (s .seq)) out
-  unfolding repliedOf
-  replied-all e kept = rw e (record { told = refl; out = refl })
+  replied-all e came d = rw e (record { tells = record { told = refl; out = refl }; kept = kept-as-was (s .out) lent came d })
 
 -- A message carried out
 
-module _ (s : Held) (book info kept : List ℕ) where
+module _ (s : Held) (book info came : List ℕ) where
   abbrev due : Handling
-  due = handlingOf (joined s kept) book info
+  due = handlingOf (joined s came) book info
 
   -- what its reply reports is there, in the book that is left
   pub handled-there : standingOf (s .running .copy) ≡ ready → {h : Handled} {b : List ℕ} → HandlingLeaves due h b → Reportable s b (h .reply)
   handled-there r e =
       rw (e .handled, e .book)
-      (by-left (joined s kept) book info (Reportable s) (λ b. tt) (λ b n m. tt)
-      (by-reply (joined s kept) book info (λ h. Reportable s book (h .reply)) (λ q. tt) (λ n m. tt) (λ n. n) (λ e. e) r))
+      (by-left (joined s came) book info (Reportable s) (λ b. tt) (λ b n m. tt)
+      (by-reply (joined s came) book info (λ h. Reportable s book (h .reply)) (λ q. tt) (λ n m. tt) (λ n. n) (λ e. e) r))
 
-  pub handled-brings : (seq addr : ℕ) {h : Handled} {out : List ℕ} {r : ResultCounted} {b o : List ℕ} → RepliedWith s b seq addr h out r o → HandlingLeaves due h b
-      → ResultAndBookLeft (handledOf (joined s kept) book seq addr due) out r b o
+  pub handled-brings : (seq addr : ℕ) {h : Handled} {lent out : List ℕ} {r : ResultCounted} {k b o : List ℕ} → RepliedWith s b seq addr h lent out r k o → HandlingLeaves due h b
+      → drop outStart came ≡ drop outStart lent → AcceptedLeft (handledOf (joined s came) book seq addr due) lent out r k b o
   unfolding repliedOf
-  handled-brings seq addr t e = record { tells = rw (e .handled, e .book, reply-as-came (joined s kept) book info) at (t kept); book = e .book }
+  handled-brings seq addr t e d = record { replied = rw (e .handled, e .book, reply-as-came (joined s came) book info) at (t came d); book = e .book }

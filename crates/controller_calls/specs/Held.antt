@@ -13,8 +13,10 @@ use Rattle.controller.specs.declared.Event.the-variants as event
 use Rattle.controller.specs.declared.Held.{Held}
 use Rattle.controller.specs.declared.HeldAnswer.{HeldAnswer}
 use Rattle.controller.specs.declared.HeldShown.{HeldShown}
+use Rattle.controller.specs.declared.Link.the-variants as link
 use Rattle.controller.specs.declared.Told.{Told}
 use Rattle.controller.specs.Memory.{lastFits}
+use Rattle.controller.specs.Sender.{waitFits, outFits}
 use Rattle.controller.specs.State.{keptLen, all, runningSound}
 use Rattle.controller.specs.Seconds.{tells}
 
@@ -25,22 +27,24 @@ heldSound s lent =
     (both (leb (s .requested) plansMost)
     (both (leb keptLen lent)
     (both (lastFits (s .last))
+    (both (waitFits (s .wait))
+    (both (outFits (s .wait) (s .out))
     (both (possibleOf (s .receiver .head))
-    (runningSound (s .running))))))
+    (runningSound (s .running))))))))
 
 abbrev pub heldQuiet : Held → ℕ → HeldAnswer
 heldQuiet s n = record { state = s; told = tells n }
 
 -- nothing refused and nothing written, and so many octets dropped
 abbrev pub tellsDropped : ℕ → Told
-tellsDropped n = record { refusal = refusal.none; parameter = 0; event = event.Nothing; count = 0; dropped = n }
+tellsDropped n = record { refusal = refusal.none; parameter = 0; event = event.Nothing; count = 0; dropped = n; link = link.Still }
 
 abbrev pub heldCounted : Held → ℕ → HeldAnswer
 heldCounted s n = record { state = s; told = tellsDropped n }
 
 -- another receiver
 abbrev pub withReceiver : Held → Receiver → Held
-withReceiver s r = record { own = s .own; seq = s .seq; requested = s .requested; receiver = r; last = s .last; running = s .running }
+withReceiver s r = record { own = s .own; seq = s .seq; requested = s .requested; wait = s .wait; receiver = r; last = s .last; out = s .out; running = s .running }
 
 -- one octet more is dropped
 abbrev pub oneDropped : Receiver → Receiver

@@ -1,5 +1,6 @@
 pub mod Held
 pub mod Memory
+pub mod Sender
 pub mod Handling
 pub mod Replies
 pub mod Stepper

@@ -1,63 +1,52 @@
-// 01, "Messages", and 02, E3: "Write the octets straight into the output." The message frame of a reply: its INFO is put together nowhere
-// but there.
+// 01, "Messages": the INFO of each reply. 02, E6: it is put into the octets kept, from which its frame is sent and, where that is wanted, sent again.
 ghost use mathlib.Core.Path.{_≡_};
+ghost use mathlib.Core.List.{_++_};
+ghost use Prim.Native.Nat.{_+_, _≤_};
 ghost use lib.ListN.{length};
-ghost use Rattle.octets.specs.Writing.{WriterLeaves};
-ghost use Rattle.frame.specs.Frame.{message};
-ghost use Rattle.frame.specs.Writer.{writeFrame};
+ghost use Rattle.frame.specs.Frame.{infoMost};
 ghost use Rattle.record.specs.Record.{bookLen, empty, ready};
 ghost use Rattle.checks.specs.Standing.{standingOf};
 ghost use Rattle.plan.specs.Reporting.{timesInfo, planInfo};
 ghost use Rattle.controller.specs.Handling.{answerInfo};
+ghost use Rattle.controller.specs.State.{keptLen};
 ghost use Rattle.controller_calls.specs.Handling.{Reportable};
-ghost use Rattle.controller_calls.specs.Replies.{ReplyWritten};
+ghost use Rattle.controller_calls.specs.Replies.{ReplyPut};
+ghost use Rattle.controller_calls.specs.Sender.{InfoPut};
 use controller::Held;
+use controller::OUT_AT;
 use controller::Reply;
-use frame_calls::writer;
-use octets::Written;
 use plan_calls::book;
 
-// The frame of a reply, with our SEQ and address.
-pub(crate) fn write(s: Held, reply: Reply, book: &[u8], out: &mut [u8], at: usize) -> Written
-    requires { ⌜ (length (now book) ≡ bookLen) × (Reportable s (now book) reply) ⌝ }
-    ensures { λ r. ⌜ ReplyWritten s (now (book .entry)) reply at (now (out .entry)) r (now (out .exit)) ⌝ }
+// The INFO of a reply; how long it is.
+pub(crate) fn put(s: Held, reply: Reply, book: &[u8], kept: &mut [u8]) -> u16
+    requires { ⌜ (length (now book) ≡ bookLen) × (Reportable s (now book) reply) × (keptLen ≤ length (now kept)) ⌝ }
+    ensures { λ r. ⌜ ReplyPut s (now (book .entry)) reply (now (kept .entry)) r (now (kept .exit)) ⌝ }
 {
-    let seq = s.seq;
-    let own = s.own;
     let u = s.running;
     let which = u.which;
     match reply {
-        Reply::CarriedOut(code) => {
-            write_answer(seq, own, message::CARRIED_OUT, code, &[0u8; 0], out, at)
-        }
+        Reply::CarriedOut(code) => put_answer(message::CARRIED_OUT, code, &[0u8; 0], kept),
         Reply::Refused(code, n, parameter) => {
-            write_answer(seq, own, message::REFUSED, code, &[n, parameter], out, at)
+            put_answer(message::REFUSED, code, &[n, parameter], kept)
         }
         Reply::Times(plan) => {
             let lent = book::built_in(which);
             let rec = book::plan_part(book, &lent, plan);
-            write_times(seq, own, rec, plan, out, at)
+            put_times(rec, plan, kept)
         }
         Reply::Plan(plan) => {
             let lent = book::built_in(which);
             let rec = book::plan_part(book, &lent, plan);
-            write_plan(seq, own, rec, plan, message::REPORT_PLAN, out, at)
+            put_plan(rec, plan, message::REPORT_PLAN, kept)
         }
-        Reply::Running => write_plan(seq, own, &u.copy, u.plan, message::REPORT_RUNNING, out, at),
+        Reply::Running => put_plan(&u.copy, u.plan, message::REPORT_RUNNING, kept),
     }
 }
 
 // 0F 80 and 0F 81, by their own code: "code(2)", and behind it the numbers of a refusal.
-fn write_answer(
-    seq: u8,
-    own: u16,
-    answer: u16,
-    code: u16,
-    numbers: &[u8],
-    out: &mut [u8],
-    at: usize,
-) -> Written
-    ensures { λ r. ⌜ WriterLeaves (writeFrame (message seq own (answerInfo answer code (now (numbers .entry)))) at (now (out .entry))) r (now (out .exit)) ⌝ }
+fn put_answer(answer: u16, code: u16, numbers: &[u8], kept: &mut [u8]) -> u16
+    requires { ⌜ (length (now numbers) ≤ 2) × (keptLen ≤ length (now kept)) ⌝ }
+    ensures { λ r. ⌜ InfoPut (answerInfo answer code (now (numbers .entry))) (now (kept .entry)) r (now (kept .exit)) ⌝ }
 {
     let head = [
         octets::high(answer),
@@ -65,13 +54,13 @@ fn write_answer(
         octets::high(code),
         octets::low(code),
     ];
-    writer::write_message_from(seq, own, &head, numbers, out, at)
+    put_parts(&head, numbers, kept)
 }
 
 // 5F C4: "plan, count k, then k times ..". From the count on it is the record's own octets.
-fn write_times(seq: u8, own: u16, rec: &[u8], plan: u8, out: &mut [u8], at: usize) -> Written
-    requires { ⌜ (standingOf (now rec) ≡ empty → ⊥) ⌝ }
-    ensures { λ r. ⌜ WriterLeaves (writeFrame (message seq own (timesInfo (now (rec .entry)) plan)) at (now (out .entry))) r (now (out .exit)) ⌝ }
+fn put_times(rec: &[u8], plan: u8, kept: &mut [u8]) -> u16
+    requires { ⌜ (standingOf (now rec) ≡ empty → ⊥) × (keptLen ≤ length (now kept)) ⌝ }
+    ensures { λ r. ⌜ InfoPut (timesInfo (now (rec .entry)) plan) (now (kept .entry)) r (now (kept .exit)) ⌝ }
 {
     let head = [
         octets::high(message::REPORT_TIMES),
@@ -79,21 +68,13 @@ fn write_times(seq: u8, own: u16, rec: &[u8], plan: u8, out: &mut [u8], at: usiz
         plan,
     ];
     let end = record::times_end(rec);
-    writer::write_message_from(seq, own, &head, &rec[record::COUNT..end], out, at)
+    put_parts(&head, &rec[record::COUNT..end], kept)
 }
 
 // 5F C5 and 5F C8: "plan, direct, phase order, count k, k greens(2), cycle(2), offset(2)". From the greens on it is the record's own octets.
-fn write_plan(
-    seq: u8,
-    own: u16,
-    rec: &[u8],
-    plan: u8,
-    code: u16,
-    out: &mut [u8],
-    at: usize,
-) -> Written
-    requires { ⌜ standingOf (now rec) ≡ ready ⌝ }
-    ensures { λ r. ⌜ WriterLeaves (writeFrame (message seq own (planInfo (now (rec .entry)) plan code)) at (now (out .entry))) r (now (out .exit)) ⌝ }
+fn put_plan(rec: &[u8], plan: u8, code: u16, kept: &mut [u8]) -> u16
+    requires { ⌜ (standingOf (now rec) ≡ ready) × (keptLen ≤ length (now kept)) ⌝ }
+    ensures { λ r. ⌜ InfoPut (planInfo (now (rec .entry)) plan code) (now (kept .entry)) r (now (kept .exit)) ⌝ }
 {
     let head = [
         octets::high(code),
@@ -105,5 +86,16 @@ fn write_plan(
     ];
     let greens = record::greens_at(rec);
     let end = record::ready_end(rec);
-    writer::write_message_from(seq, own, &head, &rec[greens..end], out, at)
+    put_parts(&head, &rec[greens..end], kept)
+}
+
+// INFO in two runs, one behind the other.
+fn put_parts(head: &[u8], rest: &[u8], kept: &mut [u8]) -> u16
+    requires { ⌜ (length (now head) + length (now rest) ≤ infoMost) × (keptLen ≤ length (now kept)) ⌝ }
+    ensures { λ r. ⌜ InfoPut (now (head .entry) ++ now (rest .entry)) (now (kept .entry)) r (now (kept .exit)) ⌝ }
+{
+    let p = octets::put(head, &mut *kept, OUT_AT);
+    octets::put(rest, &mut *kept, p);
+    let n = head.len() + rest.len();
+    n as u16
 }

@@ -1,9 +1,11 @@
 // 01, "Replies", refusal 7: "state handed in is unsound (own address FFFF, requested plan over 48, position outside the cycle,
-// running plan over 48, failing the checks, or numbered 0 and unlike the built-in, impossible decoder place)".
+// running plan over 48, failing the checks, or numbered 0 and unlike the built-in, impossible decoder place)"; 02, E4 and E6: what can't be remembered,
+// T outside 1 to 60 and what can't be out.
 ghost use mathlib.Core.Path.{_≡_};
 ghost use Rattle.frame.specs.Decoder.{possibleOf};
 ghost use Rattle.controller.specs.State.{runningSound};
 ghost use Rattle.controller_calls.specs.Held.{heldSound};
+use crate::frame_out;
 use crate::memory;
 use controller::ALL;
 use controller::Held;
@@ -30,6 +32,13 @@ pub(crate) fn stands(s: Held, lent: usize) -> bool
     }
     let last = s.last;
     if !memory::last_stands(last) {
+        return false;
+    }
+    if !frame_out::wait_stands(s.wait) {
+        return false;
+    }
+    let o = s.out;
+    if !frame_out::out_stands(s.wait, o) {
         return false;
     }
     let h = s.receiver.head;

@@ -1,6 +1,6 @@
 -- What the octets, LEN and CKS of a frame as written are: by its definition; and the writers refuse when, and only when, 01 says so.
 use Prim.Native.Nat.{ℕ, _+_, _-_}
-use mathlib.Core.Path.{_≡_, refl}
+use mathlib.Core.Path.{_≡_, refl, sym, ap, _∙_}
 use mathlib.Core.List.{List, [], _∷_, _++_, append-assoc}
 use native.Mathlib.Omega.{arith}
 use borrow.Author.Tests.{ne-eqb, leb-true, leb-false, le-leb, lt-leb}
@@ -12,7 +12,7 @@ use Rattle.octets.specs.Writing.{Writing, writtenAs}
 use Rattle.octets.proofs.Laws.{pick-by, clash, exclusive-or-closed, word-back}
 use Rattle.frame.specs.Frame.{Frame, message, ack, nak, infoFits, frontOf, bodyOf, sentOf, cksOf, twice, doubled, undoubled, written}
 use Rattle.frame.specs.Writer.{writeFrame}
-use Rattle.frame.specs.Promises.{FramesAsSaid, FrameNumbersAsSaid, LenCounts, CksCovers, FrameWriteJudged, infoWrong, outputShort, stored, FramesWrittenSo}
+use Rattle.frame.specs.Promises.{FramesAsSaid, FrameNumbersAsSaid, LenCounts, CksCovers, FrameWriteJudged, infoWrong, outputShort, stored, FramesWrittenSo, RefusalsForetold}
 use Rattle.frame.proofs.Fitting.{fits-in, in-fits, not-in}
 use Rattle.frame.proofs.Reading.{whole}
 
@@ -75,3 +75,10 @@ module _ (f : Frame) (at : ℕ) (out : List ℕ) where
 
 pub written-so : FramesWrittenSo
 written-so f at out w = (when f at out, λ e. rw e (then′ f at out))
+
+pub refusals-foretold : RefusalsForetold
+refusals-foretold info at out n h seq addr =
+    record { infoWrong = λ g. as-written (infoWrong g); outputShort = λ i l. as-written (outputShort i l); none = λ i l. as-written (stored i l) }
+  where
+    as-written : {w : Writing} → FrameWriteJudged (message seq addr info) at out w → n ≡ w .answer .refusal
+    as-written {w} j = h seq addr ∙ ap (λ (x : Writing). x .answer .refusal) (sym (written-so (message seq addr info) at out w .0 j))

@@ -19,7 +19,7 @@ use Rattle.frame.specs.declared.decoder.Found.{Found}
 use Rattle.frame.specs.declared.decoder.Found.the-variants as found
 use Rattle.frame.specs.Frame.{Frame, message, ack, nak, opener, infoLeast, infoMost, messageLen, ackLen, nakLen, lenOf, doubled, cksOf, undoubled, written}
 use Rattle.frame.specs.Decoder.{Decoder, Taken, possibleOf, freshHead, freshDecoder, idleDrops, infoGoesOn, takenOf, idledOf}
-use Rattle.frame.specs.Writer.{writeFrame}
+use Rattle.frame.specs.Writer.{writeFrame, RefusesMessage}
 use Rattle.frame.specs.Run.{nothing, refused, sound, foundMeans, outcomeOf, outcomes, decoderAfter, AtRest, drops, NothingDropped}
 
 -- What a frame is
@@ -106,6 +106,15 @@ pub data FrameWriteJudged (f : Frame) (at : ℕ) (out : List ℕ) : Writing → 
 -- "When, and only then": refusals 4 and 9.
 abbrev pub FramesWrittenSo : Type 0
 FramesWrittenSo = (f : Frame) (at : ℕ) (out : List ℕ) (w : Writing) → (FrameWriteJudged f at out w → w ≡ writeFrame f at out) × (w ≡ writeFrame f at out → FrameWriteJudged f at out w)
+
+-- What the writer would refuse of a message frame, asked before it writes: n is 4, 9 or none, as above, whatever SEQ and address the frame is to have
+pub record RefusalForetold (seq addr : ℕ) (octets : List ℕ) (at : ℕ) (out : List ℕ) (n : ℕ) : Type 0 where
+  pub infoWrong : (InfoFits (message seq addr octets) → ⊥) → n ≡ 4
+  pub outputShort : InfoFits (message seq addr octets) → length out < at + length (written (message seq addr octets)) → n ≡ 9
+  pub none : InfoFits (message seq addr octets) → at + length (written (message seq addr octets)) ≤ length out → n ≡ 0
+
+abbrev pub RefusalsForetold : Type 0
+RefusalsForetold = (info : List ℕ) (at : ℕ) (out : List ℕ) (n : ℕ) → RefusesMessage info at out n → (seq addr : ℕ) → RefusalForetold seq addr info at out n
 
 -- Octets taken one after another
 

@@ -8,7 +8,7 @@ ghost use Rattle.octets.specs.Choice.{both};
 ghost use Rattle.octets.specs.Put.{Stored};
 ghost use Rattle.frame.specs.Frame.{message, ack, nak, twice, doubled, infoLeast, infoMost};
 ghost use Rattle.octets.specs.Writing.{WriterLeaves, writtenAs};
-ghost use Rattle.frame.specs.Writer.{writeFrame};
+ghost use Rattle.frame.specs.Writer.{writeFrame, RefusesMessage};
 use crate::AA;
 use crate::ACK_LEN;
 use crate::CC;
@@ -25,6 +25,20 @@ pub fn write_message(seq: u8, addr: u16, info: &[u8], out: &mut [u8], at: usize)
     ensures { λ r. ⌜ WriterLeaves (writeFrame (message seq addr (now (info .entry))) at (now (out .entry))) r (now (out .exit)) ⌝ }
 {
     write_message_from(seq, addr, info, &[0u8; 0], out, at)
+}
+
+// What `write_message` would refuse, with nothing written: the caller may have something else to look at first.
+pub fn refuses_message(info: &[u8], out: &[u8], at: usize) -> u8
+    ensures { λ r. ⌜ RefusesMessage (now (info .entry)) at (now (out .entry)) r ⌝ }
+{
+    if !info_fits(info.len(), 0) {
+        return refusal::INFO_WRONG;
+    }
+    let long = MESSAGE_LEN as usize + doubled_len(info);
+    if !octets::room(out.len(), at, long) {
+        return refusal::OUTPUT_SHORT;
+    }
+    refusal::NONE
 }
 
 // A message frame whose INFO stands in two places, one run of octets behind the other: it is put together nowhere but in the output.

@@ -106,6 +106,10 @@ octets-set [] i v h o = tt
 octets-set (x ∷ xs) zero v h o = (h, o .1)
 octets-set (x ∷ xs) (suc i) v h o = (o .0, octets-set xs i v h (o .1))
 
+pub octets-sets : (xs : List ℕ) (i : ℕ) (vs : List ℕ) → Octets xs → Octets vs → Octets (sets xs i vs)
+octets-sets xs i [] o q = o
+octets-sets xs i (v ∷ vs) o q = octets-sets (set xs i v) (suc i) vs (octets-set xs i v (q .0) o) (q .1)
+
 pub octets-zero : (n : ℕ) → Octets (replicate n 0)
 octets-zero zero = tt
 octets-zero (suc n) = (omega arith, octets-zero n)

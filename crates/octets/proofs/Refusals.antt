@@ -3,4 +3,4 @@ use mathlib.Core.Path.{refl}
 use Rattle.octets.specs.Refusal.{RefusalsAsSaid}
 
 pub refusals-as-said : RefusalsAsSaid
-refusals-as-said = (refl, refl, refl, refl, refl, refl, refl, refl, refl, refl, refl, refl, refl, refl, refl)
+refusals-as-said = (refl, refl, refl, refl, refl, refl, refl, refl, refl, refl, refl, refl, refl, refl, refl, refl, refl)

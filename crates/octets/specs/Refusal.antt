@@ -61,8 +61,17 @@ notReady = 13
 abbrev pub disagree : ℕ
 disagree = 14
 
--- Each has the number of its row in 01's table: no statement that names one can mean another.
+-- 02, E6: "15 (sender busy)"
+abbrev pub senderBusy : ℕ
+senderBusy = 15
+
+-- "17 (T outside 1 to 60), at the start only"
+abbrev pub waitWrong : ℕ
+waitWrong = 17
+
+-- Each has the number of its row in 01's table, or 02's: no statement that names one can mean another.
 abbrev pub RefusalsAsSaid : Type 0
 RefusalsAsSaid =
     (none ≡ 0) × (cksWrong ≡ 1) × (closingWrong ≡ 2) × (lenWrong ≡ 3) × (infoWrong ≡ 4) × (fieldWrong ≡ 5) × (startWrong ≡ 6) × (stateUnsound ≡ 7)
     × (bookWrong ≡ 8) × (outputShort ≡ 9) × (codeNotHandled ≡ 10) × (infoLengthWrong ≡ 11) × (outOfRange ≡ 12) × (notReady ≡ 13) × (disagree ≡ 14)
+    × (senderBusy ≡ 15) × (waitWrong ≡ 17)

@@ -31,3 +31,8 @@ pub const OUT_OF_RANGE: u8 = 12;
 pub const NOT_READY: u8 = 13;
 
 pub const DISAGREE: u8 = 14;
+
+// 02, E6: of an offer, and of a start.
+pub const SENDER_BUSY: u8 = 15;
+
+pub const WAIT_WRONG: u8 = 17;

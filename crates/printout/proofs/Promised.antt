@@ -7,7 +7,7 @@ use mathlib.Core.List.{List, [], _∷_, append-assoc}
 use native.Mathlib.Decide.{decLt, ℕ-discrete}
 use native.Mathlib.Omega.{arith}
 use borrow.Author.Tests.{eq-eqb, ne-eqb, eqb-true}
-use lib.Dec.{eqb}
+use lib.Dec.{eqb, leb}
 use lib.ListN.{length, take}
 use Rattle.octets.specs.Choice.{pick, both}
 use Rattle.octets.specs.ExclusiveOr.{xor, exclusiveOr}
@@ -33,19 +33,22 @@ use Rattle.lamps.specs.Rows.{phaseTable, secondsOf, rowAt}
 use Rattle.lamps.specs.Rows as lamps
 use Rattle.lamps.specs.declared.Row.{Row}
 use Rattle.lamps.proofs.Second.{lamps-of-step, dark-past}
+use Rattle.controller.specs.declared.Link.{Link}
+use Rattle.controller.specs.declared.Link.the-variants as link
 use Rattle.controller.specs.Memory.{isRepeat, remembering}
-use Rattle.controller.specs.State.{State, freshOf, runningSound, soundOf}
+use Rattle.controller.specs.Sender.{outFits, sending, againTurn, nakTurn, secondTurn}
+use Rattle.controller.specs.State.{State, outputLen, freshOf, runningSound, soundOf}
 use Rattle.controller.specs.Handling.{replyInfo, handlingOf}
-use Rattle.controller.specs.Replies.{repliedOf, acceptedOf, messageOf, memoryOf, doneOf, octetOf}
+use Rattle.controller.specs.Replies.{repliedOf, acceptedOf, metWithSilence, messageOf, answeredOf, memoryOf, doneOf, octetOf}
 use Rattle.controller.specs.Seconds.{Shown, movedOn, noSecond, secondOf}
 use Rattle.text.specs.Text.{digits, placesWithin, places, decimal, blankHex2, spaced, octetsHex}
 use Rattle.text.proofs.Means.{hex-means}
 use Rattle.line.specs.Line as line
 use Rattle.line.specs.Promises.{founds, lineAfter, foundIn}
-use Rattle.printout.specs.Listing.{header, field, wordText, numbers, secondLine, replyLine, badLine}
+use Rattle.printout.specs.Listing.{header, field, wordText, numbers, secondLine, octetsLine, replyLine, againLine, octetLine, badLine}
 use Rattle.printout.specs.declared.Asked.the-variants.{Start, Unknown}
-use Rattle.printout.specs.Run.{isOld, startAsked, runStart, secondSaid, badSaid, octetMade, lineMade, listingFrom, listingOf}
-use Rattle.printout.specs.Promises.{WordWhole, WordsWhole, SecondPrinted, ReplyPrinted, none, some, LinesPrint, StartsAsked, ListingBegins, TwoSeconds, ReplyAndBad}
+use Rattle.printout.specs.Run.{isOld, startAsked, runStart, secondMade, badSaid, octetMade, lineMade, listingFrom, listingOf}
+use Rattle.printout.specs.Promises.{WordWhole, WordsWhole, SecondPrinted, ReplyPrinted, none, some, AgainPrinted, nothing, again, WrittenPrinted, LinesPrint, StartsAsked, ListingBegins, TwoSeconds, ReplyAndBad, SentAgain}
 
 -- Words
 
@@ -63,15 +66,16 @@ row-fits rec p =
       | no h ↦ let d = dark-past rec p (omega arith) in (rw (d .steady) (omega arith), rw (d .flashing) (omega arith))
     ]
 
-second-fits : (s : State) (book : List ℕ) → Fits (secondOf s book .row)
+second-fits : (s : State) (book out : List ℕ) → Fits (secondOf s book out .row)
 unfolding secondOf noSecond
-second-fits s book =
+second-fits s book out =
     let P : Shown → Type 0 = λ w. Fits (w .row) in
     pick-by P (not (soundOf s)) (λ _. (omega arith, omega arith))
-    (λ _. pick-by P (not (eqb (length book) bookLen)) (λ _. (omega arith, omega arith)) (λ _. row-fits (s .running .copy) (s .running .position)))
+    (λ _. pick-by P (not (eqb (length book) bookLen)) (λ _. (omega arith, omega arith))
+    (λ _. pick-by P (not (leb outputLen (length out))) (λ _. (omega arith, omega arith)) (λ _. row-fits (s .running .copy) (s .running .position))))
 
 pub words-whole : WordsWhole
-words-whole s book = let f = second-fits s book in (whole (secondOf s book .row .steady) (f .0), whole (secondOf s book .row .flashing) (f .1))
+words-whole s book out = let f = second-fits s book out in (whole (secondOf s book out .row .steady) (f .0), whole (secondOf s book out .row .flashing) (f .1))
 
 -- What each line does and prints
 
@@ -87,17 +91,48 @@ second-printed n plan row f =
     }
 
 pub reply-printed : (xs : List ℕ) (n : ℕ) → ReplyPrinted xs n (replyLine xs n)
-unfolding replyLine
+unfolding octetsLine replyLine
 reply-printed [] n = none
 reply-printed (x ∷ xs) n = some
 
+pub again-printed : (xs : List ℕ) → AgainPrinted xs (againLine xs)
+unfolding octetsLine againLine
+again-printed [] = nothing
+again-printed (x ∷ xs) = again
+
+octet-printed : (l : Link) (xs : List ℕ) (n : ℕ) → WrittenPrinted l xs n (octetLine l xs n)
+unfolding octetLine
+octet-printed link.Again xs n = again-printed xs
+octet-printed link.Still xs n = reply-printed xs n
+octet-printed link.Heard xs n = reply-printed xs n
+octet-printed link.Down xs n = reply-printed xs n
+
 pub lines-print : LinesPrint
-unfolding lineMade secondSaid badSaid badLine octetMade
+unfolding lineMade secondMade badSaid badLine octetMade
 lines-print s n b o =
     record {
-      second = record { state = refl; seconds = refl; line = second-printed n (secondOf s b .plan) (secondOf s b .row) (second-fits s b); book = refl; out = refl };
+      second = let w = secondOf s b o in
+          record {
+            state = refl;
+            seconds = refl;
+            line = record {
+              first = secondLine n (w .plan) (w .row);
+              behind = againLine (take (w .told .count) (w .out));
+              joined = refl;
+              firstSo = second-printed n (w .plan) (w .row) (second-fits s b o);
+              behindSo = again-printed (take (w .told .count) (w .out));
+            };
+            book = refl;
+            out = refl;
+          };
       octet = λ x. let w = octetOf s b o x in
-          record { state = refl; seconds = refl; line = reply-printed (take (w .answer .told .count) (w .out)) (w .answer .told .dropped); book = refl; out = refl };
+          record {
+            state = refl;
+            seconds = refl;
+            line = octet-printed (w .answer .told .link) (take (w .answer .told .count) (w .out)) (w .answer .told .dropped);
+            book = refl;
+            out = refl;
+          };
       bad = λ k. record { state = refl; seconds = refl; line = refl; book = refl; out = refl };
       more = record { state = refl; seconds = refl; line = refl; book = refl; out = refl };
     }
@@ -140,9 +175,13 @@ listing-begins which = record { state = λ kept. refl; seconds = refl; used = re
 -- 01's listing
 
 pub two-seconds : TwoSeconds
-unfolding firstOf diagram.find table.directory diagram.diagramOf table.lampRows diagram.rowNumber diagram.lampRowOf freshHead possibleOf layouts layoutAt known numberOf rowsAt message.layoutRows zeros placed firstOut noMessage notRead partOf rangedOf readPartOf readOf timesDisagree planDisagree ranged timesStand planStands readyStands allZero standingOf padded builtIn same phaseTable secondsOf lamps.countedDown lamps.rowsFrom lamps.rowsOf rowAt freshOf runningSound soundOf movedOn secondOf digits line.lineOctet line.endOf founds lineAfter foundIn header placesWithin places decimal field wordText numbers secondLine secondSaid lineMade listingFrom listingOf
+unfolding firstOf diagram.find table.directory diagram.diagramOf table.lampRows diagram.rowNumber diagram.lampRowOf freshHead possibleOf layouts layoutAt known numberOf rowsAt message.layoutRows zeros placed firstOut noMessage notRead partOf rangedOf readPartOf readOf timesDisagree planDisagree ranged timesStand planStands readyStands allZero standingOf padded builtIn same phaseTable secondsOf lamps.countedDown lamps.rowsFrom lamps.rowsOf rowAt outFits secondTurn freshOf runningSound soundOf movedOn secondOf digits line.lineOctet line.endOf founds lineAfter foundIn header placesWithin places decimal field wordText numbers secondLine octetsLine againLine secondMade lineMade listingFrom listingOf
 two-seconds = (refl, refl)
 
 pub reply-and-bad : ReplyAndBad
-unfolding xor exclusiveOr firstOf diagram.find table.directory diagram.diagramOf table.lampRows diagram.rowNumber diagram.lampRowOf frontOf bodyOf sentOf cksOf twice doubled written freshHead possibleOf frontIn cksIn stepOf takenOf openOf stopped numberThen countedOf layouts layoutAt known numberOf rowsAt message.layoutRows zeros placed firstOut noMessage notRead partOf rangedOf readPartOf readOf timesDisagree planDisagree ranged timesStand planStands readyStands allZero standingOf padded builtIn same planInfo phaseTable secondsOf freshOf runningSound soundOf replyInfo handlingOf repliedOf isRepeat remembering acceptedOf messageOf memoryOf doneOf octetOf digits line.hexOf line.lineOctet line.endOf founds lineAfter foundIn header placesWithin places decimal blankHex2 spaced octetsHex replyLine badLine octetMade badSaid lineMade listingFrom listingOf
+unfolding xor exclusiveOr firstOf diagram.find table.directory diagram.diagramOf table.lampRows diagram.rowNumber diagram.lampRowOf frontOf bodyOf sentOf cksOf twice doubled written freshHead possibleOf frontIn cksIn stepOf takenOf openOf stopped numberThen countedOf layouts layoutAt known numberOf rowsAt message.layoutRows zeros placed firstOut noMessage notRead partOf rangedOf readPartOf readOf timesDisagree planDisagree ranged timesStand planStands readyStands allZero standingOf padded builtIn same planInfo phaseTable secondsOf outFits sending freshOf runningSound soundOf replyInfo handlingOf repliedOf isRepeat remembering acceptedOf metWithSilence messageOf memoryOf doneOf octetOf digits line.hexOf line.lineOctet line.endOf founds lineAfter foundIn header placesWithin places decimal blankHex2 spaced octetsHex octetsLine replyLine octetLine badLine octetMade badSaid lineMade listingFrom listingOf
 reply-and-bad = (refl, refl)
+
+pub sent-again : SentAgain
+unfolding xor exclusiveOr firstOf diagram.find table.directory diagram.diagramOf table.lampRows diagram.rowNumber diagram.lampRowOf frontOf bodyOf sentOf cksOf twice doubled written freshHead possibleOf frontIn cksIn stepOf takenOf openOf stopped numberThen countedOf layouts layoutAt known numberOf rowsAt message.layoutRows zeros placed firstOut noMessage notRead partOf rangedOf readPartOf readOf timesDisagree planDisagree ranged timesStand planStands readyStands allZero standingOf padded builtIn same planInfo phaseTable secondsOf outFits sending freshOf runningSound soundOf replyInfo handlingOf repliedOf isRepeat acceptedOf metWithSilence messageOf memoryOf doneOf octetOf digits line.hexOf line.lineOctet line.endOf founds lineAfter foundIn header placesWithin places decimal blankHex2 spaced octetsHex octetsLine replyLine octetLine octetMade lineMade listingFrom listingOf lamps.countedDown lamps.rowsFrom lamps.rowsOf rowAt secondTurn movedOn secondOf field wordText numbers secondLine againLine secondMade againTurn nakTurn answeredOf remembering
+sent-again = refl

@@ -8,20 +8,21 @@ use Rattle.text.specs.Text.{ascii, decimal}
 use Rattle.lamps.specs.declared.Row.{Row}
 use Rattle.controller.specs.State.{joined}
 use Rattle.printout.specs.declared.Run.{Run}
-use Rattle.printout.specs.Listing.{lineMost, header, secondLine, replyLine, badLine}
+use Rattle.printout.specs.Listing.{lineMost, header, secondLine, replyLine, againLine, badLine}
 use Rattle.printout.specs.Run.{textMost, Making, Listed}
-use Rattle.printout.specs.Promises.{SecondPrinted, ReplyPrinted}
+use Rattle.printout.specs.Promises.{SecondPrinted, ReplyPrinted, AgainPrinted}
 
 -- The texts
 
--- "It prints a header", the columns of a second, a reply and the octets dropped, "for a bad line `bad`, tab, its number"; and the most octets of a line
+-- "It prints a header", the columns of a second, a reply and the octets dropped, a resend, "for a bad line `bad`, tab, its number"; and the most octets of a line
 pub record EachPut : Type 0 where
   pub header : header ≡ ascii "second\tplan\tstep\tleft\tsteady\tflashing\n"
   pub second : (n plan : ℕ) (row : Row) → row .steady < 2 ^ 64 → row .flashing < 2 ^ 64 → SecondPrinted n plan row (secondLine n plan row)
   pub reply : (os : List ℕ) (n : ℕ) → ReplyPrinted os n (replyLine os n)
+  pub again : (os : List ℕ) → AgainPrinted os (againLine os)
   pub bad : (n : ℕ) → badLine n ≡ ascii "bad\t" ++ decimal n ++ 0x0A ∷ []
   pub lineMost : lineMost ≡ 118
-  pub textMost : textMost ≡ 1644
+  pub textMost : textMost ≡ 1756
 
 abbrev pub PutsAsSaid : Type 0
 PutsAsSaid = EachPut
@@ -29,13 +30,13 @@ PutsAsSaid = EachPut
 -- What a line leaves
 
 -- the run r, the octets k that were lent, the book b and the output o are those that the line makes, and its text, never longer than
--- 1,644, is put behind what was used
+-- 1,756, is put behind what was used
 pub record Left (m : Making) (lent : List ℕ) (used : ℕ) (t : List ℕ) (r : Run) (k b o t′ : List ℕ) : Type 0 where
   pub state : joined (r .state) k ≡ m .said .state
-  pub octets : k ≡ m .said .state .decoder .info ++ (m .said .state .memory .info ++ drop 512 lent)
+  pub octets : k ≡ m .said .state .decoder .info ++ (m .said .state .memory .info ++ (m .said .state .sender .info ++ drop 768 lent))
   pub seconds : r .seconds ≡ m .said .seconds
   pub text : PutSo (m .said .text) used t (r .used) t′
-  pub short : length (m .said .text) ≤ 1644
+  pub short : length (m .said .text) ≤ 1756
   pub book : b ≡ m .book
   pub out : o ≡ m .out
 

@@ -13,6 +13,7 @@ use Rattle.plan.specs.declared.Which.{Which}
 use Rattle.plan.specs.declared.Which.the-variants.{New, Old}
 use Rattle.plan.specs.BuiltIn.{builtIn}
 use Rattle.controller.specs.Memory.{noneAccepted}
+use Rattle.controller.specs.Sender.{noneOut}
 use Rattle.controller.specs.State.{State, joined, keptLen, outputLen, startedAt, freshOf}
 use Rattle.controller.specs.Replies.{octetOf}
 use Rattle.controller.specs.Seconds.{secondOf}
@@ -23,16 +24,20 @@ use Rattle.line.specs.Promises.{foundIn}
 use Rattle.printout.specs.declared.Run.{Run}
 use Rattle.printout.specs.declared.Asked.{Asked}
 use Rattle.printout.specs.declared.Asked.the-variants.{Start, Unknown}
-use Rattle.printout.specs.Listing.{header, secondLine, replyLine, badLine}
+use Rattle.printout.specs.Listing.{header, secondLine, againLine, octetLine, badLine}
 
 -- "starts fresh at address 0001"
 abbrev pub own : ℕ
 own = 0x0001
 
+-- 02, E6: "The listing has T = 10"
+abbrev pub listingWait : ℕ
+listingWait = 10
+
 unfoldable pub runStart : Which → Run
 runStart which =
     record {
-      state = record { own = own; seq = 0; requested = 0; receiver = freshReceiver; last = noneAccepted; running = startedAt which 0 (builtIn which) };
+      state = record { own = own; seq = 0; requested = 0; wait = listingWait; receiver = freshReceiver; last = noneAccepted; out = noneOut; running = startedAt which 0 (builtIn which) };
       seconds = 0;
       used = 0;
     }
@@ -46,10 +51,10 @@ isOld word = both (eqb (length word) 3) (both (eqb (getD word 0 0) 0x6F) (both (
 unfoldable pub startAsked : ℕ → List ℕ → Asked
 startAsked words word = pick (eqb words 0) (Start New) (pick (both (eqb words 1) (isOld word)) (Start Old) Unknown)
 
--- no line adds more: three places for each of the 544 octets of the longest reply, and six; 02, E5: a tab, and five digits, since "The number
--- stops at 65,535"
+-- no line of the input adds more: 118 places of a second's line, and behind it six and three for each of the 544 octets that a resend can have; a
+-- reply, with a tab, five digits and no second's line before it, has fewer
 abbrev pub textMost : ℕ
-textMost = 1644
+textMost = 1756
 
 -- the state and the seconds so far after a line, and the text that it adds
 pub record Saying : Type 0 where
@@ -78,11 +83,16 @@ pub record Listed (m : Making) (lent : List ℕ) (used : ℕ) (t : List ℕ) (r 
   pub book : b ≡ m .book
   pub out : o ≡ m .out
 
--- "`T` is a second": the line has the seconds before it, modulo 2^64, and what the second call answers
-unfoldable pub secondSaid : State → ℕ → List ℕ → Saying
-secondSaid s n book =
-    let w = secondOf s book in
-    record { state = w .state; seconds = (n + 1) % 2 ^ 64; text = secondLine n (w .plan) (w .row) }
+-- "`T` is a second": the line has the seconds before it, modulo 2^64, and what the second call answers; 02, E6: "prints a resend .. after its T line":
+-- what the call wrote is the first of the output
+unfoldable pub secondMade : State → ℕ → List ℕ → List ℕ → Making
+secondMade s n book out =
+    let w = secondOf s book out in
+    record {
+      said = record { state = w .state; seconds = (n + 1) % 2 ^ 64; text = secondLine n (w .plan) (w .row) ++ againLine (take (w .told .count) (w .out)) };
+      book = book;
+      out = w .out;
+    }
 
 -- "for a bad line": no call
 unfoldable pub badSaid : State → ℕ → ℕ → Saying
@@ -92,12 +102,12 @@ badSaid s n number = record { state = s; seconds = n; text = badLine number }
 abbrev pub BadWith : Run → ℕ → List ℕ → Run → List ℕ → Type 0
 BadWith run number t r t′ = (kept : List ℕ) → Said (badSaid (joined (run .state) kept) (run .seconds) number) kept (run .used) t r t′
 
--- "an octet": what the octet call wrote is the first of the output, and the number of octets dropped is the one that it told
+-- "an octet": what the octet call wrote is the first of the output, and the number of octets dropped and how the link stands are what it told
 unfoldable pub octetMade : State → ℕ → List ℕ → List ℕ → ℕ → Making
 octetMade s n book out b =
     let w = octetOf s book out b in
     record {
-      said = record { state = w .answer .state; seconds = n; text = replyLine (take (w .answer .told .count) (w .out)) (w .answer .told .dropped) };
+      said = record { state = w .answer .state; seconds = n; text = octetLine (w .answer .told .link) (take (w .answer .told .count) (w .out)) (w .answer .told .dropped) };
       book = w .book;
       out = w .out;
     }
@@ -105,7 +115,7 @@ octetMade s n book out b =
 -- by what the line was
 unfoldable pub lineMade : LineFound → State → ℕ → List ℕ → List ℕ → Making
 lineMade found.More s n book out = record { said = record { state = s; seconds = n; text = [] }; book = book; out = out }
-lineMade found.Second s n book out = record { said = secondSaid s n book; book = book; out = out }
+lineMade found.Second s n book out = secondMade s n book out
 lineMade (found.Octet b) s n book out = octetMade s n book out b
 lineMade (found.Bad k) s n book out = record { said = badSaid s n k; book = book; out = out }
 
@@ -119,4 +129,4 @@ listingFrom s n book out (f ∷ fs) =
 
 -- "starts fresh at address 0001 with an empty book"; the octets that are lent are 0 at first
 unfoldable pub listingOf : Which → List ℕ → List ℕ
-listingOf which input = header ++ listingFrom (freshOf which own (replicate keptLen 0)) 0 emptyBook (replicate outputLen 0) (foundIn firstLine input)
+listingOf which input = header ++ listingFrom (freshOf which own listingWait (replicate keptLen 0)) 0 emptyBook (replicate outputLen 0) (foundIn firstLine input)

@@ -8,6 +8,7 @@ use Rattle.printout.specs.declared.Run.{Run}
 use Rattle.printout_calls.proofs.put_header.Reads as put-header
 use Rattle.printout_calls.proofs.put_second.Reads as put-second
 use Rattle.printout_calls.proofs.put_reply.Reads as put-reply
+use Rattle.printout_calls.proofs.put_again.Reads as put-again
 use Rattle.printout_calls.proofs.put_bad.Reads as put-bad
 use Rattle.printout_calls.proofs.run.start_asked.Reads as start-asked
 use Rattle.printout_calls.proofs.run.run_start.Reads as run-start
@@ -16,11 +17,14 @@ use Rattle.printout_calls.proofs.run.on_line.Reads as on-line
 only-put-header : (κs : _) (a : _) (r s : _) (x y : _) → put-header.Post κs a r x → put-header.Post κs a s y → (r ≡ s) × (now (x .0) ≡ now (y .0))
 only-put-header κs a r s x y p q = (p .place ∙ sym (q .place), p .holds ∙ sym (q .holds))
 
-only-put-second : (κs : _) (a : _) (r s : _) (x y : _) → put-second.Post κs a r x → put-second.Post κs a s y → (r ≡ s) × (now (x .1 .1 .1 .0) ≡ now (y .1 .1 .1 .0))
+only-put-second : (κs : _) (a : _) (r s : _) (x y : _) → put-second.Post κs a r x → put-second.Post κs a s y → (r ≡ s) × (now (x .1 .1 .1 .1 .0) ≡ now (y .1 .1 .1 .1 .0))
 only-put-second κs a r s x y p q = (p .0 .place ∙ sym (q .0 .place), p .0 .holds ∙ sym (q .0 .holds))
 
 only-put-reply : (κs : _) (a : _) (r s : _) (x y : _) → put-reply.Post κs a r x → put-reply.Post κs a s y → (r ≡ s) × (now (x .1 .1 .0) ≡ now (y .1 .1 .0))
 only-put-reply κs a r s x y p q = (p .place ∙ sym (q .place), p .holds ∙ sym (q .holds))
+
+only-put-again : (κs : _) (a : _) (r s : _) (x y : _) → put-again.Post κs a r x → put-again.Post κs a s y → (r ≡ s) × (now (x .1 .0) ≡ now (y .1 .0))
+only-put-again κs a r s x y p q = (p .place ∙ sym (q .place), p .holds ∙ sym (q .holds))
 
 only-put-bad : (κs : _) (a : _) (r s : _) (x y : _) → put-bad.Post κs a r x → put-bad.Post κs a s y → (r ≡ s) × (now (x .1 .0) ≡ now (y .1 .0))
 only-put-bad κs a r s x y p q = (p .0 .place ∙ sym (q .0 .place), p .0 .holds ∙ sym (q .0 .holds))

@@ -7,12 +7,15 @@ ghost use Prim.Native.Nat.{_+_, _≤_};
 ghost use mathlib.Core.List.{[], _∷_, _++_};
 ghost use lib.ListN.{length};
 ghost use Rattle.octets.specs.Put.{Put, Stored};
-ghost use Rattle.text.specs.Text.{ascii, octetsHex};
-ghost use Rattle.printout.specs.Listing.{lineMost, fieldMost, wordMost, tailMost, header, field, numbers, wordText, secondLine, replyTail, replyLine, badLine};
+ghost use Rattle.text.specs.Text.{octetsHex};
+ghost use Rattle.printout.specs.Listing.{lineMost, fieldMost, wordMost, tailMost, header, field, numbers, wordText, secondLine, octetsLine, replyTail, replyLine, againLine, badLine};
 use lamps::Row;
 
 // The longest line of a second: four numbers of 20 digits and a tab, two words of sixteen digits and what follows each.
 const LINE_MOST: usize = 118;
+
+// The same and, behind it, the word of a resend and its tab.
+const HEAD_MOST: usize = 124;
 
 // The longest end of a reply's line: a tab, five digits and a line feed.
 const TAIL_MOST: usize = 7;
@@ -24,13 +27,13 @@ pub fn put_header(out: &mut [u8], at: usize) -> usize
     octets::put(b"second\tplan\tstep\tleft\tsteady\tflashing\n", out, at)
 }
 
-// "for each T one line (seconds so far, plan, step, left, steady and flashing ..)".
-pub fn put_second(n: u64, plan: u8, row: Row, out: &mut [u8], at: usize) -> usize
-    ensures { λ r. ⌜ Put (secondLine n plan row) at (now (out .entry)) r (now (out .exit)) × (length (secondLine n plan row) ≤ lineMost) ⌝ }
+// "for each T one line (seconds so far, plan, step, left, steady and flashing ..)"; 02, E6: and behind it that of a resend, of the octets in `again`.
+pub fn put_second(n: u64, plan: u8, row: Row, again: &[u8], out: &mut [u8], at: usize) -> usize
+    ensures { λ r. ⌜ Put (secondLine n plan row ++ againLine (now (again .entry))) at (now (out .entry)) r (now (out .exit)) × (length (secondLine n plan row) ≤ lineMost) ⌝ }
 {
     let mut line = [0u8; LINE_MOST];
     let end = store_second(n, plan, row, &mut line);
-    octets::put(&line[..end], out, at)
+    put_with_again(&line[..end], again, out, at)
 }
 
 // "for each call that wrote a reply `reply`, tab, octets in hex with spaces": a call that wrote none has no line. 02, E5: the number of octets
@@ -38,22 +41,16 @@ pub fn put_second(n: u64, plan: u8, row: Row, out: &mut [u8], at: usize) -> usiz
 pub fn put_reply(s: &[u8], n: u16, out: &mut [u8], at: usize) -> usize
     ensures { λ r. ⌜ Put (replyLine (now (s .entry)) n) at (now (out .entry)) r (now (out .exit)) ⌝ }
 {
-    if s.len() == 0 {
-        return at;
-    }
     let mut tail = [0u8; TAIL_MOST];
     let end = store_tail(n, &mut tail);
-    if out.len() < at {
-        return at;
-    }
-    if out.len() - at < end {
-        return at;
-    }
-    // Before the tail, three places for each octet but the last, which has no blank after it, and six for the word and its tab.
-    if (out.len() - at - end + 1) / 3 < s.len() + 2 {
-        return at;
-    }
-    store_reply(s, &tail[..end], out, at)
+    put_line(b"reply\t", s, &tail[..end], out, at)
+}
+
+// 02, E6: "prints a resend as `again`, tab, octets".
+pub fn put_again(s: &[u8], out: &mut [u8], at: usize) -> usize
+    ensures { λ r. ⌜ Put (againLine (now (s .entry))) at (now (out .entry)) r (now (out .exit)) ⌝ }
+{
+    put_line(b"again\t", s, b"\n", out, at)
 }
 
 // "for a bad line `bad`, tab, its number from 1".
@@ -63,6 +60,44 @@ pub fn put_bad(n: u64, out: &mut [u8], at: usize) -> usize
     let mut line = [0u8; LINE_MOST];
     let end = store_bad(n, &mut line);
     octets::put(&line[..end], out, at)
+}
+
+// A second's line and the resend's, both or none.
+fn put_with_again(line: &[u8], again: &[u8], out: &mut [u8], at: usize) -> usize
+    requires { ⌜ length (now line) ≤ lineMost ⌝ }
+    ensures { λ r. ⌜ Put (now (line .entry) ++ againLine (now (again .entry))) at (now (out .entry)) r (now (out .exit)) ⌝ }
+{
+    if again.len() == 0 {
+        return octets::put(line, out, at);
+    }
+    let mut head = [0u8; HEAD_MOST];
+    let p = octets::put(line, &mut head, 0);
+    let end = octets::put(b"again\t", &mut head, p);
+    put_line(&head[..end], again, b"\n", out, at)
+}
+
+// Octets with what stands before and behind them in their line; where there are none there is no line.
+fn put_line(head: &[u8], s: &[u8], tail: &[u8], out: &mut [u8], at: usize) -> usize
+    ensures { λ r. ⌜ Put (octetsLine (now (head .entry)) (now (s .entry)) (now (tail .entry))) at (now (out .entry)) r (now (out .exit)) ⌝ }
+{
+    if s.len() == 0 {
+        return at;
+    }
+    if out.len() < at {
+        return at;
+    }
+    let room = out.len() - at;
+    if room < head.len() {
+        return at;
+    }
+    if room - head.len() < tail.len() {
+        return at;
+    }
+    // Three places for each octet but the last, which has no blank after it.
+    if (room - head.len() - tail.len() + 1) / 3 < s.len() {
+        return at;
+    }
+    store_line(head, s, tail, out, at)
 }
 
 fn store_second(n: u64, plan: u8, row: Row, line: &mut [u8]) -> usize
@@ -112,11 +147,11 @@ fn store_tail(n: u16, tail: &mut [u8]) -> usize
     octets::put(b"\n", tail, q)
 }
 
-fn store_reply(s: &[u8], tail: &[u8], out: &mut [u8], at: usize) -> usize
-    requires { ⌜ at + length (ascii "reply\t" ++ octetsHex (now s) ++ now tail) ≤ length (now out) ⌝ }
-    ensures { λ r. ⌜ Stored (ascii "reply\t" ++ octetsHex (now (s .entry)) ++ now (tail .entry)) at (now (out .entry)) r (now (out .exit)) ⌝ }
+fn store_line(head: &[u8], s: &[u8], tail: &[u8], out: &mut [u8], at: usize) -> usize
+    requires { ⌜ at + length (now head ++ octetsHex (now s) ++ now tail) ≤ length (now out) ⌝ }
+    ensures { λ r. ⌜ Stored (now (head .entry) ++ octetsHex (now (s .entry)) ++ now (tail .entry)) at (now (out .entry)) r (now (out .exit)) ⌝ }
 {
-    let p = octets::put(b"reply\t", &mut *out, at);
+    let p = octets::put(head, &mut *out, at);
     let q = text::put_octets(s, &mut *out, p);
     octets::put(tail, out, q)
 }

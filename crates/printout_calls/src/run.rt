@@ -1,23 +1,22 @@
 // 01, "Cases": the listing itself: its start, what each line of the input does to the controller, and the text that it adds.
 ghost use mathlib.Core.Path.{_≡_};
 ghost use Rattle.controller.specs.State.{joined};
-ghost use Rattle.controller.specs.Seconds.{startedOf, StartsWith, secondOf, shownWith};
-ghost use Rattle.printout.specs.Run.{own, Said, Listed, isOld, startAsked, runStart, secondSaid, BadWith, octetMade, lineMade};
-use controller::Event;
-use controller::Held;
+ghost use Rattle.controller.specs.Seconds.{startedOf, StartsWith};
+ghost use Rattle.octets.specs.Put.{Put};
+ghost use Rattle.printout.specs.Listing.{octetLine};
+ghost use Rattle.printout.specs.Run.{own, listingWait, Listed, isOld, startAsked, runStart, secondMade, BadWith, octetMade, lineMade};
 use controller::HeldAnswer;
-use controller::HeldShown;
-use controller::KEPT_LEN;
-use controller::Told;
-use lamps::NO_ROW;
+use controller::Link;
 use line::LineFound;
-use octets::refusal;
 use plan::Which;
 use printout::Asked;
 use printout::Run;
 
 // "The listing program starts fresh at address 0001".
 const OWN: u16 = 0x0001;
+
+// 02, E6: "The listing has T = 10".
+const WAIT: u8 = 10;
 
 // The octets of the one word that the program knows, `old`.
 pub const WORD_LEN: usize = 3;
@@ -68,11 +67,11 @@ pub fn run_start(which: Which) -> Run
 }
 
 fn started(which: Which) -> HeldAnswer
-    ensures { λ r. ⌜ StartsWith (startedOf which own) r ⌝ }
+    ensures { λ r. ⌜ StartsWith (startedOf which own listingWait) r ⌝ }
 {
     match which {
-        Which::New => controller_calls::fresh(OWN),
-        Which::Old => controller_calls::fresh_old(OWN),
+        Which::New => controller_calls::fresh(OWN, WAIT),
+        Which::Old => controller_calls::fresh_old(OWN, WAIT),
     }
 }
 
@@ -89,50 +88,30 @@ pub fn on_line(
 {
     match f {
         LineFound::More => run,
-        LineFound::Second => on_second(run, &*kept, book, text),
+        LineFound::Second => on_second(run, &*kept, &*book, out, text),
         LineFound::Octet(b) => on_octet(run, b, kept, book, out, text),
         LineFound::Bad(n) => on_bad(run, n, text),
     }
 }
 
-// "`T` is a second": the second call, with the book as it is.
-fn on_second(run: Run, kept: &[u8], book: &[u8], text: &mut [u8]) -> Run
-    ensures { λ r. ⌜ Said (secondSaid (joined (run .state) (now (kept .entry))) (run .seconds) (now (book .entry))) (now (kept .entry)) (run .used) (now (text .entry)) r (now (text .exit)) ⌝ }
+// "`T` is a second": the second call, with the book as it is; 02, E6: and what it sent again.
+fn on_second(run: Run, kept: &[u8], book: &[u8], out: &mut [u8], text: &mut [u8]) -> Run
+    ensures { λ r. ⌜ Listed (secondMade (joined (run .state) (now (kept .entry))) (run .seconds) (now (book .entry)) (now (out .entry))) (now (kept .entry)) (run .used) (now (text .entry)) r (now (kept .entry)) (now (book .entry)) (now (out .exit)) (now (text .exit)) ⌝ }
 {
     let n = run.seconds;
     let at = run.used;
-    let t = shown(run.state, kept, book);
+    let t = controller_calls::second(run.state, kept, book, &mut *out);
     let state = t.state;
     let row = t.row;
+    let count = t.told.count;
     Run {
         state,
         seconds: std::num::wrapping_add_u64(n, 1),
-        used: crate::put_second(n, t.plan, row, text, at),
+        used: crate::put_second(n, t.plan, row, &out[..count], text, at),
     }
 }
 
-// Fewer octets than the state wants make it unsound. The second call is not lent them, so that is judged here.
-fn shown(s: Held, kept: &[u8], book: &[u8]) -> HeldShown
-    ensures { λ r. ⌜ shownWith r (now (kept .entry)) ≡ secondOf (joined s (now (kept .entry))) (now (book .entry)) ⌝ }
-{
-    if kept.len() < KEPT_LEN {
-        return HeldShown {
-            state: s,
-            told: Told {
-                refusal: refusal::STATE_UNSOUND,
-                parameter: 0,
-                event: Event::Nothing,
-                count: 0,
-                dropped: 0,
-            },
-            plan: 0,
-            row: NO_ROW,
-        };
-    }
-    controller_calls::second(s, book)
-}
-
-// "an octet": the octet call, the reply that it wrote and the number of octets dropped that it told.
+// "an octet": the octet call, what it wrote, a reply or the frame out once more, and the number of octets dropped that it told.
 fn on_octet(
     run: Run,
     b: u8,
@@ -146,11 +125,23 @@ fn on_octet(
     let at = run.used;
     let a = controller_calls::octet(run.state, kept, book, &mut *out, b);
     let state = a.state;
-    let n = a.told.count;
+    let told = a.told;
+    let link = told.link;
+    let n = told.count;
     Run {
         state,
-        used: crate::put_reply(&out[..n], a.told.dropped, text, at),
+        used: put_written(link, &out[..n], told.dropped, text, at),
         ..run
+    }
+}
+
+// What an octet call wrote while the link stands so.
+fn put_written(link: Link, s: &[u8], n: u16, out: &mut [u8], at: usize) -> usize
+    ensures { λ r. ⌜ Put (octetLine link (now (s .entry)) n) at (now (out .entry)) r (now (out .exit)) ⌝ }
+{
+    match link {
+        Link::Again => crate::put_again(s, out, at),
+        _ => crate::put_reply(s, n, out, at),
     }
 }
 

@@ -7,7 +7,7 @@ use Rattle.cases.proofs.case.Statement.{statement}
 use Rattle.cases.proofs.case.Tie as tie
 
 abbrev Inv-loop : tie.InvT-loop
-Inv-loop s info₀ kept₀ out₀ book₀ d₀ end₀ info kept out book d end = (end ≤ length s) × (length info ≡ 256) × (length kept ≡ 512) × (length out ≡ 544) × (length book ≡ 3841)
+Inv-loop s info₀ kept₀ out₀ book₀ d₀ end₀ info kept out book d end = (end ≤ length s) × (length info ≡ 256) × (length kept ≡ 768) × (length out ≡ 544) × (length book ≡ 3841)
 
 abbrev μ-loop : tie.MeasureT-loop
 μ-loop s info₀ kept₀ out₀ book₀ d₀ end₀ info kept out book d end = length s - end

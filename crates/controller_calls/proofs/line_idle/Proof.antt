@@ -16,7 +16,7 @@ returns c =
 
 returns-2 : tie.Need-returns-2
 returns-2 c =
-    let l = c .before .before .before .before in
+    let l = c .before .before .before .before .before in
     let i = l .before .before in
     let t = i .before in
     let a = t .before .before .args in

@@ -7,13 +7,18 @@ use borrow.Author.Needs.{needs}
 use Rattle.printout_calls.proofs.put_second.Statement.{statement}
 use Rattle.printout_calls.proofs.put_second.Tie as tie
 
-slice-aggregate-put : tie.Need-slice-aggregate-put
-slice-aggregate-put c = sym (length-take-le _ _ (search needs))
+slice-aggregate-put-with-again : tie.Need-slice-aggregate-put-with-again
+slice-aggregate-put-with-again c = sym (length-take-le _ _ (search needs))
+
+put-with-again-requires : tie.Need-put-with-again-requires
+put-with-again-requires c κs =
+    let e = c .before .before .before .store-second .ensures in
+    rw (stored-taken e) (omega (arith, e .place, e .fits))
 
 returns : tie.Need-returns
 returns c =
     let e = c .before .before .before .before .before .before .store-second .ensures in
-    (rw (stored-taken e) at (c .before .before .put .ensures), omega (arith, e .place, e .fits))
+    (rw (stored-taken e) at (c .before .before .put-with-again .ensures), omega (arith, e .place, e .fits))
 
 pub put-second-spec : {M : Type 1} → statement M
 put-second-spec =
@@ -22,7 +27,7 @@ put-second-spec =
     (λ c. search needs)
     (λ c κs. search needs)
     (λ c. search needs)
-    slice-aggregate-put
-    (λ c κs. search needs)
+    slice-aggregate-put-with-again
+    put-with-again-requires
     (λ c. search needs)
     returns)

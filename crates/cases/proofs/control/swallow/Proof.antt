@@ -1,6 +1,7 @@
 -- `cases::control::swallow` is safe and ends: it stays within the octets given.
 use Prim.Native.Nat.{_-_, _≤_}
 use mathlib.Core.Path.{_≡_}
+use native.Mathlib.Omega.{arith}
 use borrow.Author.Needs.{needs}
 use lib.ListN.{length}
 use Rattle.cases.proofs.control.swallow.Statement.{statement}
@@ -12,6 +13,10 @@ Inv-loop o kept₀ book₀ out₀ t₀ i₀ i-end kept book out t i = (i ≤ len
 abbrev μ-loop : tie.MeasureT-loop
 μ-loop o kept₀ book₀ out₀ t₀ i₀ i-end kept book out t i = length o - i
 
+-- a slice has no more elements than a number can tell, which is said where the function begins
+add-i : tie.Need-add-i Inv-loop μ-loop
+add-i c = omega (arith, c .before .before .before .before .before .before .before .before .before .before .before .before .before .before .before .before .before .good)
+
 pub swallow-spec : {M : Type 1} → statement M
 swallow-spec =
     tie.close
@@ -21,7 +26,7 @@ swallow-spec =
     (λ c. search needs)
     (λ c. search needs)
     (λ c κs. search needs)
-    (λ c. search needs)
+    add-i
     (λ c. search needs)
     (λ c. search needs)
     (λ c. search needs)

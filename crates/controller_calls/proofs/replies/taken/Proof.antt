@@ -1,6 +1,6 @@
 -- `controller_calls::replies::taken` meets its contract: what the octet brought, and the decoder that it leaves, make the answer.
 use Rattle.controller.specs.State.{joined}
-use Rattle.controller.proofs.Judging.{parts-last, sound-parts}
+use Rattle.controller.proofs.Judging.{parts-last, parts-out, sound-parts}
 use Rattle.controller_calls.proofs.Held.{taken-lent, left-enough, found-fits}
 use Rattle.controller_calls.proofs.Written.{done-did}
 use borrow.Author.Needs.{needs}
@@ -15,6 +15,7 @@ by-found-requires c κs =
     let p = sound-parts (joined (a .s) (a .kept .now)) (z .pre .0) in (
       found-fits (a .s) (a .kept .now) (a .b) (z .pre .0) (o .octet .ensures),
       parts-last (a .s .last) (p .last),
+      parts-out (a .s .wait) (a .s .out) (p .out),
       left-enough (a .s) (a .kept .now) (a .b) (z .pre .0) (o .octet .ensures),
       p .running .checks,
       p .running .plan,
@@ -24,7 +25,7 @@ by-found-requires c κs =
 
 returns : tie.Need-returns
 returns c =
-    let f = c .before .before .before .before .before .before .before .before .before in
+    let f = c .before .before .before .before .before .before .before .before .before .before in
     let o = f .before .before .before .before .before .before .before in
     let z = o .before .before .before .before .before in
     let a = z .args in

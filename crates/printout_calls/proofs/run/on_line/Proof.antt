@@ -11,8 +11,8 @@ returns c =
 
 returns-2 : tie.Need-returns-2
 returns-2 c =
-    let s = c .before .before in
-    let f = s .before .before .before .before in
+    let s = c .before .before .before .before in
+    let f = s .before .before .before .before .before in
     let a = f .before .before .before .before .before .before .args in
     rw (f .enum-told2 .given .1) (listed-second (a .run) (a .kept .now) (a .book .now) (a .out .now) (a .text .now) (s .on-second .ensures))
 
@@ -42,6 +42,7 @@ on-line-spec =
     (λ c. search needs)
     (λ c κs. search needs)
     returns
+    (λ c. search needs)
     (λ c. search needs)
     (λ c. search needs)
     (λ c. search needs)
