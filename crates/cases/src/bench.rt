@@ -6,7 +6,7 @@ use frame::decoder::Receiver;
 use frame_calls::receiver;
 
 // The decoder, where the next frame is written, and how long the last one was.
-#[derive(Drop)]
+#[derive(Clone, Copy)]
 pub(crate) struct Bench {
     receiver: Receiver,
     at: usize,

@@ -18,7 +18,7 @@ const WAIT: u8 = 10;
 const SILENT: u8 = 255;
 
 // The controller's state, and how much of book and output it is lent.
-#[derive(Drop)]
+#[derive(Clone, Copy)]
 pub(crate) struct Post {
     state: Held,
     book: usize,

@@ -2,7 +2,7 @@
 use libc::STDIN_FILENO;
 
 // How reading ended.
-#[derive(Drop)]
+#[derive(Clone, Copy)]
 pub(crate) enum Ended {
     // With the input.
     Whole,
@@ -11,7 +11,7 @@ pub(crate) enum Ended {
     Failed,
 }
 
-#[derive(Drop)]
+#[derive(Clone, Copy)]
 pub(crate) struct Input {
     pub(crate) count: usize,
     pub(crate) ended: Ended,

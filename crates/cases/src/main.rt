@@ -31,6 +31,9 @@
 //
 // Of what a call of the controller writes `reply` tells the octets, or `again` where they are the frame out once more; `heard` and `down`
 // tell how a frame out ended.
+
+#![tactic(auto)]
+
 mod bench;
 mod control;
 mod input;
@@ -56,7 +59,7 @@ const BOOK_MOST: usize = BOOK_LEN + 1;
 const BEFORE: u8 = 0x55;
 
 // What a case works on beside book and output.
-#[derive(Drop)]
+#[derive(Clone, Copy)]
 struct Desk {
     bench: Bench,
     post: Post,

@@ -39,7 +39,7 @@ pub(crate) fn at(s: &[u8], i: usize) -> u8 {
 const NONE: u8 = 16;
 
 // Octets that are being read: how many there are, the first digit of the next, and how often that one is to be taken.
-#[derive(Drop)]
+#[derive(Clone, Copy)]
 struct Parsed {
     count: usize,
     high: u8,

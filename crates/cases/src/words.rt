@@ -1,7 +1,7 @@
 // The word of an action: the whole of it counts.
 
 // For the decoder and the writers.
-#[derive(Drop)]
+#[derive(Clone, Copy)]
 pub(crate) enum FrameWord {
     Read,
     Idle,
@@ -16,7 +16,7 @@ pub(crate) enum FrameWord {
 }
 
 // For the controller.
-#[derive(Drop)]
+#[derive(Clone, Copy)]
 pub(crate) enum CallWord {
     Fresh,
     Earlier,
@@ -29,7 +29,7 @@ pub(crate) enum CallWord {
     Quiet,
 }
 
-#[derive(Drop)]
+#[derive(Clone, Copy)]
 pub(crate) enum Word {
     Frame(FrameWord),
     Call(CallWord),

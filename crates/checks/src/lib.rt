@@ -1,4 +1,7 @@
 // 01, "Plan book": how a record stands. "Octets that are not such a record, checks included, read as empty."
+
+#![tactic(auto)]
+
 ghost use Rattle.std.specs.Prelude.{◌≡◌, true, ◌+◌, ◌≤◌, ◌<◌, leb, ltb, length, drop};
 ghost use Rattle.octets.specs.Choice.{pick};
 ghost use Rattle.message.specs.Fields.{passes};

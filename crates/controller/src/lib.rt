@@ -1,6 +1,9 @@
 // 01, "Replies" and "Lamps and seconds": the controller's state, and what its calls answer. There is nothing to run: what each
 // call makes of state, book and output is defined in specs/, and demands 1 to 3 are proved of it in proofs/. The functions that
 // are proved to do so are the crate `controller_calls`.
+
+#![tactic(auto)]
+
 use frame::INFO_MOST;
 use frame::decoder::Receiver;
 use lamps::Row;
@@ -27,7 +30,7 @@ pub const WAIT_MOST: u8 = 60;
 pub const SENDS_MOST: u8 = 5;
 
 // What the stepper owns: "The running plan is a copy"; 02, E1: "The state keeps which one, and plan 0 means that one throughout".
-#[derive(Drop)]
+#[derive(Clone, Copy)]
 pub struct Running {
     pub which: Which,
     pub plan: u8,
@@ -36,7 +39,7 @@ pub struct Running {
 }
 
 // 02, E4: of the last message frame accepted its SEQ and how long its INFO is, 0 where there is none.
-#[derive(Drop)]
+#[derive(Clone, Copy)]
 pub struct Last {
     pub seq: u8,
     pub len: u16,
@@ -47,7 +50,7 @@ pub const NONE_ACCEPTED: Last = Last { seq: 0, len: 0 };
 
 // 02, E6: of our message frame that is out how often it was sent, the accepted seconds since it was sent last, and how long its INFO is, 0 where none
 // is out. Its SEQ is ours less one.
-#[derive(Drop)]
+#[derive(Clone, Copy)]
 pub struct Out {
     pub sends: u8,
     pub waited: u8,
@@ -61,7 +64,7 @@ pub const NONE_OUT: Out = Out {
 };
 
 // How the link stands: nothing new; the frame out is sent again; it is heard, by an ACK; or "the link is reported down".
-#[derive(Drop)]
+#[derive(Clone, Copy)]
 pub enum Link {
     Still,
     Again,
@@ -70,7 +73,7 @@ pub enum Link {
 }
 
 // What becomes of the frame out.
-#[derive(Drop)]
+#[derive(Clone, Copy)]
 pub struct Turn {
     pub out: Out,
     pub link: Link,
@@ -78,7 +81,7 @@ pub struct Turn {
 
 // The state, but for the octets of INFO, the decoder's, those of the last frame accepted and those of the frame out: these are lent to the calls,
 // and all together are the state of 01. `wait` is the T of 02, E6.
-#[derive(Drop)]
+#[derive(Clone, Copy)]
 pub struct Held {
     pub own: u16,
     pub seq: u8,
@@ -91,7 +94,7 @@ pub struct Held {
 }
 
 // "A sound ACK or NAK for us is handed to the host as an event": its SEQ, and a NAK's ERR.
-#[derive(Drop)]
+#[derive(Clone, Copy)]
 pub enum Event {
     Nothing,
     Ack(u8),
@@ -101,7 +104,7 @@ pub enum Event {
 // What every call tells. The refusal is that of the call, or of the frame or message that the octet ended; the parameter is the
 // field that a refused message's reply names; the count is of octets written. 02, E5: the octets dropped since the last sound frame or the start, as
 // the decoder tells them; a start, a second and an offer tell 0. E6: how the link stands.
-#[derive(Drop)]
+#[derive(Clone, Copy)]
 pub struct Told {
     pub refusal: u8,
     pub parameter: u8,
@@ -112,14 +115,14 @@ pub struct Told {
 }
 
 // What a fresh start, an octet call, a line-idle call or an offer answers.
-#[derive(Drop)]
+#[derive(Clone, Copy)]
 pub struct HeldAnswer {
     pub state: Held,
     pub told: Told,
 }
 
 // "A second call answers the current plan, step, seconds left in the step (this one counted) and both words".
-#[derive(Drop)]
+#[derive(Clone, Copy)]
 pub struct HeldShown {
     pub state: Held,
     pub told: Told,
@@ -129,7 +132,7 @@ pub struct HeldShown {
 
 // Which reply a message gets, 01, "Messages". A report is named by its plan alone: its octets are read from the plan's record while they are
 // written.
-#[derive(Drop)]
+#[derive(Clone, Copy)]
 pub enum Reply {
     // 0F 80, of a message with this code
     CarriedOut(u16),
@@ -143,7 +146,7 @@ pub enum Reply {
 }
 
 // What a message brought: the refusal and its parameter, the plan then requested, and which reply.
-#[derive(Drop)]
+#[derive(Clone, Copy)]
 pub struct Handled {
     pub refusal: u8,
     pub parameter: u8,

@@ -1,5 +1,8 @@
 // 01, "Replies" and "Lamps and seconds": the controller's calls. A call is refused by the first of 7, 8 and 9 that it
 // can meet, or done; 02, E6: an offer by the first of 7, 4, 9 and 15.
+
+#![tactic(auto)]
+
 mod frame_out;
 mod handling;
 mod info;

@@ -29,7 +29,7 @@ const ERR_LEN: u8 = 4;
 
 // What an octet brought: the refusal that the result names and its parameter, the event, the octets written, the SEQ, the request and the frame out that
 // the state then has, and how the link stands.
-#[derive(Drop)]
+#[derive(Clone, Copy)]
 pub struct ResultCounted {
     pub refusal: u8,
     pub parameter: u8,
@@ -42,7 +42,7 @@ pub struct ResultCounted {
 }
 
 // The same, and what is remembered then.
-#[derive(Drop)]
+#[derive(Clone, Copy)]
 pub struct Brought {
     pub result: ResultCounted,
     pub last: Last,

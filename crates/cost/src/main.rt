@@ -2,6 +2,9 @@
 // the line, 01 and any for a second, 02 and any for a line-idle call, 03 or 04 and an octet for a fresh start with it as address and as
 // T, with the new plan 0 or the old, 05 and an octet for an offer of 0F and that octet. Other numbers make the same calls from a second
 // place, so that in the compiled program they are functions of their own, and can be counted.
+
+#![tactic(auto)]
+
 use controller::{Held, KEPT_LEN, OUTPUT_LEN};
 use libc::{STDIN_FILENO, STDOUT_FILENO};
 use record::BOOK_LEN;

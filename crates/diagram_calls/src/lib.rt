@@ -1,5 +1,8 @@
 // 01, "Lamps and seconds": the step table. The lamp words of all diagrams stand in one table, row by row; for each phase order
 // there are its phases and its first row.
+
+#![tactic(auto)]
+
 ghost use Rattle.std.specs.Prelude.{◌≡◌, ◌+◌, ◌≤◌, ◌<◌, leb, get_or};
 ghost use Rattle.octets.specs.Choice.{both};
 ghost use Rattle.diagram.specs.Rows.{lamp_rows};

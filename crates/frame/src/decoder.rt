@@ -2,7 +2,7 @@
 use crate::Kind;
 
 // What the next octet is to the decoder.
-#[derive(Drop)]
+#[derive(Clone, Copy)]
 pub enum Place {
     Idle,
     LoneAa,
@@ -20,7 +20,7 @@ pub enum Place {
 }
 
 // CKS is worked out at the end from what is kept, so that no two fields can disagree.
-#[derive(Drop)]
+#[derive(Clone, Copy)]
 pub struct Head {
     pub place: Place,
     pub kind: Kind,
@@ -34,7 +34,7 @@ pub struct Head {
 }
 
 // What an octet brought.
-#[derive(Drop)]
+#[derive(Clone, Copy)]
 pub enum Found {
     Nothing,
     // A frame was refused: the refusal, and the frame's kind, SEQ and ADDR.
@@ -47,7 +47,7 @@ pub enum Found {
 
 // 02, E5: the decoder's head and, beside it, how many octets have been taken since the last sound frame ended, or since the start, that belong
 // to no sound frame. Any such number is sound.
-#[derive(Drop)]
+#[derive(Clone, Copy)]
 pub struct Receiver {
     pub head: Head,
     pub dropped: u16,
@@ -55,7 +55,7 @@ pub struct Receiver {
 
 // What a call of the decoder answers. The number that it tells is the one that the receiver then has; but with a sound frame's last octet it is the
 // number from before that frame, and the receiver then has 0.
-#[derive(Drop)]
+#[derive(Clone, Copy)]
 pub struct Received {
     pub refusal: u8,
     pub receiver: Receiver,
@@ -65,7 +65,7 @@ pub struct Received {
 
 // What an octet does: the head that follows, what was found, and whether the octet is kept as one of INFO. The INFO
 // octets stand beside it, so that a place that does not touch them does not name them.
-#[derive(Drop)]
+#[derive(Clone, Copy)]
 pub struct Stepped {
     pub head: Head,
     pub found: Found,

@@ -1,4 +1,7 @@
 // 01, "Frames": the decoder takes a frame octet by octet, and the writers write one whole.
+
+#![tactic(auto)]
+
 pub mod decoder;
 pub mod receiver;
 pub mod writer;

@@ -1,4 +1,7 @@
 // 01, "Lamps and seconds": the seconds of a step, and what each second of a plan's cycle shows.
+
+#![tactic(auto)]
+
 ghost use Rattle.std.specs.Prelude.{◌≡◌, ◌-◌, ◌≤◌, ◌<◌, length, get_or};
 ghost use Rattle.record.specs.Record.{k_of, ready_end};
 ghost use Rattle.lamps.specs.Rows.{green_less, table_of, phase_table, table_sum, row_of, phase_rows, no_row, row_at};

@@ -1,5 +1,8 @@
 // 01, "Cases": the listing program "reads lines: `T` is a second, `B`, tab, two hex digits an octet". One octet a call, by
 // value: no line is held, so none is too long to be told bad.
+
+#![tactic(auto)]
+
 ghost use Rattle.std.specs.Prelude.{◌≡◌};
 ghost use Rattle.line.specs.Line.{hex_of, first_seen, due_of, high_digit, low_digit, seen_of, whole_of, first_line, line_octet, end_of};
 
@@ -12,7 +15,7 @@ const TAB: u8 = b'\t';
 const NO_DIGIT: u8 = 16;
 
 // What has been seen of the line under way.
-#[derive(Drop)]
+#[derive(Clone, Copy)]
 pub enum Seen {
     Nothing,
     Second,
@@ -24,14 +27,14 @@ pub enum Seen {
 }
 
 // The line under way, and "its number from 1".
-#[derive(Drop)]
+#[derive(Clone, Copy)]
 pub struct Line {
     pub seen: Seen,
     pub number: u64,
 }
 
 // What a line is; `More` where none has ended. A bad line has its number.
-#[derive(Drop)]
+#[derive(Clone, Copy)]
 pub enum LineFound {
     More,
     Second,
@@ -39,7 +42,7 @@ pub enum LineFound {
     Bad(u64),
 }
 
-#[derive(Drop)]
+#[derive(Clone, Copy)]
 pub struct LineTaken {
     pub line: Line,
     pub found: LineFound,

@@ -3,6 +3,9 @@
 // is, so that somebody who types lines sees each answered at once. 02, E1: with no word it takes the plain start, and with the
 // word `old` the one that names the old built-in plan. Output that can't be written and input that can't be read end the listing
 // and are told on standard error.
+
+#![tactic(auto)]
+
 ghost use Rattle.std.specs.Prelude.{◌≤◌, ◌<◌, ◌≡◌, length};
 ghost use Rattle.octets.specs.Put.{Stored};
 ghost use Rattle.controller.specs.State.{joined};
@@ -27,14 +30,14 @@ const TEXT_LEN: usize = 8192;
 const HALF: usize = 4096;
 
 // A run, and whether its output is lost: once it can't be written, no more of it is.
-#[derive(Drop)]
+#[derive(Clone, Copy)]
 struct Printing {
     run: Run,
     lost: bool,
 }
 
 // The line under way, what the lines before it made, and whether there is more to read.
-#[derive(Drop)]
+#[derive(Clone, Copy)]
 struct Reading {
     line: Line,
     printing: Printing,

@@ -2,7 +2,7 @@
 
 // "Fields are one octet unless marked": the least and the greatest value of a field of one octet, and of one of two. A
 // phase order is one octet too; its range is the directory.
-#[derive(Drop)]
+#[derive(Clone, Copy)]
 pub enum Field {
     Octet(u16, u16),
     Two(u16, u16),
@@ -56,7 +56,7 @@ pub const NO_FIELD: Field = Field::Octet(0, 0);
 pub const LAYOUTS: usize = 14;
 
 // A layout, as the code keeps it.
-#[derive(Drop)]
+#[derive(Clone, Copy)]
 pub struct LayoutLine {
     // its code, 0 where it has none
     pub code: u16,

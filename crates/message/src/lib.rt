@@ -1,5 +1,8 @@
 // 01, "Messages": every code of its table, and the layouts. There is nothing to run: what reading and writing give is defined in
 // specs/, and what 01 asks of them is proved in proofs/. The functions that are proved to do so are the crate `message_calls`.
+
+#![tactic(auto)]
+
 pub mod layout;
 pub mod lines;
 
@@ -43,7 +46,7 @@ pub const PLAN_AT: usize = PLAN as usize - 1;
 pub const FIELDS_MOST: usize = 50;
 
 // The code, how many fields, and their values, left to right; a place past the last holds 0.
-#[derive(Drop)]
+#[derive(Clone, Copy)]
 pub struct Message {
     pub code: u16,
     pub fields: usize,
@@ -51,7 +54,7 @@ pub struct Message {
 }
 
 // What reading gives: the refusal, the number of the field that refusal 12 names, and the message where nothing is refused.
-#[derive(Drop)]
+#[derive(Clone, Copy)]
 pub struct Read {
     pub refusal: u8,
     pub field: u8,

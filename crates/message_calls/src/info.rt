@@ -4,7 +4,7 @@ ghost use Rattle.message.specs.Fields.{value_of};
 ghost use Rattle.message_calls.specs.Info.{reader_at, next_field};
 
 // The octets, and the place at which the next field stands.
-#[derive(Drop)]
+#[derive(Clone, Copy)]
 pub struct Reader<'a> {
     pub src: &'a [u8],
     pub at: usize,

@@ -8,7 +8,7 @@ ghost use Rattle.message_calls.specs.Walk.{fields_ahead, Walking, AtPlace};
 use crate::layout;
 use message::layout::{Field, NO_FIELD};
 
-#[derive(Drop)]
+#[derive(Clone, Copy)]
 pub(crate) struct Walk {
     // the row of the next field, and how often the repeated rows still come, this time counted
     row: usize,

@@ -235,6 +235,7 @@ module _ {t : ℕ → Bool} {n : ℕ} where
   first_one {r} {s} p q = by (dec_lt r s) (dec_lt s r)
     where
       less : {r s : ℕ} → First t n r → First t n s → r < s → ⊥
+      less {r = zero} {s = zero} p q l = elim l [ ]
       less {r = zero} {s = suc s} p q l = clash (p.none refl s q.within) (q.here s (add-one s))
       less {r = suc r} {s = s} p q l = clash (q.before r (omega arith)) (p.here r (add-one r))
 

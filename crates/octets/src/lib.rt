@@ -1,4 +1,7 @@
 // What several crates say of octets, said once.
+
+#![tactic(auto)]
+
 pub mod refusal;
 
 ghost use Rattle.std.specs.Prelude.{◌≡◌, ◌+◌, ◌≤◌, leb, length};
@@ -113,7 +116,7 @@ fn store(s: &[u8], out: &mut [u8], at: usize) -> usize
 }
 
 // What a writer answers: the refusal, and how many octets it stored.
-#[derive(Drop)]
+#[derive(Clone, Copy)]
 pub struct Written {
     pub refusal: u8,
     pub count: usize,

@@ -2,14 +2,14 @@
 use record::RECORD_LEN;
 
 // What a set answers: the refusal, and the number of the field that it names.
-#[derive(Drop)]
+#[derive(Clone, Copy)]
 pub struct Answered {
     pub refusal: u8,
     pub field: u8,
 }
 
 // What a message makes: the record, or the refusal and the field that it names.
-#[derive(Drop)]
+#[derive(Clone, Copy)]
 pub struct NewRecord {
     pub refusal: u8,
     pub field: u8,

@@ -1,3 +1,6 @@
 // 01, "Plan book": what is stored and what is read.
+
+#![tactic(auto)]
+
 pub mod book;
 pub mod setting;

@@ -1,5 +1,8 @@
 // 01, "Cases": what the listing program prints, put as text into an output from `at` on. Each function gives the place after
 // its text; where the text does not fit, nothing is stored and the place is `at`.
+
+#![tactic(auto)]
+
 pub mod run;
 
 ghost use Rattle.std.specs.Prelude.{◌≡◌, ◌+◌, ◌≤◌, [], ◌∷◌, ◌++◌, length};

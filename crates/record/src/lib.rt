@@ -1,4 +1,7 @@
 // 01, "Plan book": what stands where in a record.
+
+#![tactic(auto)]
+
 ghost use Rattle.std.specs.Prelude.{◌≡◌};
 ghost use Rattle.record.specs.Record.{state_of, k_of, yellow_of, all_red_of, walk_flash_of, red_man_of, minimum_of, maximum_of, direct_of, order_of, green_of, cycle_of, offset_of, times_end, greens_at, ready_end};
 

@@ -1,5 +1,8 @@
 // Numbers and octets as text, put into an output from `at` on. Each function gives the place after its text; where the
 // text does not fit, nothing is stored and the place is `at`. Text that stands fixed is put by `octets::put`.
+
+#![tactic(auto)]
+
 ghost use Rattle.std.specs.Prelude.{◌≡◌, ◌+◌, ◌≤◌, ◌<◌, length, take};
 ghost use Rattle.octets.specs.Put.{Put, Stored};
 ghost use Rattle.text.specs.Text.{digit, digits, digits_most, hex2, hex16, places, decimal, blank_hex2, spaced, octets_hex};
