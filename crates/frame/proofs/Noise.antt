@@ -199,15 +199,16 @@ module _ {since : List ℕ} {d : Decoder} {n : ℕ} (w : Noise since d n) where
       (s, c.1, rw (idled-done d w.runs.possible) (record { noise = since; falls = sym (append-nil since); leads = lead-begun (placed_at Idle d) refl; number = s; runs = record { possible = refl; long = w.runs.long } }))
 
 counted-from : {since : List ℕ} {d : Decoder} {n : ℕ} → Noise since d n → (cs : List LineCall) → NoiseCounted since d n cs
-counted-from w [] = end (noise-is w)
-counted-from {since} {d} {n} w (octet b o ∷ cs) = by (λ s e m v. counted-from v cs) (octet-step w b o)
+counted-from {since} {d} {n} w [] = end (noise-is w)
+counted-from {since} {d} {n} w (octet b o ∷ cs) = by (λ s e m v. counted-from {since = s} {d = e} {n = m} v cs) (octet-step w b o)
   where
     by : ((s : List ℕ) (e : Decoder) (m : ℕ) → Noise s e m → NoiseCounted s e m cs) → Step since d n b → NoiseCounted since d n (octet b o ∷ cs)
     by rest (on h q v) = goes {cs = cs} (noise-is w) h q (rw (counted-taken d n b) (rest _ _ _ v))
     by rest (over f z u q s k v) = frame {cs = cs} (noise-is w) f z u q s k (rw (counted-taken d n b, k) (rest _ _ _ v))
 counted-from {since} {d} {n} w (line_idle ∷ cs) =
     let s = idle-step w in
-    idle {cs = cs} (noise-is w) s.0 s.1 (rw (idle-taken d n) (counted-from s.2 cs))
+    idle {cs = cs} (noise-is w) s.0 s.1
+    (rw (idle-taken d n) (counted-from {since = since} {d = (idled_of d).decoder} {n = (idle_counted d n).kept} s.2 cs))
 
 pub number-is-noise : NumberIsNoise
 number-is-noise d cs a = counted-from (noise-none d a) cs
