@@ -1,5 +1,5 @@
 -- `frame_calls::writer::refuses_message`: INFO is judged first, and a message frame is 10 octets and INFO as sent.
-use Rattle.std.proofs.Common.{◌≡◌, ℕ, ◌+◌, List, length, sym, ◌∙◌, arith, length-append}
+use Rattle.std.proofs.Common.{◌≡◌, ℕ, ◌+◌, List, length, sym, arith, length-append}
 use Rattle.octets.specs.Writing.{written_as}
 use Rattle.frame.specs.Frame.{message, message_len, doubled, front_of, sent_of, written}
 use Rattle.frame.specs.Writer.{write_frame}
