@@ -199,8 +199,12 @@ class Library:
                     source.token()
                     source.skip(")")
                 continue
-            if token == "#":  # an attribute, #[..]
-                source.token()
+            if token == "#":  # an attribute, #[..] or #![..]
+                token = source.token()
+                if token == "!":
+                    token = source.token()
+                if token != "[":
+                    source.refuse(token)
                 source.skip("]")
                 continue
             if token == "const" and source.peek() == "fn":
