@@ -25,9 +25,10 @@ PARTS = ("src", "specs", "proofs")
 CRATE = re.compile(r"crate (\w+): modules ")
 PROVED = "logic=proved "
 # What `rt try` says behind what the program says on standard error
-TRIED = re.compile(r"\A(.*?)(?:rt: a check will refuse this: [^\n]*\n)*(?:checked: ended status=0\n)?run=ended status=0 [^\n]*\n\Z", re.S)
-# more steps and seconds than any lesson takes
-LIMITS = ("--steps", "2000000000", "--seconds", "600")
+TRIED = re.compile(
+    r"\A(.*?)(?:rt: a check will refuse this: [^\n]*\n)*(?:(?:checked|interpreter): [^\n]*\n)*run=ended status=0 [^\n]*\n\Z", re.S)
+# more seconds than any lesson takes
+LIMITS = ("--seconds", "600")
 
 
 class Failed(Exception):
