@@ -20,8 +20,8 @@ only-fresh κs a r s x y p q = p ∙ sym q
 only-octet : (κs : _) (a : _) (r s : _) (x y : _) → octet.Post κs a r x → octet.Post κs a s y → (r ≡ s) × (x.1.0.now ≡ y.1.0.now)
 only-octet κs a r s x y p q = received-one-to-one r s x.1.0.now y.1.0.now (p.answer ∙ sym q.answer) (p.beyond ∙ sym q.beyond)
 
-only-line-idle : (κs : _) (a : _) (r s : _) (x y : _) → line-idle.Post κs a r x → line-idle.Post κs a s y → r ≡ s
-only-line-idle κs a r s x y p q = (received-one-to-one r s a.1.0.now a.1.0.now (p ∙ sym q) refl).0
+only-line_idle : (κs : _) (a : _) (r s : _) (x y : _) → line-idle.Post κs a r x → line-idle.Post κs a s y → r ≡ s
+only-line_idle κs a r s x y p q = (received-one-to-one r s a.1.0.now a.1.0.now (p ∙ sym q) refl).0
 
 only-stopped : (κs : _) (a : _) (r s : _) (x y : _) → stopped.Post κs a r x → stopped.Post κs a s y → r ≡ s
 only-stopped κs a r s x y p q = p ∙ sym q
@@ -29,27 +29,27 @@ only-stopped κs a r s x y p q = p ∙ sym q
 only-possible : (κs : _) (a : _) (r s : _) (x y : _) → possible.Post κs a r x → possible.Post κs a s y → r ≡ s
 only-possible κs a r s x y p q = p ∙ sym q
 
-only-info-goes-on : (κs : _) (a : _) (r s : _) (x y : _) → info-goes-on.Post κs a r x → info-goes-on.Post κs a s y → r ≡ s
-only-info-goes-on κs a r s x y p q = p ∙ sym q
+only-info_goes_on : (κs : _) (a : _) (r s : _) (x y : _) → info-goes-on.Post κs a r x → info-goes-on.Post κs a s y → r ≡ s
+only-info_goes_on κs a r s x y p q = p ∙ sym q
 
-only-idle-drops : (κs : _) (a : _) (r s : _) (x y : _) → idle-drops.Post κs a r x → idle-drops.Post κs a s y → r ≡ s
-only-idle-drops κs a r s x y p q = p ∙ sym q
+only-idle_drops : (κs : _) (a : _) (r s : _) (x y : _) → idle-drops.Post κs a r x → idle-drops.Post κs a s y → r ≡ s
+only-idle_drops κs a r s x y p q = p ∙ sym q
 
-only-write-message : (κs : _) (a : _) (r s : _) (x y : _) → write-message.Post κs a r x → write-message.Post κs a s y
+only-write_message : (κs : _) (a : _) (r s : _) (x y : _) → write-message.Post κs a r x → write-message.Post κs a s y
     → (r ≡ s) × (x.1.1.1.0.now ≡ y.1.1.1.0.now)
-only-write-message κs a r s x y p q = (p.answer ∙ sym q.answer, p.out ∙ sym q.out)
+only-write_message κs a r s x y p q = (p.answer ∙ sym q.answer, p.out ∙ sym q.out)
 
-only-refuses-message : (κs : _) (a : _) (r s : _) (x y : _) → refuses-message.Post κs a r x → refuses-message.Post κs a s y → r ≡ s
-only-refuses-message κs a r s x y p q = p 0 0 ∙ sym (q 0 0)
+only-refuses_message : (κs : _) (a : _) (r s : _) (x y : _) → refuses-message.Post κs a r x → refuses-message.Post κs a s y → r ≡ s
+only-refuses_message κs a r s x y p q = p 0 0 ∙ sym (q 0 0)
 
-only-write-message-from : (κs : _) (a : _) (r s : _) (x y : _) → write-message-from.Post κs a r x → write-message-from.Post κs a s y
+only-write_message_from : (κs : _) (a : _) (r s : _) (x y : _) → write-message-from.Post κs a r x → write-message-from.Post κs a s y
     → (r ≡ s) × (x.1.1.1.1.0.now ≡ y.1.1.1.1.0.now)
-only-write-message-from κs a r s x y p q = (p.answer ∙ sym q.answer, p.out ∙ sym q.out)
+only-write_message_from κs a r s x y p q = (p.answer ∙ sym q.answer, p.out ∙ sym q.out)
 
-only-write-ack : (κs : _) (a : _) (r s : _) (x y : _) → write-ack.Post κs a r x → write-ack.Post κs a s y
+only-write_ack : (κs : _) (a : _) (r s : _) (x y : _) → write-ack.Post κs a r x → write-ack.Post κs a s y
     → (r ≡ s) × (x.1.1.0.now ≡ y.1.1.0.now)
-only-write-ack κs a r s x y p q = (p.answer ∙ sym q.answer, p.out ∙ sym q.out)
+only-write_ack κs a r s x y p q = (p.answer ∙ sym q.answer, p.out ∙ sym q.out)
 
-only-write-nak : (κs : _) (a : _) (r s : _) (x y : _) → write-nak.Post κs a r x → write-nak.Post κs a s y
+only-write_nak : (κs : _) (a : _) (r s : _) (x y : _) → write-nak.Post κs a r x → write-nak.Post κs a s y
     → (r ≡ s) × (x.1.1.1.0.now ≡ y.1.1.1.0.now)
-only-write-nak κs a r s x y p q = (p.answer ∙ sym q.answer, p.out ∙ sym q.out)
+only-write_nak κs a r s x y p q = (p.answer ∙ sym q.answer, p.out ∙ sym q.out)

@@ -11,8 +11,8 @@ use Rattle.octets.proofs.put.Reads as put
 use Rattle.octets.proofs.room.Reads as room
 use Rattle.octets.proofs.body.Reads as body
 
-only_high : (κs : _) (a : _) (r s : _) (x y : _) → high.Post κs a r x → high.Post κs a s y → r ≡ s
-only_high κs a r s x y p q = p ∙ sym q
+only-high : (κs : _) (a : _) (r s : _) (x y : _) → high.Post κs a r x → high.Post κs a s y → r ≡ s
+only-high κs a r s x y p q = p ∙ sym q
 
 only-low : (κs : _) (a : _) (r s : _) (x y : _) → low.Post κs a r x → low.Post κs a s y → r ≡ s
 only-low κs a r s x y p q = p ∙ sym q
@@ -20,17 +20,17 @@ only-low κs a r s x y p q = p ∙ sym q
 only-word : (κs : _) (a : _) (r s : _) (x y : _) → word.Post κs a r x → word.Post κs a s y → r ≡ s
 only-word κs a r s x y p q = p ∙ sym q
 
-only-octet-at : (κs : _) (a : _) (r s : _) (x y : _) → octet-at.Post κs a r x → octet-at.Post κs a s y → r ≡ s
-only-octet-at κs a r s x y p q = p ∙ sym q
+only-octet_at : (κs : _) (a : _) (r s : _) (x y : _) → octet-at.Post κs a r x → octet-at.Post κs a s y → r ≡ s
+only-octet_at κs a r s x y p q = p ∙ sym q
 
-only-word-at : (κs : _) (a : _) (r s : _) (x y : _) → word_at.Post κs a r x → word_at.Post κs a s y → r ≡ s
-only-word-at κs a r s x y p q = p ∙ sym q
+only-word_at : (κs : _) (a : _) (r s : _) (x y : _) → word_at.Post κs a r x → word_at.Post κs a s y → r ≡ s
+only-word_at κs a r s x y p q = p ∙ sym q
 
-only-exclusive-or : (κs : _) (a : _) (r s : _) (x y : _) → exclusive-or.Post κs a r x → exclusive-or.Post κs a s y → r ≡ s
-only-exclusive-or κs a r s x y p q = p ∙ sym q
+only-exclusive_or : (κs : _) (a : _) (r s : _) (x y : _) → exclusive-or.Post κs a r x → exclusive-or.Post κs a s y → r ≡ s
+only-exclusive_or κs a r s x y p q = p ∙ sym q
 
-only_same : (κs : _) (a : _) (r s : _) (x y : _) → same.Post κs a r x → same.Post κs a s y → r ≡ s
-only_same κs a r s x y p q = p ∙ sym q
+only-same : (κs : _) (a : _) (r s : _) (x y : _) → same.Post κs a r x → same.Post κs a s y → r ≡ s
+only-same κs a r s x y p q = p ∙ sym q
 
 only-put : (κs : _) (a : _) (r s : _) (x y : _) → put.Post κs a r x → put.Post κs a s y → (r ≡ s) × (x.1.0.now ≡ y.1.0.now)
 only-put κs a r s x y p q = (p.place ∙ sym q.place, p.holds ∙ sym q.holds)

@@ -32,14 +32,14 @@ only-maximum κs a r s x y p q = p ∙ sym q
 only-yellow : (κs : _) (a : _) (r s : _) (x y : _) → yellow.Post κs a r x → yellow.Post κs a s y → r ≡ s
 only-yellow κs a r s x y p q = p ∙ sym q
 
-only-all-red : (κs : _) (a : _) (r s : _) (x y : _) → all-red.Post κs a r x → all-red.Post κs a s y → r ≡ s
-only-all-red κs a r s x y p q = p ∙ sym q
+only-all_red : (κs : _) (a : _) (r s : _) (x y : _) → all-red.Post κs a r x → all-red.Post κs a s y → r ≡ s
+only-all_red κs a r s x y p q = p ∙ sym q
 
-only-walk-flash : (κs : _) (a : _) (r s : _) (x y : _) → walk-flash.Post κs a r x → walk-flash.Post κs a s y → r ≡ s
-only-walk-flash κs a r s x y p q = p ∙ sym q
+only-walk_flash : (κs : _) (a : _) (r s : _) (x y : _) → walk-flash.Post κs a r x → walk-flash.Post κs a s y → r ≡ s
+only-walk_flash κs a r s x y p q = p ∙ sym q
 
-only-red-man : (κs : _) (a : _) (r s : _) (x y : _) → red-man.Post κs a r x → red-man.Post κs a s y → r ≡ s
-only-red-man κs a r s x y p q = p ∙ sym q
+only-red_man : (κs : _) (a : _) (r s : _) (x y : _) → red-man.Post κs a r x → red-man.Post κs a s y → r ≡ s
+only-red_man κs a r s x y p q = p ∙ sym q
 
 only-direct : (κs : _) (a : _) (r s : _) (x y : _) → direct.Post κs a r x → direct.Post κs a s y → r ≡ s
 only-direct κs a r s x y p q = p ∙ sym q
@@ -56,11 +56,11 @@ only-cycle κs a r s x y p q = p ∙ sym q
 only-offset : (κs : _) (a : _) (r s : _) (x y : _) → offset.Post κs a r x → offset.Post κs a s y → r ≡ s
 only-offset κs a r s x y p q = p ∙ sym q
 
-only-times-end : (κs : _) (a : _) (r s : _) (x y : _) → times-end.Post κs a r x → times-end.Post κs a s y → r ≡ s
-only-times-end κs a r s x y p q = p ∙ sym q
+only-times_end : (κs : _) (a : _) (r s : _) (x y : _) → times-end.Post κs a r x → times-end.Post κs a s y → r ≡ s
+only-times_end κs a r s x y p q = p ∙ sym q
 
-only-greens-at : (κs : _) (a : _) (r s : _) (x y : _) → greens-at.Post κs a r x → greens-at.Post κs a s y → r ≡ s
-only-greens-at κs a r s x y p q = p ∙ sym q
+only-greens_at : (κs : _) (a : _) (r s : _) (x y : _) → greens-at.Post κs a r x → greens-at.Post κs a s y → r ≡ s
+only-greens_at κs a r s x y p q = p ∙ sym q
 
-only-ready-end : (κs : _) (a : _) (r s : _) (x y : _) → ready-end.Post κs a r x → ready-end.Post κs a s y → r ≡ s
-only-ready-end κs a r s x y p q = p ∙ sym q
+only-ready_end : (κs : _) (a : _) (r s : _) (x y : _) → ready-end.Post κs a r x → ready-end.Post κs a s y → r ≡ s
+only-ready_end κs a r s x y p q = p ∙ sym q
