@@ -75,22 +75,22 @@ module _ (book copy r : Bor (List ℕ)) (p : ℕ) (f : PartRead book copy p r) w
       there : (standing_of rec ≡ empty → ⊥) → r.now ≡ rec → RecordOf copy.now book.now p r.now
       there n e = record { stands = ap standing_of e; octets = λ _. e; state = rw e (some-state rec n) }
 
-      by : Dec (p ≤ plans_most) → Dec (p ≡ 0) → Dec (standing_of (record_at (now book) p) ≡ empty) → RecordOf (now copy) (now book) p (now r)
+      by : Dec (p ≤ plans_most) → Dec (p ≡ 0) → Dec (standing_of (record_at book.now p) ≡ empty) → RecordOf copy.now book.now p r.now
       by (no g) d e =
           let z : p ≡ 0 → ⊥ = λ (q : p ≡ 0). absurd (omega arith) in
           let l : plans_most < p = omega arith in
-          let n : refusal_is ≡ refusal.none → ⊥ = λ (q : refusal_is ≡ refusal.none). absurd (omega (arith, q, refused-range (now book) (now copy) p hb lo l)) in
-          nothing-there (read_none n) (rw (ne_eqb p 0 z) (standing-past (now book) p hb l))
+          let n : refusal_is ≡ refusal.none → ⊥ = λ (q : refusal_is ≡ refusal.none). absurd (omega (arith, q, refused-range book.now copy.now p hb lo l)) in
+          nothing-there (read_none n) (rw (ne_eqb p 0 z) (standing-past book.now p hb l))
       by (yes l) (yes z) e =
-          let s : true ≡ either_built_in (now copy) = sym (rw ho (is-either which)) in
-          let q = sym (read-zero (now book) (now copy) p hb lo l z s refl) in
-          let n : standing_of (now copy) ≡ empty → ⊥ = λ (e : standing_of (now copy) ≡ empty). absurd (omega (arith, built-in-stands which, ap standing_of ho, e)) in
-          there (rw (eq-eqb p 0 z) n) (read-built-in q z ∙ (rw (eq-eqb p 0 z) (take_all record_len (now copy) (omega (arith, lo)))))
+          let s : true ≡ either_built_in copy.now = sym (rw ho (is-either which)) in
+          let q = sym (read-zero book.now copy.now p hb lo l z s refl) in
+          let n : standing_of copy.now ≡ empty → ⊥ = λ (e : standing_of copy.now ≡ empty). absurd (omega (arith, built-in-stands which, ap standing_of ho, e)) in
+          there (rw (eq-eqb p 0 z) n) (read-built-in q z ∙ (rw (eq-eqb p 0 z) (take_all record_len copy.now (omega (arith, lo)))))
       by (yes l) (no z) (yes e) =
-          let n : refusal_is ≡ refusal.none → ⊥ = λ (q : refusal_is ≡ refusal.none). absurd (omega (arith, q, refused-empty (now book) (now copy) p hb lo l z refl e)) in
+          let n : refusal_is ≡ refusal.none → ⊥ = λ (q : refusal_is ≡ refusal.none). absurd (omega (arith, q, refused-empty book.now copy.now p hb lo l z refl e)) in
           nothing-there (read_none n) (rw (ne_eqb p 0 z) e)
       by (yes l) (no z) (no e) =
-          let q = sym (read_set (now book) (now copy) p hb lo l z refl e) in
+          let q = sym (read_set book.now copy.now p hb lo l z refl e) in
           there (rw (ne_eqb p 0 z) e) (read-book q z ∙ rw (ne_eqb p 0 z))
 
 -- Messages

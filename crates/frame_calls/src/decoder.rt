@@ -39,6 +39,7 @@ fn more_follow(len: u16, filled: u16) -> bool
 }
 
 // Can a decoder stand so? Kind, LEN and the count of INFO must fit the place.
+#[tactic(auto, unfolding(frame::specs::Decoder::possible_of))]
 pub fn possible(h: Head) -> bool
     ensures { result ≡ possible_of h }
 {

@@ -15,6 +15,7 @@ use octets::refusal;
 const DROPPED_MOST: u16 = 65535;
 
 // A decoder at rest, and no octet dropped. What the octets then hold that are lent for INFO does not matter.
+#[tactic(auto, unfolding(frame::specs::Decoder::fresh_head, frame::specs::Dropped::fresh_receiver))]
 pub fn fresh() -> Receiver
     ensures { result ≡ fresh_receiver }
 {
@@ -146,6 +147,7 @@ fn number_then(r: Receiver, info: &[u8], then: Head) -> u16
 }
 
 // "The number stops at 65,535".
+#[tactic(auto, unfolding(frame::specs::Dropped::stopped))]
 pub fn stopped(n: usize) -> u16
     ensures { result ≡ stopped n }
 {

@@ -149,6 +149,7 @@ pub(crate) fn doubled_len(info: &[u8]) -> usize
     n
 }
 
+#[tactic(auto, unfolding(frame::specs::Frame::twice))]
 fn twice_len(b: u8) -> usize
     ensures { (result ≡ length (twice b)) × (result ≤ 2) }
 {

@@ -44,6 +44,7 @@ fn table_of(green: u16, flash: u8, man: u8, yellow: u8, red: u8) -> [u16; STEPS]
 }
 
 // Those of a phase whose octets are all there, as a running plan's are: each is read once, and none is asked for first.
+#[tactic(auto, unfolding(lamps::specs::Rows::phase_table))]
 fn table_in(rec: &[u8], i: u8) -> [u16; STEPS]
     requires { (i < k_of rec.now) × (ready_end rec.now ≤ length rec.now) }
     ensures { result ≡ phase_table rec.now i }
@@ -60,6 +61,7 @@ fn table_in(rec: &[u8], i: u8) -> [u16; STEPS]
 }
 
 // Those of a phase of any octets, of which some may not be there.
+#[tactic(auto, unfolding(lamps::specs::Rows::phase_table))]
 fn phase_table(rec: &[u8], i: u8) -> [u16; STEPS]
     requires { i < k_of rec.now }
     ensures { result ≡ phase_table rec.now i }

@@ -59,6 +59,7 @@ pub fn line_start() -> Line
 }
 
 // One octet of the input.
+#[tactic(auto, unfolding(crate::specs::Line::line_octet))]
 pub fn line_octet(l: Line, o: u8) -> LineTaken
     ensures { result ≡ line_octet l o }
 {
@@ -83,6 +84,7 @@ pub fn line_octet(l: Line, o: u8) -> LineTaken
 }
 
 // The end of the input: what the last line is where it lacks its line feed.
+#[tactic(auto, unfolding(crate::specs::Line::end_of))]
 pub fn line_end(l: Line) -> LineFound
     ensures { result ≡ end_of l }
 {
@@ -155,6 +157,7 @@ fn low(h: u8, o: u8) -> Seen
 }
 
 // "Hex .. is read in either case."
+#[tactic(auto, unfolding(crate::specs::Line::hex_of))]
 fn hex(o: u8) -> u8
     ensures { result ≡ hex_of o }
 {

@@ -1,4 +1,3 @@
-pub mod ByHand
 pub mod Walking
 pub mod Promised
 pub mod Only
