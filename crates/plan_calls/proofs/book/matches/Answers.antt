@@ -14,11 +14,11 @@ loop-i-preserved c =
     let copy = c.args.copy.now in
     let rec = c.built_in-rec.result in
     elim c.if-copy-i.branch [
-      then-copy-i w ↦ (
+      | then-copy-i w ↦ (
         v.invariant.0,
         rw w.alike-is (sym (and-false v.alike) ∙ rw (← same-stops copy rec v.i (search rules) (search rules) w.if-copy-i.true) at v.invariant.1),
       )
-    | else-copy-i w ↦ (v.invariant.0, rw (w.alike-is, same-goes copy rec v.i (search rules) (search rules) w.if-copy-i.false) v.invariant.1)
+      | else-copy-i w ↦ (v.invariant.0, rw (w.alike-is, same-goes copy rec v.i (search rules) (search rules) w.if-copy-i.false) v.invariant.1)
     ]
 
 pub returns : goal.returns

@@ -1,5 +1,5 @@
 -- `plan_calls::setting::made_ready`: there are at most eleven checks, and one law for each way.
-use Rattle.std.proofs.Common.{◌≡◌, ◌+◌, ◌-◌, ◌≤◌, ap, ◌∙◌, arith, rules}
+use Rattle.std.proofs.Common.{◌≡◌, ◌+◌, ◌-◌, ◌≤◌, ap, ◌∙◌, arith}
 use Rattle.message.specs.Names.{plan_count_at}
 use Rattle.checks.specs.Standing.{plan_disagree}
 use Rattle.checks.proofs.Stands.{plan-first}
