@@ -1,5 +1,5 @@
--- `printout_calls::run::run_start` meets its contract: the controller starts fresh, whatever octets are kept.
-use Rattle.std.proofs.Common.{[], ap, rules}
+-- `printout_calls::run::run_start`: the controller starts fresh, whatever octets are kept.
+use Rattle.std.proofs.Common.{[], ap}
 use Rattle.frame.specs.Dropped.{fresh_receiver}
 use Rattle.controller.specs.State.{fresh_of}
 use Rattle.controller.specs.Replies.{Answer}
@@ -7,20 +7,12 @@ use Rattle.controller.specs.Seconds.{started_of}
 use Rattle.controller.proofs.Answering.{held}
 use Rattle.printout.specs.declared.Run.{Run}
 use Rattle.printout.specs.Run.{run_start}
-use Rattle.printout_calls.proofs.run.run_start.Statement.{statement}
-use Rattle.printout_calls.proofs.run.run_start.Tie as tie
+use Rattle.printout_calls.proofs.run.run_start.Goals as goal
 
 -- the run with the struct of this answer
 abbrev run_of : Answer → Run
 run_of a = record { state = held a.state; seconds = 0; used = 0 }
 
-returns : tie.Need-returns
+pub returns : goal.returns
 unfolding fresh_receiver run_start started_of fresh_of
-returns c = ap run_of (c.before.started.ensures [])
-
-pub run-start-spec : {M : Type 1} → statement M
-run-start-spec =
-    tie.close
-    (tie.spec
-    (λ c κs. search rules)
-    returns)
+returns c = ap run_of (c.started-s.ensures [])
