@@ -80,6 +80,7 @@ fn tell(rt: &impl Eprint, s: &str) {
     let _ = rt.eprintln(s);
 }
 
+#[tactic(auto, unfolding(printout::specs::Listing::header))]
 fn list(rt: &(impl Print + Eprint), input: &mut impl Read, which: Which) {
     let mut kept = [0u8; KEPT_LEN];
     let mut book = [0u8; BOOK_LEN];
