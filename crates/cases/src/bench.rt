@@ -21,21 +21,28 @@ pub(crate) fn start() -> Bench {
     }
 }
 
-pub(crate) fn done(c: Bench, w: FrameWord, o: &[u8], kept: &mut [u8], out: &mut [u8]) -> Bench {
+pub(crate) fn done(
+    rt: &impl Print,
+    c: Bench,
+    w: FrameWord,
+    o: &[u8],
+    kept: &mut [u8],
+    out: &mut [u8],
+) -> Bench {
     match w {
-        FrameWord::Read => read(c, o, kept, out),
-        FrameWord::Idle => with(c, reading::idle(c.receiver, kept)),
-        FrameWord::Unsound => with(c, reading::unsound()),
-        FrameWord::Dropped => with(c, reading::counted(c.receiver, first_word(o))),
-        FrameWord::Place => place(c, first_word(o)),
-        FrameWord::Message => write(c, Kind::Message, o, out),
-        FrameWord::Ack => write(c, Kind::Ack, o, out),
-        FrameWord::Nak => write(c, Kind::Nak, o, out),
+        FrameWord::Read => read(rt, c, o, kept, out),
+        FrameWord::Idle => with(c, reading::idle(rt, c.receiver, kept)),
+        FrameWord::Unsound => with(c, reading::unsound(rt)),
+        FrameWord::Dropped => with(c, reading::counted(rt, c.receiver, first_word(o))),
+        FrameWord::Place => place(rt, c, first_word(o)),
+        FrameWord::Message => write(rt, c, Kind::Message, o, out),
+        FrameWord::Ack => write(rt, c, Kind::Ack, o, out),
+        FrameWord::Nak => write(rt, c, Kind::Nak, o, out),
         FrameWord::Compose => Bench {
-            written: writing::compose(o, out, c.at),
+            written: writing::compose(rt, o, out, c.at),
             ..c
         },
-        FrameWord::Output => shown(c, out),
+        FrameWord::Output => shown(rt, c, out),
     }
 }
 
@@ -47,37 +54,42 @@ fn first_word(o: &[u8]) -> u16 {
     octets::word(script::at(o, 0), script::at(o, 1))
 }
 
-fn read(c: Bench, o: &[u8], kept: &mut [u8], out: &[u8]) -> Bench {
+fn read(rt: &impl Print, c: Bench, o: &[u8], kept: &mut [u8], out: &[u8]) -> Bench {
     let r = c.receiver;
     let receiver = if o.len() == 0 {
-        say::text(b"\tread back");
-        reading::read(r, kept, script::first(script::rest(out, c.at), c.written))
+        say::text(rt, b"\tread back");
+        reading::read(
+            rt,
+            r,
+            kept,
+            script::first(script::rest(out, c.at), c.written),
+        )
     } else {
-        say::text(b"\tread ");
-        say::octets(o);
-        reading::read(r, kept, o)
+        say::text(rt, b"\tread ");
+        say::octets(rt, o);
+        reading::read(rt, r, kept, o)
     };
     Bench { receiver, ..c }
 }
 
-fn place(c: Bench, at: u16) -> Bench {
-    say::text(b"\tplace ");
-    say::decimal(at as usize);
+fn place(rt: &impl Print, c: Bench, at: u16) -> Bench {
+    say::text(rt, b"\tplace ");
+    say::decimal(rt, at as usize);
     Bench {
         at: at as usize,
         ..c
     }
 }
 
-fn write(c: Bench, k: Kind, o: &[u8], out: &mut [u8]) -> Bench {
+fn write(rt: &impl Print, c: Bench, k: Kind, o: &[u8], out: &mut [u8]) -> Bench {
     Bench {
-        written: writing::write(k, o, out, c.at),
+        written: writing::write(rt, k, o, out, c.at),
         ..c
     }
 }
 
-fn shown(c: Bench, out: &[u8]) -> Bench {
-    say::text(b"\toutput ");
-    say::octets(out);
+fn shown(rt: &impl Print, c: Bench, out: &[u8]) -> Bench {
+    say::text(rt, b"\toutput ");
+    say::octets(rt, out);
     c
 }

@@ -36,6 +36,7 @@ pub(crate) fn start() -> Post {
 }
 
 pub(crate) fn done(
+    rt: &impl Print,
     p: Post,
     w: CallWord,
     o: &[u8],
@@ -46,18 +47,18 @@ pub(crate) fn done(
     let b = least(p.book, book.len());
     let n = least(p.output, out.len());
     let s = p.state;
-    let state = called(s, w, o, kept, &mut book[..b], &mut out[..n]);
+    let state = called(rt, s, w, o, kept, &mut book[..b], &mut out[..n]);
     Post { state, ..p }
 }
 
 // Book and output are from now on so long, two octets each.
-pub(crate) fn lent(p: Post, o: &[u8]) -> Post {
+pub(crate) fn lent(rt: &impl Print, p: Post, o: &[u8]) -> Post {
     let book = octets::word(script::at(o, 0), script::at(o, 1));
     let output = octets::word(script::at(o, 2), script::at(o, 3));
-    say::text(b"\tlent a book of ");
-    say::decimal(book as usize);
-    say::text(b" and an output of ");
-    say::decimal(output as usize);
+    say::text(rt, b"\tlent a book of ");
+    say::decimal(rt, book as usize);
+    say::text(rt, b" and an output of ");
+    say::decimal(rt, output as usize);
     Post {
         book: book as usize,
         output: output as usize,
@@ -72,6 +73,7 @@ fn least(a: usize, b: usize) -> usize
 }
 
 fn called(
+    rt: &impl Print,
     s: Held,
     w: CallWord,
     o: &[u8],
@@ -81,15 +83,23 @@ fn called(
 ) -> Held {
     let own = s.own;
     match w {
-        CallWord::Fresh => fresh(octets::word(script::at(o, 0), script::at(o, 1)), wait_in(o)),
-        CallWord::Earlier => earlier(octets::word(script::at(o, 0), script::at(o, 1)), wait_in(o)),
-        CallWord::Take => taken(s, o, kept, book, out),
-        CallWord::Send => send(s, own, o, kept, book, out),
-        CallWord::Broadcast => send(s, controller::ALL, o, kept, book, out),
-        CallWord::Keep => keep(s, o, kept, book, out),
-        CallWord::Offer => offer(s, o, kept, out),
-        CallWord::Wait => wait(s, o.len(), kept, book, out),
-        CallWord::Quiet => line_idle(s, kept),
+        CallWord::Fresh => fresh(
+            rt,
+            octets::word(script::at(o, 0), script::at(o, 1)),
+            wait_in(o),
+        ),
+        CallWord::Earlier => earlier(
+            rt,
+            octets::word(script::at(o, 0), script::at(o, 1)),
+            wait_in(o),
+        ),
+        CallWord::Take => taken(rt, s, o, kept, book, out),
+        CallWord::Send => send(rt, s, own, o, kept, book, out),
+        CallWord::Broadcast => send(rt, s, controller::ALL, o, kept, book, out),
+        CallWord::Keep => keep(rt, s, o, kept, book, out),
+        CallWord::Offer => offer(rt, s, o, kept, out),
+        CallWord::Wait => wait(rt, s, o.len(), kept, book, out),
+        CallWord::Quiet => line_idle(rt, s, kept),
     }
 }
 
@@ -102,51 +112,66 @@ fn wait_in(o: &[u8]) -> u8 {
 }
 
 // A fresh start with this own address and this T.
-fn fresh(own: u16, t: u8) -> Held {
-    say_fresh(own);
-    say_wait(t);
-    started(controller_calls::fresh(own, t))
+fn fresh(rt: &impl Print, own: u16, t: u8) -> Held {
+    say_fresh(rt, own);
+    say_wait(rt, t);
+    started(rt, controller_calls::fresh(own, t))
 }
 
 // The same with the old built-in plan.
-fn earlier(own: u16, t: u8) -> Held {
-    say_fresh(own);
-    say::text(b" with the old plan 0");
-    say_wait(t);
-    started(controller_calls::fresh_old(own, t))
+fn earlier(rt: &impl Print, own: u16, t: u8) -> Held {
+    say_fresh(rt, own);
+    say::text(rt, b" with the old plan 0");
+    say_wait(rt, t);
+    started(rt, controller_calls::fresh_old(own, t))
 }
 
-fn say_fresh(own: u16) {
-    say::text(b"\tfresh ");
-    say::octets(&[octets::high(own), octets::low(own)]);
+fn say_fresh(rt: &impl Print, own: u16) {
+    say::text(rt, b"\tfresh ");
+    say::octets(rt, &[octets::high(own), octets::low(own)]);
 }
 
-fn say_wait(t: u8) {
+fn say_wait(rt: &impl Print, t: u8) {
     if t != WAIT {
-        say::text(b", T = ");
-        say::decimal(t as usize);
+        say::text(rt, b", T = ");
+        say::decimal(rt, t as usize);
     }
 }
 
-fn started(f: HeldAnswer) -> Held {
+fn started(rt: &impl Print, f: HeldAnswer) -> Held {
     if f.told.refusal != refusal::NONE {
-        say::call_refused(f.told.refusal);
+        say::call_refused(rt, f.told.refusal);
     }
     f.state
 }
 
-fn taken(s: Held, o: &[u8], kept: &mut [u8], book: &mut [u8], out: &mut [u8]) -> Held {
-    say::text(b"\ttake ");
-    say::octets(o);
-    take(s, o, kept, book, out)
+fn taken(
+    rt: &impl Print,
+    s: Held,
+    o: &[u8],
+    kept: &mut [u8],
+    book: &mut [u8],
+    out: &mut [u8],
+) -> Held {
+    say::text(rt, b"\ttake ");
+    say::octets(rt, o);
+    take(rt, s, o, kept, book, out)
 }
 
 // Hands the octets over one by one.
-fn take(s: Held, o: &[u8], kept: &mut [u8], book: &mut [u8], out: &mut [u8]) -> Held {
+fn take(
+    rt: &impl Print,
+    s: Held,
+    o: &[u8],
+    kept: &mut [u8],
+    book: &mut [u8],
+    out: &mut [u8],
+) -> Held {
     let mut t = s;
     for i in 0..o.len() {
         let b = o[i];
         t = octet(
+            rt,
             t,
             b,
             i + 1,
@@ -160,10 +185,19 @@ fn take(s: Held, o: &[u8], kept: &mut [u8], book: &mut [u8], out: &mut [u8]) -> 
 }
 
 // A message frame to this address: the octets given are its SEQ and its INFO.
-fn send(s: Held, addr: u16, o: &[u8], kept: &mut [u8], book: &mut [u8], out: &mut [u8]) -> Held {
-    say_send(addr);
-    say::octets(o);
+fn send(
+    rt: &impl Print,
+    s: Held,
+    addr: u16,
+    o: &[u8],
+    kept: &mut [u8],
+    book: &mut [u8],
+    out: &mut [u8],
+) -> Held {
+    say_send(rt, addr);
+    say::octets(rt, o);
     hand_over(
+        rt,
         s,
         addr,
         script::at(o, 0),
@@ -174,13 +208,14 @@ fn send(s: Held, addr: u16, o: &[u8], kept: &mut [u8], book: &mut [u8], out: &mu
     )
 }
 
-fn say_send(addr: u16) {
-    say::text(b"\tsend ");
-    say::octets(&[octets::high(addr), octets::low(addr)]);
-    say::text(b": ");
+fn say_send(rt: &impl Print, addr: u16) {
+    say::text(rt, b"\tsend ");
+    say::octets(rt, &[octets::high(addr), octets::low(addr)]);
+    say::text(rt, b": ");
 }
 
 fn hand_over(
+    rt: &impl Print,
     s: Held,
     addr: u16,
     seq: u8,
@@ -191,16 +226,24 @@ fn hand_over(
 ) -> Held {
     let mut frame = [0u8; OUTPUT_LEN];
     let w = writer::write_message(seq, addr, info, &mut frame, 0);
-    take(s, script::first(&frame, w.count), kept, book, out)
+    take(rt, s, script::first(&frame, w.count), kept, book, out)
 }
 
 // A message 256 times, each with the SEQ after that of the one before, since with the same SEQ it would be a repeat; what comes of all but the last is
 // not said.
-fn keep(s: Held, o: &[u8], kept: &mut [u8], book: &mut [u8], out: &mut [u8]) -> Held {
+fn keep(
+    rt: &impl Print,
+    s: Held,
+    o: &[u8],
+    kept: &mut [u8],
+    book: &mut [u8],
+    out: &mut [u8],
+) -> Held {
     let seq = script::at(o, 0);
     let info = script::rest(o, 1);
     let t = silent(s, seq, info, &mut *kept, &mut *book, &mut *out);
     once_more(
+        rt,
         t,
         std::num::wrapping_add_u8(seq, SILENT),
         info,
@@ -220,6 +263,7 @@ fn silent(s: Held, seq: u8, info: &[u8], kept: &mut [u8], book: &mut [u8], out: 
 }
 
 fn once_more(
+    rt: &impl Print,
     s: Held,
     seq: u8,
     info: &[u8],
@@ -228,12 +272,12 @@ fn once_more(
     out: &mut [u8],
 ) -> Held {
     let own = s.own;
-    say::text(b"\t255 times in silence, then");
-    say_send(own);
-    say::octets(&[seq]);
-    say::text(b" ");
-    say::octets(info);
-    hand_over(s, own, seq, info, kept, book, out)
+    say::text(rt, b"\t255 times in silence, then");
+    say_send(rt, own);
+    say::octets(rt, &[seq]);
+    say::text(rt, b" ");
+    say::octets(rt, info);
+    hand_over(rt, s, own, seq, info, kept, book, out)
 }
 
 // A message frame to its own address and the ACK of its reply, whatever is told.
@@ -284,6 +328,7 @@ fn unheard(s: Held, b: u8, kept: &mut [u8], book: &mut [u8], out: &mut [u8]) -> 
 
 // The octet call with octet b, which is number n of those given; what the last of them tells of octets dropped is said.
 fn octet(
+    rt: &impl Print,
     s: Held,
     b: u8,
     n: usize,
@@ -295,144 +340,152 @@ fn octet(
     let a = controller_calls::octet(s, kept, book, &mut *out, b);
     let told = a.told;
     if told.refusal != refusal::NONE {
-        say_refusal(n, told.refusal, told.parameter);
+        say_refusal(rt, n, told.refusal, told.parameter);
     }
     let e = told.event;
-    say_event(e);
+    say_event(rt, e);
     let link = told.link;
-    say_written(link, script::first(out, told.count));
+    say_written(rt, link, script::first(out, told.count));
     if last {
-        say::dropped(told.dropped);
+        say::dropped(rt, told.dropped);
     }
     a.state
 }
 
-fn say_refusal(n: usize, r: u8, parameter: u8) {
-    say::text(b"\toctet ");
-    say::decimal(n);
-    say::text(b": refusal ");
-    say::decimal(r as usize);
+fn say_refusal(rt: &impl Print, n: usize, r: u8, parameter: u8) {
+    say::text(rt, b"\toctet ");
+    say::decimal(rt, n);
+    say::text(rt, b": refusal ");
+    say::decimal(rt, r as usize);
     if parameter != 0 {
-        say::text(b", parameter ");
-        say::decimal(parameter as usize);
+        say::text(rt, b", parameter ");
+        say::decimal(rt, parameter as usize);
     }
 }
 
-fn say_event(e: Event) {
+fn say_event(rt: &impl Print, e: Event) {
     match e {
         Event::Nothing => {}
         Event::Ack(seq) => {
-            say::text(b"\tevent ACK ");
-            say::octets(&[seq]);
+            say::text(rt, b"\tevent ACK ");
+            say::octets(rt, &[seq]);
         }
         Event::Nak(seq, err) => {
-            say::text(b"\tevent NAK ");
-            say::octets(&[seq, err]);
+            say::text(rt, b"\tevent NAK ");
+            say::octets(rt, &[seq, err]);
         }
     }
 }
 
 // What an octet call wrote, and how the frame out ended.
-fn say_written(link: Link, s: &[u8]) {
+fn say_written(rt: &impl Print, link: Link, s: &[u8]) {
     match link {
         Link::Still => {
             if s.len() != 0 {
-                say::text(b"\treply ");
-                say::octets(s);
+                say::text(rt, b"\treply ");
+                say::octets(rt, s);
             }
         }
         _ => {
-            say::text(b"\t");
-            say_link(link, s);
+            say::text(rt, b"\t");
+            say_link(rt, link, s);
         }
     }
 }
 
 // How the link stands, and where the frame out goes again its octets.
-fn say_link(link: Link, s: &[u8]) {
+fn say_link(rt: &impl Print, link: Link, s: &[u8]) {
     match link {
         Link::Still => {}
         Link::Again => {
-            say::text(b"again ");
-            say::octets(s);
+            say::text(rt, b"again ");
+            say::octets(rt, s);
         }
-        Link::Heard => say::text(b"heard"),
-        Link::Down => say::text(b"down"),
+        Link::Heard => say::text(rt, b"heard"),
+        Link::Down => say::text(rt, b"down"),
     }
 }
 
-fn line_idle(s: Held, kept: &[u8]) -> Held {
-    say::text(b"\tline-idle call");
+fn line_idle(rt: &impl Print, s: Held, kept: &[u8]) -> Held {
+    say::text(rt, b"\tline-idle call");
     let a = controller_calls::line_idle(s, kept);
     if a.told.refusal != refusal::NONE {
-        say::call_refused(a.told.refusal);
+        say::call_refused(rt, a.told.refusal);
     }
-    say::dropped(a.told.dropped);
+    say::dropped(rt, a.told.dropped);
     a.state
 }
 
 // A message of the host's own.
-fn offer(s: Held, o: &[u8], kept: &mut [u8], out: &mut [u8]) -> Held {
-    say::text(b"\toffer ");
-    say::octets(o);
+fn offer(rt: &impl Print, s: Held, o: &[u8], kept: &mut [u8], out: &mut [u8]) -> Held {
+    say::text(rt, b"\toffer ");
+    say::octets(rt, o);
     let a = controller_calls::offer(s, kept, o, &mut *out);
     if a.told.refusal == refusal::NONE {
-        say::text(b"\tsent ");
-        say::octets(script::first(out, a.told.count));
+        say::text(rt, b"\tsent ");
+        say::octets(rt, script::first(out, a.told.count));
     } else {
-        say::call_refused(a.told.refusal);
+        say::call_refused(rt, a.told.refusal);
     }
     a.state
 }
 
 // So many seconds; what the link does in each is said, and what the last of them shows.
-fn wait(s: Held, n: usize, kept: &[u8], book: &[u8], out: &mut [u8]) -> Held {
-    say::text(b"\twait ");
-    say::decimal(n);
+fn wait(rt: &impl Print, s: Held, n: usize, kept: &[u8], book: &[u8], out: &mut [u8]) -> Held {
+    say::text(rt, b"\twait ");
+    say::decimal(rt, n);
     let mut t = s;
     for i in 0..n {
-        t = second(t, i + 1, i + 1 == n, kept, book, &mut *out);
+        t = second(rt, t, i + 1, i + 1 == n, kept, book, &mut *out);
     }
     t
 }
 
-fn second(s: Held, n: usize, last: bool, kept: &[u8], book: &[u8], out: &mut [u8]) -> Held {
+fn second(
+    rt: &impl Print,
+    s: Held,
+    n: usize,
+    last: bool,
+    kept: &[u8],
+    book: &[u8],
+    out: &mut [u8],
+) -> Held {
     let w = controller_calls::second(s, kept, book, &mut *out);
     let told = w.told;
     let link = told.link;
-    say_turn(n, link, script::first(out, told.count));
+    say_turn(rt, n, link, script::first(out, told.count));
     if last {
         if told.refusal == refusal::NONE {
-            say_second(w.plan, w.row);
+            say_second(rt, w.plan, w.row);
         } else {
-            say::call_refused(told.refusal);
+            say::call_refused(rt, told.refusal);
         }
     }
     w.state
 }
 
 // What became of the frame out in second number n.
-fn say_turn(n: usize, link: Link, s: &[u8]) {
+fn say_turn(rt: &impl Print, n: usize, link: Link, s: &[u8]) {
     match link {
         Link::Still => {}
         _ => {
-            say::text(b", after ");
-            say::decimal(n);
-            say::text(b" ");
-            say_link(link, s);
+            say::text(rt, b", after ");
+            say::decimal(rt, n);
+            say::text(rt, b" ");
+            say_link(rt, link, s);
         }
     }
 }
 
-fn say_second(plan: u8, row: Row) {
-    say::text(b": plan ");
-    say::decimal(plan as usize);
-    say::text(b", step ");
-    say::decimal(row.step as usize);
-    say::text(b", left ");
-    say::decimal(row.left as usize);
-    say::text(b", ");
-    say::word(row.steady);
-    say::text(b" ");
-    say::word(row.flashing);
+fn say_second(rt: &impl Print, plan: u8, row: Row) {
+    say::text(rt, b": plan ");
+    say::decimal(rt, plan as usize);
+    say::text(rt, b", step ");
+    say::decimal(rt, row.step as usize);
+    say::text(rt, b", left ");
+    say::decimal(rt, row.left as usize);
+    say::text(rt, b", ");
+    say::word(rt, row.steady);
+    say::text(rt, b" ");
+    say::word(rt, row.flashing);
 }

@@ -1,5 +1,6 @@
 // Standard input, read to its end.
-use libc::STDIN_FILENO;
+use std::io;
+use std::io::Read;
 
 // How reading ended.
 #[derive(Clone, Copy)]
@@ -18,11 +19,11 @@ pub(crate) struct Input {
 }
 
 // Puts into s what it holds of the input.
-pub(crate) fn read_all(s: &mut [u8]) -> Input {
+pub(crate) fn read_all(from: &mut impl Read, s: &mut [u8]) -> Input {
     let mut at = 0;
     while at < s.len() {
-        let got = libc::read(STDIN_FILENO, &mut s[at..]);
-        let n = io::count(got, &s[at..]);
+        let got = from.read(&mut s[at..]);
+        let n = got.unwrap_or(0);
         if n == 0 {
             return Input {
                 count: at,
@@ -34,17 +35,15 @@ pub(crate) fn read_all(s: &mut [u8]) -> Input {
     let mut beyond = [0u8; 1];
     Input {
         count: at,
-        ended: end_by(libc::read(STDIN_FILENO, &mut beyond)),
+        ended: end_by(from.read(&mut beyond)),
     }
 }
 
 // By the answer of the last read.
-fn end_by(got: isize) -> Ended {
-    if got < 0 {
-        return Ended::Failed;
+fn end_by(got: io::Result<usize>) -> Ended {
+    match got {
+        Ok(0) => Ended::Whole,
+        Ok(_) => Ended::Long,
+        Err(_) => Ended::Failed,
     }
-    if got == 0 {
-        return Ended::Whole;
-    }
-    Ended::Long
 }

@@ -48,9 +48,11 @@ use control::Post;
 use controller::{KEPT_LEN, OUTPUT_LEN};
 use frame::INFO_MOST;
 use input::Ended;
-use libc::STDERR_FILENO;
 use record::BOOK_LEN;
 use words::Word;
+
+// The octets of an input at most.
+const INPUT_MOST: usize = 65536;
 
 // The book has an octet to spare, so that one too long can be lent.
 const BOOK_MOST: usize = BOOK_LEN + 1;
@@ -65,14 +67,14 @@ struct Desk {
     post: Post,
 }
 
-fn main() {
-    let mut s = io::large_buffer();
-    let input = input::read_all(&mut s);
+fn main(rt: HostRuntime) {
+    let mut s = [0u8; INPUT_MOST];
+    let input = input::read_all(&mut rt.stdin(), &mut s);
     let ended = input.ended;
-    if cases(script::first(&s, input.count), is_whole(ended)) {
-        tell_ended(ended);
+    if cases(&rt, script::first(&s, input.count), is_whole(ended)) {
+        tell_ended(&rt, ended);
     } else {
-        tell(b"cases: the output can't be written\n");
+        tell(&rt, "cases: the output can't be written");
     }
 }
 
@@ -84,28 +86,29 @@ fn is_whole(e: Ended) -> bool {
     }
 }
 
-fn tell_ended(e: Ended) {
+fn tell_ended(rt: &impl Eprint, e: Ended) {
     match e {
         Ended::Whole => {}
-        Ended::Long => tell(b"cases: the input is longer than 65536 octets\n"),
-        Ended::Failed => tell(b"cases: the input can't be read\n"),
+        Ended::Long => tell(rt, "cases: the input is longer than 65536 octets"),
+        Ended::Failed => tell(rt, "cases: the input can't be read"),
     }
 }
 
-fn tell(s: &[u8]) {
-    io::write_all(STDERR_FILENO, s);
+// Tells it on standard error. Where that can't be done there is nobody left to tell.
+fn tell(rt: &impl Eprint, s: &str) {
+    let _ = rt.eprintln(s);
 }
 
 // Runs the cases and gives whether all could be printed. Of an input that is not whole the last line may have been cut off,
 // and is not run.
-fn cases(s: &[u8], whole: bool) -> bool {
+fn cases(rt: &impl Print, s: &[u8], whole: bool) -> bool {
     let mut from = 0;
     while from < s.len() {
         let end = script::end_of(s, from, b'\n');
         if end == s.len() && !whole {
             return true;
         }
-        if !case(&s[from..end]) {
+        if !case(rt, &s[from..end]) {
             return false;
         }
         from = end + 1;
@@ -114,7 +117,7 @@ fn cases(s: &[u8], whole: bool) -> bool {
 }
 
 // Runs a case and gives whether its line could be printed.
-fn case(s: &[u8]) -> bool {
+fn case(rt: &impl Print, s: &[u8]) -> bool {
     // the octets of INFO that are lent to the decoder, and those that are lent to the controller
     let mut info = [0u8; INFO_MOST];
     let mut kept = [0u8; KEPT_LEN];
@@ -125,16 +128,25 @@ fn case(s: &[u8]) -> bool {
         post: control::start(),
     };
     let mut end = script::end_of(s, 0, b'\t');
-    say::text(script::first(s, end));
+    say::text(rt, script::first(s, end));
     while end < s.len() {
         let from = end + 1;
         end = script::end_of(s, from, b'\t');
-        d = action(d, &s[from..end], &mut info, &mut kept, &mut book, &mut out);
+        d = action(
+            rt,
+            d,
+            &s[from..end],
+            &mut info,
+            &mut kept,
+            &mut book,
+            &mut out,
+        );
     }
-    say::line_end()
+    say::line_end(rt)
 }
 
 fn action(
+    rt: &impl Print,
     d: Desk,
     s: &[u8],
     info: &mut [u8],
@@ -146,6 +158,7 @@ fn action(
     let end = script::end_of(s, 0, b' ');
     let n = script::octets(script::rest(s, end), &mut o);
     done(
+        rt,
         d,
         script::first(s, end),
         script::first(&o, n),
@@ -157,6 +170,7 @@ fn action(
 }
 
 fn done(
+    rt: &impl Print,
     d: Desk,
     word: &[u8],
     o: &[u8],
@@ -170,20 +184,20 @@ fn done(
     let w = words::find(word);
     match w {
         Word::Frame(f) => Desk {
-            bench: bench::done(bench, f, o, info, out),
+            bench: bench::done(rt, bench, f, o, info, out),
             ..d
         },
         Word::Call(c) => Desk {
-            post: control::done(post, c, o, kept, book, out),
+            post: control::done(rt, post, c, o, kept, book, out),
             ..d
         },
         Word::Lend => Desk {
-            post: control::lent(post, o),
+            post: control::lent(rt, post, o),
             ..d
         },
         Word::Unknown => {
-            say::text(b"\tunknown word: ");
-            say::text(word);
+            say::text(rt, b"\tunknown word: ");
+            say::text(rt, word);
             d
         }
     }

@@ -5,91 +5,91 @@ use frame::decoder::{Found, Head, Place, Receiver};
 use frame_calls::receiver;
 use octets::refusal;
 
-pub(crate) fn read(r: Receiver, kept: &mut [u8], s: &[u8]) -> Receiver {
+pub(crate) fn read(rt: &impl Print, r: Receiver, kept: &mut [u8], s: &[u8]) -> Receiver {
     let mut e = r;
     for i in 0..s.len() {
         let b = s[i];
-        e = take(e, &mut *kept, b, i + 1, i + 1 == s.len());
+        e = take(rt, e, &mut *kept, b, i + 1, i + 1 == s.len());
     }
     let h = e.head;
-    say_place(h);
+    say_place(rt, h);
     e
 }
 
 // Takes octet b, which is number n of those given; what the last of them tells of octets dropped is said.
-fn take(r: Receiver, kept: &mut [u8], b: u8, n: usize, last: bool) -> Receiver {
+fn take(rt: &impl Print, r: Receiver, kept: &mut [u8], b: u8, n: usize, last: bool) -> Receiver {
     let t = receiver::octet(r, &mut *kept, b);
     let f = t.found;
     if t.refusal != refusal::NONE {
-        say::call_refused(t.refusal);
+        say::call_refused(rt, t.refusal);
     }
-    say_found(f, kept, n);
+    say_found(rt, f, kept, n);
     if last {
-        say::dropped(t.dropped);
+        say::dropped(rt, t.dropped);
     }
     t.receiver
 }
 
-pub(crate) fn idle(r: Receiver, kept: &[u8]) -> Receiver {
-    say::text(b"\tline idle");
+pub(crate) fn idle(rt: &impl Print, r: Receiver, kept: &[u8]) -> Receiver {
+    say::text(rt, b"\tline idle");
     let t = receiver::line_idle(r, kept);
     let e = t.receiver;
     if t.refusal != refusal::NONE {
-        say::call_refused(t.refusal);
+        say::call_refused(rt, t.refusal);
     }
-    say::dropped(t.dropped);
+    say::dropped(rt, t.dropped);
     let h = e.head;
-    say_place(h);
+    say_place(rt, h);
     e
 }
 
-fn say_found(f: Found, kept: &[u8], n: usize) {
+fn say_found(rt: &impl Print, f: Found, kept: &[u8], n: usize) {
     match f {
         Found::Nothing => {}
         Found::Refused(r, k, seq, addr) => {
-            say_number(n);
-            say::text(b"refusal ");
-            say::decimal(r as usize);
-            say::text(b", ");
-            say::head(k, seq, addr);
+            say_number(rt, n);
+            say::text(rt, b"refusal ");
+            say::decimal(rt, r as usize);
+            say::text(rt, b", ");
+            say::head(rt, k, seq, addr);
         }
         Found::Message(seq, addr, filled) => {
-            say_number(n);
-            say::head(Kind::Message, seq, addr);
-            say::text(b", INFO ");
-            say::octets(script::first(kept, filled as usize));
+            say_number(rt, n);
+            say::head(rt, Kind::Message, seq, addr);
+            say::text(rt, b", INFO ");
+            say::octets(rt, script::first(kept, filled as usize));
         }
         Found::Ack(seq, addr) => {
-            say_number(n);
-            say::head(Kind::Ack, seq, addr);
+            say_number(rt, n);
+            say::head(rt, Kind::Ack, seq, addr);
         }
         Found::Nak(seq, addr, err) => {
-            say_number(n);
-            say::head(Kind::Nak, seq, addr);
-            say::text(b", ERR ");
-            say::octets(&[err]);
+            say_number(rt, n);
+            say::head(rt, Kind::Nak, seq, addr);
+            say::text(rt, b", ERR ");
+            say::octets(rt, &[err]);
         }
     }
 }
 
-fn say_number(n: usize) {
-    say::text(b"\toctet ");
-    say::decimal(n);
-    say::text(b": ");
+fn say_number(rt: &impl Print, n: usize) {
+    say::text(rt, b"\toctet ");
+    say::decimal(rt, n);
+    say::text(rt, b": ");
 }
 
-fn say_place(h: Head) {
+fn say_place(rt: &impl Print, h: Head) {
     let p = h.place;
     match p {
-        Place::Idle => say::text(b"\tidle"),
-        Place::LoneAa => say::text(b"\tAA remembered"),
-        _ => say::text(b"\tin a frame"),
+        Place::Idle => say::text(rt, b"\tidle"),
+        Place::LoneAa => say::text(rt, b"\tAA remembered"),
+        _ => say::text(rt, b"\tin a frame"),
     }
 }
 
 // An impossible decoder: an ACK has no INFO.
-pub(crate) fn unsound() -> Receiver {
-    say::text(b"\tdecoder at INFO of an ACK");
+pub(crate) fn unsound(rt: &impl Print) -> Receiver {
+    say::text(rt, b"\tdecoder at INFO of an ACK");
     let r = receiver::fresh();
     let h = r.head;
     let head = Head {
@@ -101,8 +101,8 @@ pub(crate) fn unsound() -> Receiver {
 }
 
 // So many octets dropped so far.
-pub(crate) fn counted(r: Receiver, n: u16) -> Receiver {
-    say::text(b"\tso far");
-    say::dropped(n);
+pub(crate) fn counted(rt: &impl Print, r: Receiver, n: u16) -> Receiver {
+    say::text(rt, b"\tso far");
+    say::dropped(rt, n);
     Receiver { dropped: n, ..r }
 }

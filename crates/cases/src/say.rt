@@ -3,47 +3,46 @@ ghost use Rattle.std.specs.Prelude.{◌+◌, ◌<◌, ◌≤◌, length};
 
 use crate::script;
 use frame::Kind;
-use libc::STDOUT_FILENO;
 
 // So many of one octet in a row are counted.
 const COUNTED: usize = 4;
 
-pub(crate) fn text(s: &[u8]) {
-    io::write_all(STDOUT_FILENO, s);
+pub(crate) fn text(rt: &impl Print, s: &[u8]) {
+    let _ = rt.write_all(s);
 }
 
 // Ends a line and gives whether that could be written.
-pub(crate) fn line_end() -> bool {
-    io::write_all(STDOUT_FILENO, b"\n")
+pub(crate) fn line_end(rt: &impl Print) -> bool {
+    rt.write_all(b"\n").is_ok()
 }
 
-pub(crate) fn decimal(n: usize) {
+pub(crate) fn decimal(rt: &impl Print, n: usize) {
     let mut t = [0u8; 20];
     let end = text::put_decimal(n as u64, &mut t, 0);
-    text(script::first(&t, end));
+    text(rt, script::first(&t, end));
 }
 
-fn hex2(b: u8) {
+fn hex2(rt: &impl Print, b: u8) {
     let mut t = [0u8; 2];
     text::put_hex2(b, &mut t, 0);
-    text(&t);
+    text(rt, &t);
 }
 
 // A lamp word in sixteen digits, as in the listing.
-pub(crate) fn word(x: u64) {
+pub(crate) fn word(rt: &impl Print, x: u64) {
     let mut t = [0u8; 16];
     text::put_hex16(x, &mut t, 0);
-    text(&t);
+    text(rt, &t);
 }
 
 // Octets parted by blanks, as an action has them.
-pub(crate) fn octets(s: &[u8]) {
+pub(crate) fn octets(rt: &impl Print, s: &[u8]) {
     let mut i = 0;
     while i < s.len() {
         let n = alike(s, i);
-        i += run(s[i], n);
+        i += run(rt, s[i], n);
         if i < s.len() {
-            text(b" ");
+            text(rt, b" ");
         }
     }
 }
@@ -63,40 +62,40 @@ fn alike(s: &[u8], i: usize) -> usize
 }
 
 // One of n like octets, or all of them with their number; gives how many were said.
-fn run(b: u8, n: usize) -> usize
+fn run(rt: &impl Print, b: u8, n: usize) -> usize
     requires { 0 < n }
     ensures { (0 < result) × (result ≤ n) }
 {
     if n < COUNTED {
-        hex2(b);
+        hex2(rt, b);
         return 1;
     }
-    text(b"x");
-    decimal(n);
-    text(b" ");
-    hex2(b);
+    text(rt, b"x");
+    decimal(rt, n);
+    text(rt, b" ");
+    hex2(rt, b);
     n
 }
 
 // A frame by its kind, SEQ and ADDR.
-pub(crate) fn head(k: Kind, seq: u8, addr: u16) {
+pub(crate) fn head(rt: &impl Print, k: Kind, seq: u8, addr: u16) {
     match k {
-        Kind::Message => text(b"message "),
-        Kind::Ack => text(b"ACK "),
-        Kind::Nak => text(b"NAK "),
+        Kind::Message => text(rt, b"message "),
+        Kind::Ack => text(rt, b"ACK "),
+        Kind::Nak => text(rt, b"NAK "),
     }
-    octets(&[seq, octets::high(addr), octets::low(addr)]);
+    octets(rt, &[seq, octets::high(addr), octets::low(addr)]);
 }
 
 // How many octets were dropped, if any.
-pub(crate) fn dropped(n: u16) {
+pub(crate) fn dropped(rt: &impl Print, n: u16) {
     if n != 0 {
-        text(b"\tdropped ");
-        decimal(n as usize);
+        text(rt, b"\tdropped ");
+        decimal(rt, n as usize);
     }
 }
 
-pub(crate) fn call_refused(n: u8) {
-    text(b"\tcall refused ");
-    decimal(n as usize);
+pub(crate) fn call_refused(rt: &impl Print, n: u8) {
+    text(rt, b"\tcall refused ");
+    decimal(rt, n as usize);
 }

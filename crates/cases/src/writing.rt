@@ -10,30 +10,30 @@ use octets::{Written, refusal};
 const OWN: u16 = 0x0001;
 
 // The octets given are SEQ and, after it, INFO of a message or ERR of a NAK.
-pub(crate) fn write(k: Kind, o: &[u8], out: &mut [u8], at: usize) -> usize {
-    say_frame(k, o);
+pub(crate) fn write(rt: &impl Print, k: Kind, o: &[u8], out: &mut [u8], at: usize) -> usize {
+    say_frame(rt, k, o);
     let w = written(k, o, &mut *out, at);
-    say_written(w, out, at)
+    say_written(rt, w, out, at)
 }
 
-fn say_written(w: Written, out: &[u8], at: usize) -> usize {
+fn say_written(rt: &impl Print, w: Written, out: &[u8], at: usize) -> usize {
     if w.refusal == refusal::NONE {
-        say::text(b"\twritten ");
-        say::decimal(w.count);
-        say::text(b": ");
-        say::octets(script::first(script::rest(out, at), w.count));
+        say::text(rt, b"\twritten ");
+        say::decimal(rt, w.count);
+        say::text(rt, b": ");
+        say::octets(rt, script::first(script::rest(out, at), w.count));
     } else {
-        say::call_refused(w.refusal);
+        say::call_refused(rt, w.refusal);
     }
     w.count
 }
 
 // The message writer, given a code and its fields' values, two octets each.
-pub(crate) fn compose(o: &[u8], out: &mut [u8], at: usize) -> usize {
-    say::text(b"\tcompose ");
-    say::octets(o);
+pub(crate) fn compose(rt: &impl Print, o: &[u8], out: &mut [u8], at: usize) -> usize {
+    say::text(rt, b"\tcompose ");
+    say::octets(rt, o);
     let w = message_calls::writer::write(message_in(o), &mut *out, at);
-    say_written(w, out, at)
+    say_written(rt, w, out, at)
 }
 
 fn message_in(o: &[u8]) -> Message {
@@ -62,15 +62,15 @@ fn fields_in(n: usize) -> usize {
     (n - 2) / 2
 }
 
-fn say_frame(k: Kind, o: &[u8]) {
-    say::text(b"\twrite ");
-    say::head(k, script::at(o, 0), OWN);
+fn say_frame(rt: &impl Print, k: Kind, o: &[u8]) {
+    say::text(rt, b"\twrite ");
+    say::head(rt, k, script::at(o, 0), OWN);
     match k {
-        Kind::Message => say::text(b", INFO "),
+        Kind::Message => say::text(rt, b", INFO "),
         Kind::Ack => {}
-        Kind::Nak => say::text(b", ERR "),
+        Kind::Nak => say::text(rt, b", ERR "),
     }
-    say::octets(script::rest(o, 1));
+    say::octets(rt, script::rest(o, 1));
 }
 
 fn written(k: Kind, o: &[u8], out: &mut [u8], at: usize) -> Written {

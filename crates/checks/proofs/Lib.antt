@@ -1,4 +1,3 @@
--- A proof with answers of its own gives them before it is closed, `let met = .. in tie.close met`, so that each is judged though a callee is not proved.
 pub mod Laws
 pub mod Fields
 pub mod Stands

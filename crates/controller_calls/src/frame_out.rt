@@ -22,6 +22,7 @@ pub(crate) fn wait_stands(t: u8) -> bool
 }
 
 // Is none out, or one that can be?
+#[tactic(auto, unfolding(controller::specs::Sender::out_fits))]
 pub(crate) fn out_stands(t: u8, o: Out) -> bool
     ensures { result ≡ out_fits t o }
 {
@@ -45,6 +46,7 @@ pub(crate) fn out_stands(t: u8, o: Out) -> bool
 }
 
 // "the same frame goes again; after five sends without an ACK, the link is reported down".
+#[tactic(auto, unfolding(controller::specs::Sender::again_turn))]
 fn again(o: Out) -> Turn
     ensures { result ≡ again_turn o }
 {
@@ -91,6 +93,7 @@ fn answers(ours: u8, o: Out, n: u8) -> bool
 }
 
 // An ACK for us with SEQ n.
+#[tactic(auto, unfolding(controller::specs::Sender::ack_turn))]
 pub(crate) fn acked(ours: u8, o: Out, n: u8) -> Turn
     ensures { result ≡ ack_turn ours o n }
 {
@@ -104,6 +107,7 @@ pub(crate) fn acked(ours: u8, o: Out, n: u8) -> Turn
 }
 
 // A NAK for us with SEQ n, whatever its ERR.
+#[tactic(auto, unfolding(controller::specs::Sender::nak_turn))]
 pub(crate) fn naked(ours: u8, o: Out, n: u8) -> Turn
     ensures { result ≡ nak_turn ours o n }
 {
@@ -114,6 +118,7 @@ pub(crate) fn naked(ours: u8, o: Out, n: u8) -> Turn
 }
 
 // An accepted second.
+#[tactic(auto, unfolding(controller::specs::Sender::second_turn))]
 pub(crate) fn passed(t: u8, o: Out) -> Turn
     requires { out_fits t o ≡ true }
     ensures { result ≡ second_turn t o }

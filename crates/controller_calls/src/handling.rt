@@ -94,6 +94,7 @@ fn refused(code: u16, requested: u8, n: u8, parameter: u8) -> Handled
 }
 
 // 5F 14 and 5F 15.
+#[tactic(auto, unfolding(controller::specs::Handling::set_as))]
 fn set(code: u16, requested: u8, a: Answered) -> Handled
     ensures { result ≡ set_as code requested a }
 {
@@ -114,6 +115,7 @@ fn standing(which: Which, book: &[u8], plan: u8) -> u8
 }
 
 // "5F 18 notes the requested plan."
+#[tactic(auto, unfolding(controller::specs::Handling::run_as))]
 fn run(which: Which, code: u16, requested: u8, book: &[u8], plan: u8) -> Handled
     requires { (length book.now ≡ book_len) × (plan ≤ plans_most) }
     ensures { result ≡ run_as which code requested book.now plan }
@@ -124,6 +126,7 @@ fn run(which: Which, code: u16, requested: u8, book: &[u8], plan: u8) -> Handled
     accepted(plan, Reply::CarriedOut(code))
 }
 
+#[tactic(auto, unfolding(controller::specs::Handling::query_times_as))]
 fn query_times(which: Which, code: u16, requested: u8, book: &[u8], plan: u8) -> Handled
     requires { (length book.now ≡ book_len) × (plan ≤ plans_most) }
     ensures { result ≡ query_times_as which code requested book.now plan }
@@ -134,6 +137,7 @@ fn query_times(which: Which, code: u16, requested: u8, book: &[u8], plan: u8) ->
     accepted(requested, Reply::Times(plan))
 }
 
+#[tactic(auto, unfolding(controller::specs::Handling::query_plan_as))]
 fn query_plan(which: Which, code: u16, requested: u8, book: &[u8], plan: u8) -> Handled
     requires { (length book.now ≡ book_len) × (plan ≤ plans_most) }
     ensures { result ≡ query_plan_as which code requested book.now plan }

@@ -44,6 +44,7 @@ pub fn fresh_old(own: u16, wait: u8) -> HeldAnswer
     fresh_with(Which::Old, own, wait)
 }
 
+#[tactic(auto, unfolding(controller::specs::Seconds::started_of, controller::specs::State::fresh_of, frame::specs::Dropped::fresh_receiver))]
 fn fresh_with(which: Which, own: u16, wait: u8) -> HeldAnswer
     ensures { StartsWith (started_of which own wait) result }
 {

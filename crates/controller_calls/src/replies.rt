@@ -228,6 +228,7 @@ fn message_taken(
 }
 
 // 02, E6: "while one is out, a new message that calls for a reply is met with silence".
+#[tactic(auto, unfolding(controller::specs::Replies::met_with_silence))]
 fn met_with_silence(s: Held, addr: u16, info: &[u8]) -> bool
     requires { code_len ≤ length info.now }
     ensures { SilenceWith s addr info.now result }

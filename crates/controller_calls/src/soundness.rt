@@ -14,6 +14,7 @@ use plan_calls::book;
 use record::PLANS_MOST;
 
 // So many octets are lent; none of them is read.
+#[tactic(auto, unfolding(crate::specs::Held::held_sound))]
 pub(crate) fn stands(s: Held, lent: usize) -> bool
     ensures { result ≡ held_sound s lent }
 {
@@ -45,6 +46,7 @@ pub(crate) fn stands(s: Held, lent: usize) -> bool
 }
 
 // Most octets of a quiet line find the decoder idle, which is always possible: that is told without a call.
+#[tactic(auto, unfolding(frame::specs::Decoder::possible_of))]
 fn decoder_stands(h: Head) -> bool
     ensures { result ≡ possible_of h }
 {

@@ -26,6 +26,7 @@ pub(crate) fn started(which: Which, plan: u8, copy: [u8; RECORD_LEN]) -> Running
 }
 
 // "then moves on. The call that answers a cycle's last second also picks the next plan".
+#[tactic(auto, unfolding(controller::specs::Seconds::moved_on))]
 pub(crate) fn moved_on(u: Running, cycle: u16, requested: u8, book: &[u8]) -> Running
     requires { (length book.now ≡ book_len) × (u.position < 65535) × (cycle ≡ cycle_of u.copy) }
     ensures { result ≡ moved_on u requested book.now }

@@ -5,24 +5,44 @@
 
 #![tactic(auto)]
 
+ghost use Rattle.std.specs.Prelude.{◌≤◌, length};
+
 use controller::{Held, KEPT_LEN, OUTPUT_LEN};
-use libc::{STDIN_FILENO, STDOUT_FILENO};
 use record::BOOK_LEN;
+use std::io::Read;
 
 const OWN: u16 = 0x0001;
 
 const WAIT: u8 = 10;
 
-fn main() {
-    let mut events = io::large_buffer();
-    let n = io::read_full(STDIN_FILENO, &mut events);
+// The octets of all events at most.
+const EVENTS_MOST: usize = 65536;
+
+fn main(rt: HostRuntime) {
+    let mut events = [0u8; EVENTS_MOST];
+    let n = read_full(&mut rt.stdin(), &mut events);
     let mut kept = [0u8; KEPT_LEN];
     let mut book = [0u8; BOOK_LEN];
     let mut out = [0u8; OUTPUT_LEN];
     let f = controller_calls::fresh(OWN, WAIT);
     let state = made(f.state, &events[..n], &mut kept, &mut book, &mut out);
     // so that no call is left out as one whose result nobody sees
-    io::write_all(STDOUT_FILENO, &[state.seq, state.requested, out[0]]);
+    let _ = rt.write_all(&[state.seq, state.requested, out[0]]);
+}
+
+// Puts into s what it holds of the input, and gives how many octets that is; a read that fails ends the input.
+fn read_full(input: &mut impl Read, s: &mut [u8]) -> usize
+    ensures { result ≤ length s.new }
+{
+    let mut at = 0;
+    while at < s.len() {
+        let n = input.read(&mut s[at..]).unwrap_or(0);
+        if n == 0 {
+            return at;
+        }
+        at += n;
+    }
+    at
 }
 
 fn made(start: Held, events: &[u8], kept: &mut [u8], book: &mut [u8], out: &mut [u8]) -> Held {

@@ -13,13 +13,14 @@ ghost use Rattle.printout.specs.Run.{line_made};
 ghost use Rattle.listing.specs.Room.{Room, half};
 
 use controller::{KEPT_LEN, OUTPUT_LEN};
-use libc::{STDERR_FILENO, STDIN_FILENO, STDOUT_FILENO};
 use line::{Line, LineFound};
 use plan::Which;
 use printout::{Asked, Run};
 use printout_calls::run;
 use printout_calls::run::WORD_LEN;
 use record::BOOK_LEN;
+use std::env::{Env, FillError};
+use std::io::Read;
 
 // The octets of one read at most.
 const BLOCK_LEN: usize = 4096;
@@ -45,28 +46,42 @@ struct Reading {
 }
 
 // Of a word that is too long for the room given nothing is handed out, and an empty one is not known.
-fn main() {
+fn main(rt: HostRuntime) {
     let mut word = [0u8; WORD_LEN];
-    let n = os::arg(1, &mut word);
-    let asked = run::start_asked(words_given(), &word[..n]);
+    let n = rt.arg(1, &mut word).unwrap_or(0);
+    let asked = run::start_asked(words_given(&rt), &word[..n]);
     match asked {
-        Asked::Start(which) => list(which),
-        Asked::Unknown => {
-            io::write_all(STDERR_FILENO, b"usage: listing [old]\n");
+        Asked::Start(which) => list(&rt, &mut rt.stdin(), which),
+        Asked::Unknown => tell(&rt, "usage: listing [old]"),
+    }
+}
+
+// How many words stand after the program's name. They are counted one by one, since nothing says how many there are.
+fn words_given(rt: &impl Env) -> usize {
+    for n in 0..usize::MAX {
+        if !is_given(rt, n + 1) {
+            return n;
         }
     }
+    usize::MAX
 }
 
-// How many words stand after the program's name.
-fn words_given() -> usize {
-    let n = os::arg_count();
-    if n == 0 {
-        return 0;
+// Whether there is a word at this place. No room is lent for it, since it is not wanted: one that is there may be too long.
+fn is_given(rt: &impl Env, place: usize) -> bool {
+    match rt.arg(place, &mut []) {
+        Ok(_) => true,
+        Err(FillError::TooLong) => true,
+        Err(FillError::NotPresent) => false,
     }
-    n - 1
 }
 
-fn list(which: Which) {
+// Tells it on standard error. Where that can't be done there is nobody left to tell.
+fn tell(rt: &impl Eprint, s: &str) {
+    let _ = rt.eprintln(s);
+}
+
+#[tactic(auto, unfolding(printout::specs::Listing::header))]
+fn list(rt: &(impl Print + Eprint), input: &mut impl Read, which: Which) {
     let mut kept = [0u8; KEPT_LEN];
     let mut book = [0u8; BOOK_LEN];
     let mut out = [0u8; OUTPUT_LEN];
@@ -83,18 +98,34 @@ fn list(which: Which) {
         },
         more: true,
     };
-    read_all(start, &mut kept, &mut book, &mut out, &mut text);
+    read_all(rt, input, start, &mut kept, &mut book, &mut out, &mut text);
 }
 
 // Reads to the end. A proved loop has to end, and nothing says that an input does, so the turns are counted down from a
 // number that no run uses up.
-fn read_all(start: Reading, kept: &mut [u8], book: &mut [u8], out: &mut [u8], text: &mut [u8])
+fn read_all(
+    rt: &(impl Print + Eprint),
+    input: &mut impl Read,
+    start: Reading,
+    kept: &mut [u8],
+    book: &mut [u8],
+    out: &mut [u8],
+    text: &mut [u8],
+)
     requires { Room start.printing.run text.old }
 {
     let mut g = start;
     let mut turns = u64::MAX;
     while turns > 0 {
-        g = read_next(g, &mut *kept, &mut *book, &mut *out, &mut *text);
+        g = read_next(
+            rt,
+            &mut *input,
+            g,
+            &mut *kept,
+            &mut *book,
+            &mut *out,
+            &mut *text,
+        );
         turns = turns_left(turns, g.more);
     }
 }
@@ -109,6 +140,8 @@ fn turns_left(turns: u64, more: bool) -> u64
 
 // A read may wait for somebody to type, so all there is to see is written out before it.
 fn read_next(
+    rt: &(impl Print + Eprint),
+    input: &mut impl Read,
     g: Reading,
     kept: &mut [u8],
     book: &mut [u8],
@@ -118,7 +151,7 @@ fn read_next(
     requires { Room g.printing.run text.old }
     ensures { Room result.printing.run text.new }
 {
-    let printing = written(g.printing, &*text);
+    let printing = written(rt, g.printing, &*text);
     let shown = Reading { printing, ..g };
     if printing.lost {
         return Reading {
@@ -126,12 +159,14 @@ fn read_next(
             ..shown
         };
     }
-    read_once(shown, kept, book, out, text)
+    read_once(rt, input, shown, kept, book, out, text)
 }
 
 // At the end of the input its last line may lack a line feed. Where a read fails the line under way was cut off, and nobody
 // knows what it was to be.
 fn read_once(
+    rt: &(impl Print + Eprint),
+    input: &mut impl Read,
     g: Reading,
     kept: &mut [u8],
     book: &mut [u8],
@@ -142,21 +177,22 @@ fn read_once(
     ensures { Room result.printing.run text.new }
 {
     let mut block = [0u8; BLOCK_LEN];
-    let got = libc::read(STDIN_FILENO, &mut block);
-    if got < 0 {
-        io::write_all(STDERR_FILENO, b"listing: the input can't be read\n");
-        return Reading { more: false, ..g };
+    match input.read(&mut block) {
+        Ok(0) => {
+            let r = last(rt, g, kept, book, out, text);
+            Reading { more: false, ..r }
+        }
+        Ok(n) => taken(rt, g, &block[..n], kept, book, out, text),
+        Err(_) => {
+            tell(rt, "listing: the input can't be read");
+            Reading { more: false, ..g }
+        }
     }
-    let n = io::count(got, &block);
-    if n == 0 {
-        let r = last(g, kept, book, out, text);
-        return Reading { more: false, ..r };
-    }
-    taken(g, &block[..n], kept, book, out, text)
 }
 
 // Takes the octets of one read.
 fn taken(
+    rt: &(impl Print + Eprint),
     g: Reading,
     s: &[u8],
     kept: &mut [u8],
@@ -176,7 +212,7 @@ fn taken(
         match f {
             LineFound::More => {}
             _ => {
-                p = done(p, f, &mut *kept, &mut *book, &mut *out, &mut *text);
+                p = done(rt, p, f, &mut *kept, &mut *book, &mut *out, &mut *text);
             }
         }
     }
@@ -188,11 +224,19 @@ fn taken(
 }
 
 // The end of the input ends the last line.
-fn last(g: Reading, kept: &mut [u8], book: &mut [u8], out: &mut [u8], text: &mut [u8]) -> Reading
+fn last(
+    rt: &(impl Print + Eprint),
+    g: Reading,
+    kept: &mut [u8],
+    book: &mut [u8],
+    out: &mut [u8],
+    text: &mut [u8],
+) -> Reading
     requires { Room g.printing.run text.old }
     ensures { Room result.printing.run text.new }
 {
     let p = done(
+        rt,
         g.printing,
         line::line_end(g.line),
         kept,
@@ -200,12 +244,13 @@ fn last(g: Reading, kept: &mut [u8], book: &mut [u8], out: &mut [u8], text: &mut
         out,
         &mut *text,
     );
-    let printing = written(p, text);
+    let printing = written(rt, p, text);
     Reading { printing, ..g }
 }
 
 // A line that has ended.
 fn done(
+    rt: &(impl Print + Eprint),
     p: Printing,
     f: LineFound,
     kept: &mut [u8],
@@ -217,7 +262,7 @@ fn done(
     ensures { Room result.run text.new }
 {
     let run = listed(p.run, f, kept, book, out, &mut *text);
-    flushed(Printing { run, ..p }, text)
+    flushed(rt, Printing { run, ..p }, text)
 }
 
 // The text of a line is never dropped: with half the text free there is room for it.
@@ -236,18 +281,18 @@ fn listed(
 }
 
 // Writes the text out where more than half of it is filled.
-fn flushed(p: Printing, text: &[u8]) -> Printing
+fn flushed(rt: &(impl Print + Eprint), p: Printing, text: &[u8]) -> Printing
     requires { p.run.used ≤ length text.now }
     ensures { result.run.used ≤ half }
 {
     if p.run.used <= HALF {
         return p;
     }
-    written(p, text)
+    written(rt, p, text)
 }
 
 // Writes the text out.
-fn written(p: Printing, text: &[u8]) -> Printing
+fn written(rt: &(impl Print + Eprint), p: Printing, text: &[u8]) -> Printing
     requires { p.run.used ≤ length text.now }
     ensures { result.run.used ≡ 0 }
 {
@@ -255,18 +300,18 @@ fn written(p: Printing, text: &[u8]) -> Printing
     let used = run.used;
     Printing {
         run: Run { used: 0, ..run },
-        lost: lost(p.lost, &text[..used]),
+        lost: lost(rt, p.lost, &text[..used]),
     }
 }
 
 // Whether the output is lost, before these octets or with them; that it is is told once.
-fn lost(before: bool, s: &[u8]) -> bool {
+fn lost(rt: &(impl Print + Eprint), before: bool, s: &[u8]) -> bool {
     if before {
         return true;
     }
-    if io::write_all(STDOUT_FILENO, s) {
+    if rt.write_all(s).is_ok() {
         return false;
     }
-    io::write_all(STDERR_FILENO, b"listing: the output can't be written\n");
+    tell(rt, "listing: the output can't be written");
     true
 }

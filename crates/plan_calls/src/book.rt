@@ -107,6 +107,7 @@ pub fn plan_part<'a>(book: &'a [u8], copy: &'a [u8], plan: u8) -> &'a [u8]
     &book[at..end]
 }
 
+#[tactic(auto, unfolding(plan::specs::Reading::read_refusal))]
 fn read_refusal(book: &[u8], copy: &[u8], plan: u8) -> u8
     ensures { result ≡ read_refusal book.now copy.now plan }
 {
@@ -142,6 +143,7 @@ pub(crate) fn standing_of(book: &[u8], plan: u8) -> u8
 }
 
 // "reading a plan takes a copy of either".
+#[tactic(auto, unfolding(plan::specs::Reading::either_built_in))]
 fn either_built_in(copy: &[u8]) -> bool
     ensures { result ≡ either_built_in copy.now }
 {

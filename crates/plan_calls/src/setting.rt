@@ -74,6 +74,7 @@ fn other_code(info: &[u8], code: u16) -> bool
 }
 
 // What is read of any set: refused are a book of another length, a message of another code, and what the message reader refuses.
+#[tactic(auto, unfolding(crate::specs::Setting::set_read))]
 fn read_set(len: usize, info: &[u8], code: u16) -> Read
     ensures { result ≡ set_read len code info.now }
 {
@@ -86,6 +87,7 @@ fn read_set(len: usize, info: &[u8], code: u16) -> Read
     reader::read(info)
 }
 
+#[tactic(auto, unfolding(message::specs::Reader::not_read, message::specs::Reader::no_message, message::specs::Values::zeros))]
 fn not_read(n: u8) -> Read
     ensures { result ≡ not_read n 0 }
 {
@@ -100,6 +102,7 @@ fn not_read(n: u8) -> Read
     }
 }
 
+#[tactic(auto, unfolding(plan::specs::Setting::not_made))]
 fn not_made(n: u8, field: u8) -> NewRecord
     ensures { result ≡ not_made n field }
 {
@@ -128,6 +131,7 @@ fn made_times(body: &[u8]) -> NewRecord
 }
 
 // The field that a check of the times names.
+#[tactic(auto, unfolding(plan::specs::Setting::times_field))]
 fn times_field(n: u16) -> u8
     requires { (1 ≤ n) × (n ≤ 16) }
     ensures { result ≡ times_field n }
@@ -188,6 +192,7 @@ fn ready_record(old: &[u8], body: &[u8]) -> [u8; RECORD_LEN]
 }
 
 // What is made goes into its place; where nothing is made, nothing is written.
+#[tactic(auto, unfolding(plan::specs::Setting::kept_as))]
 fn keep(book: &mut [u8], plan: u8, m: NewRecord) -> Answered
     requires { (length book.old ≡ book_len) × (1 ≤ plan) × (plan ≤ plans_most) }
     ensures { SetLeaves (kept_as plan m book.old) result book.new }

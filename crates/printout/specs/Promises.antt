@@ -144,11 +144,11 @@ ListingBegins = (which : Which) → ListingStarts which
 -- plan at 18
 abbrev pub TwoSeconds : Type 0
 TwoSeconds =
-    (listing_of New (ascii "T\n_t\n")
+    (listing_of New (ascii "T\nT\n")
     ≡ ascii "second\tplan\tstep\tleft\tsteady\tflashing\n"
     ++ ascii "0\t0\t1\t28\t0000000041418888\t0000000000000000\n"
     ++ ascii "1\t0\t1\t27\t0000000041418888\t0000000000000000\n")
-    × (listing_of Old (ascii "T\n_t\n")
+    × (listing_of Old (ascii "T\nT\n")
     ≡ ascii "second\tplan\tstep\tleft\tsteady\tflashing\n"
     ++ ascii "0\t0\t1\t18\t0000000041418888\t0000000000000000\n"
     ++ ascii "1\t0\t1\t17\t0000000041418888\t0000000000000000\n")
@@ -156,30 +156,30 @@ TwoSeconds =
 -- P1 as octets, in capitals or not, and a bad line: "`reply`, tab, octets in hex with spaces, and for a bad line `bad`, tab, its
 -- number from 1"; the reply is P2 and P3, E1's and the old one, and no octet was dropped before P1
 abbrev pub p1_and_bad : List ℕ
-p1_and_bad = ascii "B\t_aa\n_b\t_bb\n_b\t07\n_b\t00\n_b\t01\n_b\t00\n_b\t0c\n_b\t5_f\n_b\t48\n_b\taa\n_b\t_cc\n_b\t6a\n_b\t6\n"
+p1_and_bad = ascii "B\tAA\nB\tBB\nB\t07\nB\t00\nB\t01\nB\t00\nB\t0c\nB\t5F\nB\t48\nB\taa\nB\tCC\nB\t6a\nB\t6\n"
 
 abbrev pub ReplyAndBad : Type 0
 ReplyAndBad =
     (listing_of New p1_and_bad
     ≡ ascii "second\tplan\tstep\tleft\tsteady\tflashing\n"
-    ++ ascii "reply\t_aa DD 07 00 01 00 08 79 AA BB 00 00 01 00 18 5F C8 00 00 00 02 00 23 00 23 00 50 00 00 AA CC AB\t0\nbad\t13\n")
+    ++ ascii "reply\tAA DD 07 00 01 00 08 79 AA BB 00 00 01 00 18 5F C8 00 00 00 02 00 23 00 23 00 50 00 00 AA CC AB\t0\nbad\t13\n")
     × (listing_of Old p1_and_bad
     ≡ ascii "second\tplan\tstep\tleft\tsteady\tflashing\n"
-    ++ ascii "reply\t_aa DD 07 00 01 00 08 79 AA BB 00 00 01 00 18 5F C8 00 00 00 02 00 19 00 19 00 3C 00 00 AA CC C7\t0\nbad\t13\n")
+    ++ ascii "reply\tAA DD 07 00 01 00 08 79 AA BB 00 00 01 00 18 5F C8 00 00 00 02 00 19 00 19 00 3C 00 00 AA CC C7\t0\nbad\t13\n")
 
 -- 02, E6: P1, ten seconds, which are its T, and a NAK with our SEQ: "prints a resend as `again`, tab, octets, after its T line if any"; what goes again is
 -- P3
 abbrev pub p1_unheard : List ℕ
 p1_unheard =
-    ascii "B\t_aa\n_b\t_bb\n_b\t07\n_b\t00\n_b\t01\n_b\t00\n_b\t0_c\n_b\t5_f\n_b\t48\n_b\t_aa\n_b\t_cc\n_b\t6_a\n"
-    ++ ascii "T\n_t\n_t\n_t\n_t\n_t\n_t\n_t\n_t\n_t\n"
-    ++ ascii "B\t_aa\n_b\t_ee\n_b\t00\n_b\t00\n_b\t01\n_b\t00\n_b\t09\n_b\t01\n_b\t4_d\n"
+    ascii "B\tAA\nB\tBB\nB\t07\nB\t00\nB\t01\nB\t00\nB\t0C\nB\t5F\nB\t48\nB\tAA\nB\tCC\nB\t6A\n"
+    ++ ascii "T\nT\nT\nT\nT\nT\nT\nT\nT\nT\n"
+    ++ ascii "B\tAA\nB\tEE\nB\t00\nB\t00\nB\t01\nB\t00\nB\t09\nB\t01\nB\t4D\n"
 
 abbrev pub SentAgain : Type 0
 SentAgain =
     listing_of New p1_unheard
     ≡ ascii "second\tplan\tstep\tleft\tsteady\tflashing\n"
-    ++ ascii "reply\t_aa DD 07 00 01 00 08 79 AA BB 00 00 01 00 18 5F C8 00 00 00 02 00 23 00 23 00 50 00 00 AA CC AB\t0\n"
+    ++ ascii "reply\tAA DD 07 00 01 00 08 79 AA BB 00 00 01 00 18 5F C8 00 00 00 02 00 23 00 23 00 50 00 00 AA CC AB\t0\n"
     ++ ascii "0\t0\t1\t28\t0000000041418888\t0000000000000000\n"
     ++ ascii "1\t0\t1\t27\t0000000041418888\t0000000000000000\n"
     ++ ascii "2\t0\t1\t26\t0000000041418888\t0000000000000000\n"
@@ -190,5 +190,5 @@ SentAgain =
     ++ ascii "7\t0\t1\t21\t0000000041418888\t0000000000000000\n"
     ++ ascii "8\t0\t1\t20\t0000000041418888\t0000000000000000\n"
     ++ ascii "9\t0\t1\t19\t0000000041418888\t0000000000000000\n"
-    ++ ascii "again\t_aa BB 00 00 01 00 18 5F C8 00 00 00 02 00 23 00 23 00 50 00 00 AA CC AB\n"
-    ++ ascii "again\t_aa BB 00 00 01 00 18 5F C8 00 00 00 02 00 23 00 23 00 50 00 00 AA CC AB\n"
+    ++ ascii "again\tAA BB 00 00 01 00 18 5F C8 00 00 00 02 00 23 00 23 00 50 00 00 AA CC AB\n"
+    ++ ascii "again\tAA BB 00 00 01 00 18 5F C8 00 00 00 02 00 23 00 23 00 50 00 00 AA CC AB\n"

@@ -22,6 +22,7 @@ const HEAD_MOST: usize = 124;
 const TAIL_MOST: usize = 7;
 
 // "It prints a header".
+#[tactic(auto, unfolding(printout::specs::Listing::header))]
 pub fn put_header(out: &mut [u8], at: usize) -> usize
     ensures { Put header at out.old result out.new }
 {
@@ -48,6 +49,7 @@ pub fn put_reply(s: &[u8], n: u16, out: &mut [u8], at: usize) -> usize
 }
 
 // 02, E6: "prints a resend as `again`, tab, octets".
+#[tactic(auto, unfolding(printout::specs::Listing::again_line))]
 pub fn put_again(s: &[u8], out: &mut [u8], at: usize) -> usize
     ensures { Put (again_line s.now) at out.old result out.new }
 {

@@ -22,6 +22,7 @@ pub const WORD_LEN: usize = 3;
 
 // 02, E1: "the plain start takes the new one"; the word `old` asks for the other. `words` is how many words stand after the
 // program's name, and `word` is the first of them.
+#[tactic(auto, unfolding(printout::specs::Run::start_asked))]
 pub fn start_asked(words: usize, word: &[u8]) -> Asked
     ensures { result ≡ start_asked words word.now }
 {
@@ -37,6 +38,7 @@ pub fn start_asked(words: usize, word: &[u8]) -> Asked
     Asked::Unknown
 }
 
+#[tactic(auto, unfolding(printout::specs::Run::is_old))]
 fn is_old(word: &[u8]) -> bool
     ensures { result ≡ is_old word.now }
 {
@@ -135,6 +137,7 @@ fn on_octet(
 }
 
 // What an octet call wrote while the link stands so.
+#[tactic(auto, unfolding(printout::specs::Listing::octet_line))]
 fn put_written(link: Link, s: &[u8], n: u16, out: &mut [u8], at: usize) -> usize
     ensures { Put (octet_line link s.now n) at out.old result out.new }
 {
@@ -144,6 +147,7 @@ fn put_written(link: Link, s: &[u8], n: u16, out: &mut [u8], at: usize) -> usize
     }
 }
 
+#[tactic(auto, unfolding(printout::specs::Run::bad_said))]
 fn on_bad(run: Run, n: u64, text: &mut [u8]) -> Run
     ensures { BadWith run n text.old result text.new }
 {
