@@ -19,7 +19,7 @@ WORD = 1 << 64
 
 HEAD = re.compile(r"[0-9a-f]+ <(.*)>:$")
 # an instruction in the spelling of GNU's objdump or of LLVM's: its name, and what it works on
-INSTRUCTION = re.compile(r" *[0-9a-f]+:\s+([a-z]\w*)\s*([^#\n]*?)\s*(?:#.*)?$")
+INSTRUCTION = re.compile(r" *[0-9a-f]+:\s+([a-z]\w*)\s*(.*?)\s*(?:\s# .*)?$")
 # a place inside a function is none: its name has a number behind a plus
 TO_FUNCTION = re.compile(r"(?:0x)?[0-9a-f]+ <(.*)>$")
 ON_STACK = re.compile(r"(?:\$(-?(?:0x[0-9a-f]+|\d+)), ?)?.*%rsp$")
