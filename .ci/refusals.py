@@ -8,8 +8,9 @@ another shape than its proof has, is refused for nothing, and shows nothing of t
   not proved that .. (`need`)`, or an error of a declaration, `PLACE: error: `name`: ..`, that is none of IDLE below, which
   speak of names, shapes and gaps. An error that names no declaration is one of syntax, a `use` line or a clause's form;
 - that error does not stand on a line that the edit itself wrote: there the edit has no meaning, or no type;
-- and no error of its own asks for a name that is not there, unless values were found at which a need is false: code of
-  another shape has needs of other names, which its proof does not answer.
+- and where an error of its own asks for a name that is not there, the fact is an answer that does not hold, or a need for
+  which values were found at which it is false: code of another shape has needs of other names, which its proof does not
+  answer. So that these are answered the wrong program is tried again with the answers under the names that are like theirs.
 
 What only follows from another error is passed over, and so is all that is said of a function that calls one that is not
 proved.
@@ -19,6 +20,7 @@ several are tried at once, no two in one function, and the errors in its own cod
 that is not refused so, beside the others, is tried again alone.
 """
 import collections
+import difflib
 import os
 import queue
 import re
@@ -50,6 +52,11 @@ FOLLOWS = re.compile(r"`[^`]*` was not admitted|declarations? that depends? on `
 # in an error's further lines too: the line was broken before what it says
 OTHER_SHAPE = re.compile(r"this λ has \d+ binders|\n +has no field `")
 FALSE = "allow values at which this goal is false"
+# a need that a proof answers and that the code has not, one that is open, and a field that is not there with the one most like it
+ANSWERED = re.compile(r"`goal\.([^`]+)`: module `[^`]*` has no `")
+OPEN = re.compile(r"\(`([^`]+)`\)")
+FIELD = re.compile(r"has no field `([^`]+)` \(nearest: \.([^,) ]+)")
+RENAMINGS = 2
 # of a function that cannot be judged, since another is not proved
 LEANS = re.compile(r"^fn \w+::(\S+): .*(?:it calls `|it stands on `|, which has no proof)", re.M)
 # where an error stands, and the declaration that it names
@@ -138,13 +145,13 @@ class Prover:
                 if os.path.isdir(self.seed(folder)):
                     shutil.copytree(self.seed(folder), os.path.join(root, folder), copy_function=linked)
 
-    def tried(self, library, changes):
-        """What the prover says of a crate with these changes."""
+    def tried(self, library, changes, names=()):
+        """What the prover says of a crate with these changes, and with other names, (path, name, other), in its proofs."""
         texts, slot = changed(library.crate, changes), self.slots.get()
         try:
             self.laid_out(slot, library.crate)
             folder = os.path.join(slot, "crates", library.crate)
-            for path, text in texts.items():
+            for path, text in {**respelt(library.crate, names), **texts}.items():
                 with open(os.path.join(folder, path), "w", encoding="utf-8") as file:
                     file.write(text)
             log = said_of(folder)
@@ -158,11 +165,44 @@ class Prover:
         self.sow(library)
         together = self.tried(library, [change for changes, _ in parts for change in changes])
         for changes, functions in parts:
-            tried, own = together, own_errors(together, library, functions)
+            tried, own, names = together, own_errors(together, library, functions), []
             if len(parts) > 1 and fault(library, tried, own):
                 tried = self.tried(library, changes)
                 own = own_errors(tried, library, functions)
+            for _ in range(RENAMINGS):
+                others = other_names(library, own) if fault(library, tried, own) else []
+                if not set(others) - set(names):
+                    break
+                names += others
+                tried = self.tried(library, changes, names)
+                own = own_errors(tried, library, functions)
             yield tried, own
+
+
+def other_names(library, own):
+    """For what a proof asks for and is not there the name that is most like it, (path, name, other): of needs one that is open in the
+    function, of fields one that is there."""
+    found = []
+    for function in library.functions:
+        errors = [error for error in own if stands_in(error, [function], library.crate)]
+        opened = [name for error in errors if NEED.match(error) for name in OPEN.findall(error)[:1]]
+        for error in errors:
+            path, asked = PLACE.match(error).group("path"), ANSWERED.findall(error.split("\n")[0])
+            for name in asked:
+                for other in difflib.get_close_matches(name, opened, 1):
+                    opened.remove(other)
+                    found.append((path, name, other))
+            found += [(path, *pair) for pair in FIELD.findall(error)]
+    return found
+
+
+def respelt(crate, names):
+    """The proofs with other names in them, by their path in the crate."""
+    texts = {}
+    for path, name, other in names:
+        text = texts.get(path) or read("crates/%s/%s" % (crate, path))
+        texts[path] = re.sub(r"(?<![\w'-])%s(?![\w'-])" % re.escape(name), other, text)
+    return texts
 
 
 def linked(one, other):
@@ -232,7 +272,7 @@ def fault(library, tried, own):
     if all(in_own_line(error, tried, library.crate) for error in facts):
         return "the error is in the edit's own line: " + facts[0].split("\n")[0][:300]
     missing = [error for error in own if not NEED.match(error) and (MISSING.search(error.split("\n")[0]) or OTHER_SHAPE.search(error))]
-    if missing and not any(FALSE in error for error in facts):
+    if missing and not any(FALSE in error or not NEED.match(error) for error in facts):
         return "a name is asked for that is not there: " + missing[0].split("\n")[0][:300]
     return None
 
