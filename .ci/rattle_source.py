@@ -26,7 +26,7 @@ ANTT_BLANK = re.compile(r'\{-|"(?:\\.|[^"\\])*"|(?<![^\s(){}.;,@"«»])--[^\n]*'
 
 # `owner` is the type whose `impl` the function stands in, or None; `public` says that the function is marked `pub` and,
 # if it has no owner, that each `mod` on the way to it is `pub mod`; `path` and `lines` are its file and the lines of it
-# from `fn` to the closing brace; `parameters` are their types and `result` is its type, or '', as tokens with a space
+# from `fn`, or its first attribute, to the closing brace; `parameters` are their types and `result` is its type, or '', as tokens with a space
 # between: `& mut [ u8 ]`
 Function = collections.namedtuple("Function", "name path lines owner public parameters result clauses")
 
@@ -158,8 +158,10 @@ class Source:
         self.at = end + 1
 
     def clause(self):
-        """Passes over a clause behind its first word: a name, if it has one, and a term of antt in braces."""
+        """Passes over a clause behind its first word: a star and a name, if it has them, and a term of antt in braces."""
         token = self.token()
+        if token == "*":
+            token = self.token()
         if token != "{":
             token = self.token()
         if token != "{":
@@ -174,11 +176,12 @@ class Source:
 
 
 class Library:
-    """The functions of a library crate, by what its sources say."""
+    """The functions of a library crate, by what its sources say; of a program too, where it is asked for."""
 
     def __init__(self, crate):
         self.crate, self.functions, self.types, self.reexports = crate, [], set(), []
-        self.items(Source("crates/%s/src/lib.rt" % crate), "", [], True, None)
+        top = "lib" if files("crates/%s/src/lib.rt" % crate) else "main"
+        self.items(Source("crates/%s/src/%s.rt" % (crate, top)), "", [], True, None)
 
     def public(self):
         """The functions that another crate can call. A method is public where its type is."""
@@ -187,7 +190,7 @@ class Library:
     def items(self, source, last, module, is_open, owner):
         """Reads items up to `last`: a closing brace, or '' for the file's end. `is_open` says that each `mod` on the
         way here is `pub mod`."""
-        pub = False
+        pub, marked = False, None
         while True:
             token = source.token()
             begun, place = source.at, source.place()
@@ -199,8 +202,13 @@ class Library:
                     source.token()
                     source.skip(")")
                 continue
-            if token == "#":  # an attribute, #[..]
-                source.token()
+            if token == "#":  # an attribute, #[..] or #![..]
+                marked = marked or source.line()
+                token = source.token()
+                if token == "!":
+                    token, marked = source.token(), None
+                if token != "[":
+                    source.refuse(token)
                 source.skip("]")
                 continue
             if token == "const" and source.peek() == "fn":
@@ -208,7 +216,7 @@ class Library:
             if token == "extern" and source.token() == '"C"' and source.peek() == "fn":
                 continue
             if token == "fn":
-                self.function(source, module, is_open, owner, pub)
+                self.function(source, module, is_open, owner, pub, marked)
             elif token == "mod":
                 self.module(source, module, is_open and pub)
             elif token == "impl":
@@ -230,10 +238,10 @@ class Library:
                 source.refuse(token)
             if token in ("struct", "enum", "type") and re.search(r"\bmut\b", source.text[begun:source.at]):
                 source.refuse("mut")  # who holds one is written through, and no signature shows it
-            pub = False
+            pub, marked = False, None
 
-    def function(self, source, module, is_open, owner, pub):
-        first, name, clauses = source.line(), source.token(), []
+    def function(self, source, module, is_open, owner, pub, marked):
+        first, name, clauses = marked or source.line(), source.token(), []
         source.parted("(")
         parameters, _ = source.parted(")")
         result, token = source.parted("{", *CLAUSES)

@@ -1,8 +1,8 @@
 """Proving, building and running the programs of this repository, with the Rattle toolchain's command `rt`."""
 import contextlib
 import fcntl
+import hashlib
 import os
-import platform
 import re
 import shutil
 import signal
@@ -14,15 +14,21 @@ import threading
 import edits
 
 ROOT = os.path.dirname(os.path.dirname(os.path.realpath(__file__)))
-# So long may be waited in silence, for another command or for `rt` to see that nothing is to be proved.
+# So long may be waited in silence, for another command.
 PATIENCE = 3.0
-USUALLY = "usually some 4 minutes, once"
+USUALLY = "usually some ten minutes, once"
 CHUNK = 65536
+# what is proved of a crate stands on
+PARTS = ("src", "specs", "proofs")
 
-# One run of `rt try`, which did not write what is expected; what it said on standard error follows.
-TRIED = re.compile(rb"^what the run said:\nthe program exited with status 0\n(.*?)\n(?=FAIL: |ok: |\Z)", re.S | re.M)
-# `rt try` compiles a program in three ways
-WAYS = 3
+# `rt run` says of each library that it proves what it is called, and then that it is proved
+CRATE = re.compile(r"crate (\w+): modules ")
+PROVED = "logic=proved "
+# What `rt try` says behind what the program says on standard error
+TRIED = re.compile(
+    r"\A(.*?)(?:rt: a check will refuse this: [^\n]*\n)*(?:(?:checked|interpreter): [^\n]*\n)*run=ended status=0 [^\n]*\n\Z", re.S)
+# more seconds than any lesson takes
+LIMITS = ("--seconds", "600")
 
 
 class Failed(Exception):
@@ -41,10 +47,10 @@ def rt():
     return found
 
 
-def start_rt(words, folder):
+def start_rt(words, folder, **how):
     """Starts `rt` in a session of its own, so that all that it starts can be ended with it."""
-    return subprocess.Popen(
-        [rt()] + words, cwd=folder, stdin=subprocess.DEVNULL, stdout=subprocess.PIPE, stderr=subprocess.STDOUT, start_new_session=True)
+    how = {"stdin": subprocess.DEVNULL, "stdout": subprocess.PIPE, "stderr": subprocess.STDOUT, **how}
+    return subprocess.Popen([rt()] + words, cwd=folder, start_new_session=True, **how)
 
 
 def end_rt(process):
@@ -53,17 +59,36 @@ def end_rt(process):
         process.wait()
 
 
-def crates_of(program):
-    """The crates of the repository that a program is proved over, itself among them."""
+def needs():
+    """What each crate of the repository is listed with."""
     with open(os.path.join(ROOT, "crates.txt"), encoding="utf-8") as lines:
-        needs = dict(line.split("#")[0].split(":") for line in lines if ":" in line.split("#")[0])
-    found, to_see = set(), [program]
-    while to_see:
-        crate = to_see.pop()
-        if crate in needs and crate not in found:
-            found.add(crate)
-            to_see += needs[crate].split()
+        texts = [line.split("#")[0] for line in lines]
+    return {crate.strip(): words.split() for crate, _, words in (text.partition(":") for text in texts if ":" in text)}
+
+
+def crates_of(program):
+    """The crates of the repository that a program is proved over and the program itself, each behind those that it needs, which is
+    the order that `rt` proves them in."""
+    of, found = needs(), []
+
+    def see(crate):
+        for below in of[crate]:
+            if below in of and below not in found:
+                see(below)
+        found.append(crate)
+
+    see(program)
     return found
+
+
+def copy_crates(root, parts=PARTS):
+    """Copies what these parts of the crates hold, and the list of crates, to the folder `root`."""
+    for crate in os.listdir(os.path.join(ROOT, "crates")):
+        for part in parts:
+            folder = os.path.join("crates", crate, part)
+            if os.path.isdir(os.path.join(ROOT, folder)):
+                shutil.copytree(os.path.join(ROOT, folder), os.path.join(root, folder))
+    shutil.copy(os.path.join(ROOT, "crates.txt"), root)
 
 
 @contextlib.contextmanager
@@ -80,7 +105,7 @@ def told_after(seconds, text):
 
 @contextlib.contextmanager
 def alone():
-    """Waits until no other command proves in this repository: two of them would take each other's work for undone."""
+    """Waits until no other command proves in this repository: it would prove the same."""
     folder = os.open(ROOT, os.O_RDONLY)
     try:
         with told_after(PATIENCE, "waiting for another ./bench, which proves"):
@@ -90,52 +115,89 @@ def alone():
         os.close(folder)
 
 
+def built(program):
+    """Where `rt` builds a program."""
+    return os.path.join(ROOT, "crates", program, "out", program)
+
+
+def sources_of(program):
+    for crate in crates_of(program):
+        for part in PARTS:
+            for folder, inner, names in os.walk(os.path.join(ROOT, "crates", crate, part)):
+                inner.sort()
+                yield from (os.path.join(folder, name) for name in sorted(names))
+
+
+def sum_of(program):
+    """A sum of the sources that a program is proved and made from, and of the program; None where it is not built."""
+    if not os.path.isfile(built(program)):
+        return None
+    found = hashlib.sha256(repr([(crate, needs()[crate]) for crate in crates_of(program)]).encode())
+    for path in [*sources_of(program), built(program)]:
+        with open(path, "rb") as file:
+            found.update(os.path.relpath(path, ROOT).encode() + b"\0" + hashlib.sha256(file.read()).digest())
+    return found.hexdigest()
+
+
+def note(program, proved):
+    """Notes that a program stands there as it was proved and built from the sources as they are."""
+    with open(built(program) + ".proved", "w", encoding="utf-8") as file:
+        file.write(proved)
+
+
+def is_noted(program):
+    path = built(program) + ".proved"
+    if not os.path.isfile(path):
+        return False
+    with open(path, encoding="utf-8") as file:
+        return file.read() == sum_of(program)
+
+
 def prove(program):
-    """Proves and builds what is not built yet, and tells the crates as they pass."""
-    crates = crates_of(program)
-    text = "proving `%s`, %d crates: %s" % (program, len(crates), USUALLY)
+    """Proves and builds a program if that was not done for the sources as they are, and tells the crates as they pass."""
+    if is_noted(program):
+        return
     with alone():
-        new = not all(os.path.exists(os.path.join(ROOT, "target", "stamp", crate)) for crate in crates)
-        with told_after(0 if new else PATIENCE, text):
-            status, told = checked(program, len(crates))
-    if status != 0:
-        sys.stderr.write(told)
-        raise Failed("%s is not built" % program)
+        if is_noted(program):
+            return
+        crates = crates_of(program)
+        say("proving `%s`, %d crates: %s" % (program, len(crates), USUALLY))
+        began = list(stamps(program))
+        status, told = checked(program, crates)
+        if status != 0 or not os.path.isfile(built(program)):
+            sys.stderr.write(told)
+            raise Failed("%s is not built" % program)
+        if began == list(stamps(program)):
+            note(program, sum_of(program))
 
 
-def checked(program, count):
-    """Has `rt` check a program: the status, and all that it said."""
-    passed, told, process = 0, [], start_rt(["check", program], ROOT)
+def stamps(program):
+    """What tells whether a source of a program was changed meanwhile."""
+    for path in sources_of(program):
+        yield path, os.stat(path).st_mtime_ns
+
+
+def checked(program, crates):
+    """Has `rt` prove, build and run a program, over no input: the status, and all that was said."""
+    told, crate, process = [], None, start_rt(["run"], os.path.join(ROOT, "crates", program))
     try:
         for line in process.stdout:
             told.append(line.decode("utf-8", "replace"))
-            crate = re.match(r"rt: (\w+ proved( \(unchanged)?.*)", told[-1])
-            if crate:
-                passed += 1
-                if not crate.group(2):
-                    say("%d of %d: %s" % (passed, count, crate.group(1)))
+            named = CRATE.match(told[-1])
+            if named:
+                crate = named.group(1)
+            elif told[-1].startswith(PROVED) and crate in crates:
+                say("%d of %d: %s proved" % (1 + crates.index(crate), len(crates), crate))
         return process.wait(), "".join(told)
     finally:
         end_rt(process)
-
-
-def command(program):
-    """The words that run a proved program. Programs are for x86-64 and run under the toolchain's own loader; on another
-    machine it has an emulator for them."""
-    guide = subprocess.run([rt(), "doc"], stdout=subprocess.PIPE).stdout.decode().strip()
-    home = os.path.dirname(os.path.dirname(guide))
-    tools = os.path.join(home, "on", platform.machine(), "toolchain")
-    emulator = os.path.join(tools, "bin", "qemu-x86_64")
-    library = os.path.join(tools, "lib")
-    words = [emulator] if os.access(emulator, os.X_OK) else []
-    return words + [os.path.join(library, "ld-linux-x86-64.so.2"), "--library-path", library, os.path.join(ROOT, "target", "bin", program)]
 
 
 def proved_output(program, words, file):
     """What the proved program writes, as it writes it, for the input that is open as `file`. A program has no exit status to
     fail by, so one that says something on standard error has failed."""
     prove(program)
-    process = subprocess.Popen(command(program) + words, stdin=file, stdout=subprocess.PIPE, stderr=subprocess.PIPE)
+    process = subprocess.Popen([built(program)] + words, stdin=file, stdout=subprocess.PIPE, stderr=subprocess.PIPE)
     try:
         while True:
             chunk = os.read(process.stdout.fileno(), CHUNK)
@@ -152,35 +214,26 @@ def proved_output(program, words, file):
 
 
 def unproved_output(program, words, octets, changes=()):
-    """What the program writes for these octets, made with no proof from the code as it is, or with these changes in it. `rt
-    try` shows all that a program says on standard error, and not what it writes; so a copy that writes there is tried."""
+    """What the program writes for these octets, made with no proof from the code as it is, or with these changes in it."""
     with tempfile.TemporaryDirectory(prefix="bench-") as copy:
-        for crate in os.listdir(os.path.join(ROOT, "crates")):
-            shutil.copytree(os.path.join(ROOT, "crates", crate, "src"), os.path.join(copy, "crates", crate, "src"))
-        shutil.copy(os.path.join(ROOT, "crates.txt"), copy)
+        copy_crates(copy, ("src",))
         edits.make(changes, copy)
-        folder = os.path.join(copy, "crates", program)
-        for name in os.listdir(os.path.join(folder, "src")):
-            to_standard_error(os.path.join(folder, "src", name))
-        for name, content in (("stdin", octets), ("args", "\n".join(words).encode()), ("stdout", b"what no program writes")):
-            with open(os.path.join(folder, name), "wb") as file:
-                file.write(content)
-        process = start_rt(["try", program], copy)
-        try:
-            told = process.communicate()[0]
-        finally:
-            end_rt(process)
-    runs = TRIED.findall(told)
-    if len(runs) != WAYS or len(set(runs)) != 1:
-        raise Failed("%s does not run so:\n%s" % (program, told.decode("utf-8", "replace").strip()))
-    return runs[0]
-
-
-def to_standard_error(path):
-    with open(path, encoding="utf-8") as file:
-        lines = file.readlines()
-    with open(path, "w", encoding="utf-8") as file:
-        file.writelines(line if line.startswith("use ") else line.replace("STDOUT_FILENO", "2") for line in lines)
+        with tempfile.TemporaryFile() as file:
+            file.write(octets)
+            file.seek(0)
+            folder = os.path.join(copy, "crates", program)
+            process = start_rt(["try", *LIMITS, "--", *words], folder, stdin=file, stderr=subprocess.PIPE)
+            try:
+                wrote, said = process.communicate()
+            finally:
+                end_rt(process)
+    said = said.decode("utf-8", "replace")
+    ran = TRIED.match(said)
+    if process.returncode != 0 or not ran:
+        raise Failed("%s does not run so:\n%s" % (program, said.strip()))
+    if ran.group(1):
+        raise Failed(ran.group(1).strip())
+    return wrote
 
 
 def output(program, words, file, unproved):
@@ -188,3 +241,9 @@ def output(program, words, file, unproved):
         say("NOT PROVED: `%s` is made from the code as it is, and nothing is proved of it" % program)
         return iter([unproved_output(program, words, file.read())])
     return proved_output(program, words, file)
+
+
+if __name__ == "__main__":
+    # The programs named were proved and built just now, by `rt ci`.
+    for name in sys.argv[1:]:
+        note(name, sum_of(name))

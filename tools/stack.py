@@ -1,10 +1,9 @@
 """The stack of a compiled program's functions, worked out from its code: what each puts there, and what those that it calls do."""
-import os
 import re
 import shutil
 import subprocess
 
-from programs import ROOT, Failed
+from programs import Failed, built
 
 # What a public function may take of the board's 4 KiB of stack, the red zone counted; the second call less.
 LIMIT, LIMIT_OF = 2048, {"second": 1200}
@@ -20,8 +19,9 @@ WORD = 1 << 64
 
 HEAD = re.compile(r"[0-9a-f]+ <(.*)>:$")
 # an instruction in the spelling of GNU's objdump or of LLVM's: its name, and what it works on
-INSTRUCTION = re.compile(r" *[0-9a-f]+:\s+([a-z]\w*)\s*([^#\n]*?)\s*(?:#.*)?$")
-TO_FUNCTION = re.compile(r"(?:0x)?[0-9a-f]+ <([^+>]*)>")
+INSTRUCTION = re.compile(r" *[0-9a-f]+:\s+([a-z]\w*)\s*(.*?)\s*(?:\s# .*)?$")
+# a place inside a function is none: its name has a number behind a plus
+TO_FUNCTION = re.compile(r"(?:0x)?[0-9a-f]+ <(.*)>$")
 ON_STACK = re.compile(r"(?:\$(-?(?:0x[0-9a-f]+|\d+)), ?)?.*%rsp$")
 # what only gives stack back, at a function's end
 GIVES_BACK = re.compile(r"(?:mov|movq|lea|leaq) .*\(?%rbp\)?, ?%rsp$")
@@ -31,8 +31,7 @@ def instructions(program):
     """The functions of a program as they are compiled, each with its instructions: names and operands."""
     for name in ("objdump", "llvm-objdump"):
         if shutil.which(name):
-            path = os.path.join(ROOT, "target", "bin", program)
-            read = subprocess.run([name, "-d", "--no-show-raw-insn", path], stdout=subprocess.PIPE, stderr=subprocess.DEVNULL)
+            read = subprocess.run([name, "-d", "--no-show-raw-insn", built(program)], stdout=subprocess.PIPE, stderr=subprocess.DEVNULL)
             if read.returncode == 0:
                 break
     else:
@@ -69,18 +68,24 @@ def limit(call):
 
 
 class Program:
-    """The functions of a program: what each puts on the stack, its return address counted, and which it calls."""
+    """The functions of a program: what each puts on the stack, its return address counted, and which it calls. Of one that does
+    with the stack what is not known there is the reason."""
 
     def __init__(self, name):
-        self.frames, self.called = {}, {}
+        self.frames, self.called, self.unknown = {}, {}, {}
         functions = instructions(name)
         for function, code in functions.items():
-            self.frames[function] = RETURN_ADDRESS + sum(moved(*each) for each in code)
+            try:
+                self.frames[function] = RETURN_ADDRESS + sum(moved(*each) for each in code)
+            except Failed as reason:
+                self.unknown[function] = str(reason)
             to = (TO_FUNCTION.match(operands) for name, operands in code if name.startswith(("call", "j")))
             self.called[function] = {each.group(1) for each in to if each and each.group(1) in functions} - {function}
 
     def deepest(self, function, above=()):
         """The stack of a function with all that it calls, the red zone counted, and the way to where it is deepest."""
+        if function in self.unknown:
+            raise Failed("%s: %s" % (function, self.unknown[function]))
         if function not in self.frames:
             raise Failed("%s is no function of the compiled program, so its stack is not known" % function)
         if function in above:
