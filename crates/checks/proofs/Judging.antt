@@ -43,6 +43,10 @@ module _ (a m w : ℕ) {n : ℕ} (e : n ≡ pick (ltb m a) 1 (pick (leb a w) 2 0
   pub told-agrees : Tells (eqb n 0) ((a ≤ m) × (w < a))
   told-agrees = record { holds = λ h. agreed (eqb-true n 0 h); told = λ p. eq-eqb n 0 (e ∙ rw (le-ltb m a p.0, lt-leb a w p.1)) }
 
+-- one part that fails is enough
+pub told-false : {t : Bool} {P Q : Type 0} → Tells t Q → t ≡ false → (P → Q) → Tells false P
+told-false q h f = record { holds = λ e. absurd (clash refl e); told = λ p. absurd (clash h (q.told (f p))) }
+
 module _ (rec : List ℕ) (i : ℕ) {a b d e f g : Bool} where
   pub told-times : Within 3 (yellow_of rec i) 9 → Tells a (Within 5 (minimum_of rec i) 254) → Tells b (Within 5 (maximum_of rec i) 900)
       → Tells d (Within 1 (all_red_of rec i) 9) → Tells e (Within 0 (walk_flash_of rec i) 90) → Tells f (Within 0 (red_man_of rec i) 9)

@@ -35,6 +35,9 @@ module _ (rec : List ℕ) (at : ℕ) where
   abbrev pub rest_from : ℕ → Bool
   rest_from i = all_zero (drop (max at i) rec)
 
+  pub last_none : both (leb 0 at) (rest_from 0) ≡ all_zero (drop at rec)
+  last_none = let m : max at 0 ≡ at = omega arith in rw (le-leb 0 at (omega arith), m)
+
   module _ (end i : ℕ) (h : i < length rec) (e : both (leb end at) (rest_from i) ≡ all_zero (drop at rec)) where
     pub last-is : (get_or rec i 0 ≡ 0 → ⊥) → both (leb (i + 1) at) (rest_from (i + 1)) ≡ all_zero (drop at rec)
     last-is n = by (dec_lt i at)

@@ -21,11 +21,10 @@ use Rattle.frame.specs.declared.decoder.Found.TheVariants as found
 use Rattle.frame.specs.declared.decoder.Stepped.{Stepped}
 use Rattle.frame.specs.Frame.{Frame, message, ack, nak, front, doubled, info_most}
 use Rattle.frame.specs.Decoder.{Decoder, Taken, possible_of, idle_drops, step_at, taken, taken_of, idled_of}
-use Rattle.frame.specs.Run.{nothing, refused, sound, found_means, outcome_of, decoder_after, AtRest, drops, NothingDropped}
+use Rattle.frame.specs.Run.{nothing, sound, found_means, outcome_of, decoder_after, AtRest, drops, NothingDropped}
 use Rattle.frame.specs.Dropped.{waits, open_at, open_in, open_of, dropped_most, stopped, number_then, OpenThen, Counted, number_told, number_kept, counted_as, counted_of, idle_counted, fresh_receiver}
 use Rattle.frame.specs.Promises.{parts_at, parts_of}
 use Rattle.frame.specs.Noise.{Stops, OpenAsSaid, OctetCounts, IdleCounts, CallsCount}
-use Rattle.frame.proofs.Possible.{at}
 use Rattle.frame.proofs.Laws.{possible-at, taken-7, taken_as_lem, taken-dropped, idled-7, keeps_on}
 use Rattle.frame.proofs.Agreeing.{part}
 use Rattle.frame.proofs.Reaching.{led-clean}

@@ -13,7 +13,7 @@ use Rattle.octets.specs.First.{first_of}
 use Rattle.octets.specs.Refusal as refusal
 use Rattle.octets.proofs.Laws.{word_back}
 use Rattle.message.specs.declared.layout.Field.{Field}
-use Rattle.message.specs.Layouts.{layouts, layout_at, number_of, rows_at, layout_rows, counted, repeated, times, greens, cycle_offset}
+use Rattle.message.specs.Layouts.{layouts, layout_at, number_of, rows_at, layout_rows, repeated, times, greens, cycle_offset}
 use Rattle.message.specs.declared.Read.{Read}
 use Rattle.message.specs.Values.{size_of, zeros}
 use Rattle.message.specs.Reader.{no_message, read_as, part_of, read_of}
