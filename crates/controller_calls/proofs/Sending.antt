@@ -11,6 +11,8 @@ use Rattle.frame.specs.Frame.{Frame, message, info_fits, info_least, info_most, 
 use Rattle.frame.specs.Writer.{write_frame, RefusesMessage}
 use Rattle.frame.proofs.Laws.{info-most}
 use Rattle.record.specs.Record.{book_len}
+use Rattle.lamps.specs.declared.Row.{Row}
+use Rattle.lamps.specs.Rows.{row_at}
 use Rattle.controller.specs.declared.Event.{Event}
 use Rattle.controller.specs.declared.Event.TheVariants as event
 use Rattle.controller.specs.declared.Held.{Held}
@@ -18,10 +20,11 @@ use Rattle.controller.specs.declared.HeldAnswer.{HeldAnswer}
 use Rattle.controller.specs.declared.Link.{Link}
 use Rattle.controller.specs.declared.Link.TheVariants as link
 use Rattle.controller.specs.declared.Out.{Out}
+use Rattle.controller.specs.declared.Running.{Running}
 use Rattle.controller.specs.declared.Turn.{Turn}
 use Rattle.controller.specs.Offers.{OfferLeaves, refused_offer, offered_frame, offer_of}
 use Rattle.controller.specs.Replies.{sent, resent}
-use Rattle.controller.specs.Seconds.{second_of, shown_with}
+use Rattle.controller.specs.Seconds.{moved_on, second_of, shown_with}
 use Rattle.controller.specs.Sender.{out_start, out_fits, out_seq, again_turn, ack_turn, nak_turn, second_turn, sending}
 use Rattle.controller.specs.State.{joined, kept_len, output_len, sound_of}
 use Rattle.controller.proofs.Judging.{OutParts, out-parts}
@@ -96,10 +99,29 @@ module _ (s : Held) (addr : ℕ) (v : Event) (t : Turn) (lent out : List ℕ) wh
 
 -- A second
 
-pub second-shown : (s : Held) (kept book out : List ℕ) → sound_of (joined s kept) ≡ true → length book ≡ book_len → output_len ≤ length out
+module _ (s : Held) (kept book out : List ℕ) where
+  pub second-shown : sound_of (joined s kept) ≡ true → length book ≡ book_len → output_len ≤ length out
+      → {t : Turn} → t ≡ second_turn s.wait s.out → {u : Running} → u ≡ moved_on s.running s.requested book → {row : Row} → row ≡ row_at s.running.copy s.running.position
+      → {count : ℕ} {o : List ℕ} → Stored (sent (resent (joined s kept) t.link)) 0 out count o
+      → shown_with
+      (record {
+        state = record { own = s.own; seq = s.seq; requested = s.requested; wait = s.wait; last = s.last; out = t.out; receiver = s.receiver; running = u };
+        told = record { refusal = refusal.none; parameter = 0; event = event.Nothing; count = count; dropped = 0; link = t.link };
+        plan = s.running.plan;
+        row = row;
+      })
+      kept o
+      ≡ second_of (joined s kept) book out
+  second-shown h b l e m r p =
+      let q = rw e at p in
+      let n = stored-count q (λ k. k) in
+      rw (e, m, r, n, q.holds) (sym (second-done (joined s kept) book out h b l))
+
+-- the same of the whole answer
+pub second-made : (s : Held) (kept book out : List ℕ) → sound_of (joined s kept) ≡ true → length book ≡ book_len → output_len ≤ length out
     → {t : Turn} → t ≡ second_turn s.wait s.out → {count : ℕ} {o : List ℕ} → Stored (sent (resent (joined s kept) t.link)) 0 out count o
     → shown_with (held_shown s book t count) kept o ≡ second_of (joined s kept) book out
-second-shown s kept book out h b l e p =
+second-made s kept book out h b l e p =
     let q = rw e at p in
     let n = stored-count q (λ k. k) in
     rw (e, n, q.holds) (sym (second-done (joined s kept) book out h b l))
