@@ -33,7 +33,7 @@ use Rattle.controller.proofs.Sending.{answers-out}
 use Rattle.controller.proofs.Laws as laws
 use Rattle.controller.proofs.Replying.{message-most}
 use Rattle.controller_calls.specs.declared.replies.ResultCounted.{ResultCounted}
-use Rattle.controller_calls.specs.Held.{held_quiet, held_shown}
+use Rattle.controller_calls.specs.Held.{held_quiet}
 use Rattle.controller_calls.specs.Replies.{unchanged_as, AnsweredWith}
 use Rattle.controller_calls.specs.Sender.{InfoPut, Sendable}
 use Rattle.controller_calls.proofs.Held.{lent-enough}
@@ -116,15 +116,6 @@ module _ (s : Held) (kept book out : List ℕ) where
       let q = rw e at p in
       let n = stored-count q (λ k. k) in
       rw (e, m, r, n, q.holds) (sym (second-done (joined s kept) book out h b l))
-
--- the same of the whole answer
-pub second-made : (s : Held) (kept book out : List ℕ) → sound_of (joined s kept) ≡ true → length book ≡ book_len → output_len ≤ length out
-    → {t : Turn} → t ≡ second_turn s.wait s.out → {count : ℕ} {o : List ℕ} → Stored (sent (resent (joined s kept) t.link)) 0 out count o
-    → shown_with (held_shown s book t count) kept o ≡ second_of (joined s kept) book out
-second-made s kept book out h b l e p =
-    let q = rw e at p in
-    let n = stored-count q (λ k. k) in
-    rw (e, n, q.holds) (sym (second-done (joined s kept) book out h b l))
 
 -- An offer
 

@@ -1,11 +1,11 @@
 -- `controller_calls::second`: one law for each way; a sound position is within a cycle of at most 900.
-use Rattle.std.proofs.Common.{sym, ◌∙◌}
+use Rattle.std.proofs.Common.{refl, sym, ◌∙◌}
 use Rattle.controller.specs.State.{joined}
 use Rattle.controller.specs.Seconds.{no_second}
 use Rattle.controller.proofs.Judging.{parts_out, sound-parts}
 use Rattle.controller.proofs.Laws.{second-7, second-8, second-9}
 use Rattle.controller_calls.proofs.Held.{sound-joined, lent-enough, sound-position}
-use Rattle.controller_calls.proofs.Sending.{second-sends, second-made}
+use Rattle.controller_calls.proofs.Sending.{second-sends, second-shown}
 use Rattle.controller_calls.proofs.second.Goals as goal
 
 pub returns-then-not-stands : goal.returns-then-not-stands
@@ -53,4 +53,4 @@ returns c =
     let a = c.args in
     let h = sym (sound-joined a.s a.kept.now) ∙ sym c.if-not-stands.ensures in
     rw c.shown.ensures
-    (second-made a.s a.kept.now a.book.now a.out.now h c.if-book-ne-BOOK_LEN.false c.if-out-lt-OUTPUT_LEN.false c.passed-turn.ensures c.resend-count.ensures)
+    (second-shown a.s a.kept.now a.book.now a.out.now h c.if-book-ne-BOOK_LEN.false c.if-out-lt-OUTPUT_LEN.false c.passed-turn.ensures refl refl c.resend-count.ensures)
