@@ -16,7 +16,7 @@ import edits
 ROOT = os.path.dirname(os.path.dirname(os.path.realpath(__file__)))
 # So long may be waited in silence, for another command.
 PATIENCE = 3.0
-USUALLY = "usually some ten minutes, once"
+USUALLY = "some minutes, once"
 CHUNK = 65536
 # what is proved of a crate stands on
 PARTS = ("src", "specs", "proofs")
