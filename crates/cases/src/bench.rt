@@ -1,95 +1,72 @@
 // The decoder and the writers put to work aloud.
+use crate::reading::LentDecoder;
+use crate::say::HexOctets;
 use crate::words::FrameWord;
-use crate::{reading, say, script, writing};
+use crate::{script, writing};
 use frame::Kind;
-use frame::decoder::Receiver;
-use frame_calls::receiver;
+use std::io;
 
 // The decoder, where the next frame is written, and how long the last one was.
 #[derive(Clone, Copy)]
 pub(crate) struct Bench {
-    receiver: Receiver,
+    decoder: LentDecoder,
     at: usize,
     written: usize,
 }
 
-pub(crate) fn start() -> Bench {
-    Bench {
-        receiver: receiver::fresh(),
-        at: 0,
-        written: 0,
+impl Bench {
+    pub(crate) fn fresh() -> Bench {
+        Bench {
+            decoder: LentDecoder::fresh(),
+            at: 0,
+            written: 0,
+        }
     }
-}
 
-pub(crate) fn done(
-    rt: &impl Print,
-    c: Bench,
-    w: FrameWord,
-    o: &[u8],
-    kept: &mut [u8],
-    out: &mut [u8],
-) -> Bench {
-    match w {
-        FrameWord::Read => read(rt, c, o, kept, out),
-        FrameWord::Idle => with(c, reading::idle(rt, c.receiver, kept)),
-        FrameWord::Unsound => with(c, reading::unsound(rt)),
-        FrameWord::Dropped => with(c, reading::counted(rt, c.receiver, first_word(o))),
-        FrameWord::Place => place(rt, c, first_word(o)),
-        FrameWord::Message => write(rt, c, Kind::Message, o, out),
-        FrameWord::Ack => write(rt, c, Kind::Ack, o, out),
-        FrameWord::Nak => write(rt, c, Kind::Nak, o, out),
-        FrameWord::Compose => Bench {
-            written: writing::compose(rt, o, out, c.at),
-            ..c
-        },
-        FrameWord::Output => shown(rt, c, out),
+    pub(crate) fn done(
+        &mut self,
+        rt: &impl Print,
+        w: FrameWord,
+        o: &[u8],
+        out: &mut [u8],
+    ) -> io::Result<()> {
+        match w {
+            FrameWord::Read => self.read(rt, o, out),
+            FrameWord::Idle => self.decoder.idle(rt),
+            FrameWord::Unsound => self.decoder.unsound(rt),
+            FrameWord::Dropped => self.decoder.count(rt, octets::word_at(o, 0)),
+            FrameWord::Place => self.place(rt, octets::word_at(o, 0)),
+            FrameWord::Message => self.write(rt, Kind::Message, o, out),
+            FrameWord::Ack => self.write(rt, Kind::Ack, o, out),
+            FrameWord::Nak => self.write(rt, Kind::Nak, o, out),
+            FrameWord::Compose => self.compose(rt, o, out),
+            FrameWord::Output => print!(rt; "\toutput {}", HexOctets(out)),
+        }
     }
-}
 
-fn with(c: Bench, receiver: Receiver) -> Bench {
-    Bench { receiver, ..c }
-}
-
-fn first_word(o: &[u8]) -> u16 {
-    octets::word(script::at(o, 0), script::at(o, 1))
-}
-
-fn read(rt: &impl Print, c: Bench, o: &[u8], kept: &mut [u8], out: &[u8]) -> Bench {
-    let r = c.receiver;
-    let receiver = if o.len() == 0 {
-        say::text(rt, b"\tread back");
-        reading::read(
-            rt,
-            r,
-            kept,
-            script::first(script::rest(out, c.at), c.written),
-        )
-    } else {
-        say::text(rt, b"\tread ");
-        say::octets(rt, o);
-        reading::read(rt, r, kept, o)
-    };
-    Bench { receiver, ..c }
-}
-
-fn place(rt: &impl Print, c: Bench, at: u16) -> Bench {
-    say::text(rt, b"\tplace ");
-    say::decimal(rt, at as usize);
-    Bench {
-        at: at as usize,
-        ..c
+    // The octets given or, where there are none, those that were written last.
+    fn read(&mut self, rt: &impl Print, o: &[u8], out: &[u8]) -> io::Result<()> {
+        if o.is_empty() {
+            let last = script::first(script::rest(out, self.at), self.written);
+            print!(rt; "\tread back")?;
+            return self.decoder.read(rt, last);
+        }
+        print!(rt; "\tread {}", HexOctets(o))?;
+        self.decoder.read(rt, o)
     }
-}
 
-fn write(rt: &impl Print, c: Bench, k: Kind, o: &[u8], out: &mut [u8]) -> Bench {
-    Bench {
-        written: writing::write(rt, k, o, out, c.at),
-        ..c
+    fn place(&mut self, rt: &impl Print, at: u16) -> io::Result<()> {
+        self.at = usize::from(at);
+        print!(rt; "\tplace {at}")
     }
-}
 
-fn shown(rt: &impl Print, c: Bench, out: &[u8]) -> Bench {
-    say::text(rt, b"\toutput ");
-    say::octets(rt, out);
-    c
+    fn write(&mut self, rt: &impl Print, k: Kind, o: &[u8], out: &mut [u8]) -> io::Result<()> {
+        self.written = writing::write(rt, k, o, out, self.at)?;
+        Ok(())
+    }
+
+    fn compose(&mut self, rt: &impl Print, o: &[u8], out: &mut [u8]) -> io::Result<()> {
+        self.written = writing::compose(rt, o, out, self.at)?;
+        Ok(())
+    }
 }

@@ -1,13 +1,15 @@
 // The controller's calls made aloud: what was handed in, and what came back.
-ghost use Rattle.std.specs.Prelude.{◌≤◌};
-
+use crate::say::{
+    Address, Dropped, Ended, Happened, HexOctets, RefusedAtOctet, RefusedCall, SecondShown,
+};
+use crate::script;
 use crate::words::CallWord;
-use crate::{say, script};
-use controller::{Event, Held, HeldAnswer, Link, OUTPUT_LEN};
+use controller::{Held, HeldShown, KEPT_LEN, Link, OUTPUT_LEN, Told};
 use frame_calls::writer;
-use lamps::Row;
 use octets::refusal;
+use plan::Which;
 use record::BOOK_LEN;
+use std::io;
 
 // The controller's own address at first, and its T where none is given.
 const OWN: u16 = 0x0001;
@@ -17,475 +19,221 @@ const WAIT: u8 = 10;
 // How often a message is sent before SEQ comes round.
 const SILENT: u8 = 255;
 
-// The controller's state, and how much of book and output it is lent.
+// The book has an octet to spare, so that one too long can be lent.
+const BOOK_MOST: usize = BOOK_LEN + 1;
+
+// The controller's state, the octets and the book that are lent to its calls, and how much of book and output.
 #[derive(Clone, Copy)]
 pub(crate) struct Post {
     state: Held,
-    book: usize,
-    output: usize,
+    kept: [u8; KEPT_LEN],
+    book: [u8; BOOK_MOST],
+    book_lent: usize,
+    output_lent: usize,
 }
 
-pub(crate) fn start() -> Post {
-    let f = controller_calls::fresh(OWN, WAIT);
-    let state = f.state;
-    Post {
-        state,
-        book: BOOK_LEN,
-        output: OUTPUT_LEN,
-    }
-}
-
-pub(crate) fn done(
-    rt: &impl Print,
-    p: Post,
-    w: CallWord,
-    o: &[u8],
-    kept: &mut [u8],
-    book: &mut [u8],
-    out: &mut [u8],
-) -> Post {
-    let b = least(p.book, book.len());
-    let n = least(p.output, out.len());
-    let s = p.state;
-    let state = called(rt, s, w, o, kept, &mut book[..b], &mut out[..n]);
-    Post { state, ..p }
-}
-
-// Book and output are from now on so long, two octets each.
-pub(crate) fn lent(rt: &impl Print, p: Post, o: &[u8]) -> Post {
-    let book = octets::word(script::at(o, 0), script::at(o, 1));
-    let output = octets::word(script::at(o, 2), script::at(o, 3));
-    say::text(rt, b"\tlent a book of ");
-    say::decimal(rt, book as usize);
-    say::text(rt, b" and an output of ");
-    say::decimal(rt, output as usize);
-    Post {
-        book: book as usize,
-        output: output as usize,
-        ..p
-    }
-}
-
-fn least(a: usize, b: usize) -> usize
-    ensures { (result ≤ a) × (result ≤ b) }
-{
-    if a < b { a } else { b }
-}
-
-fn called(
-    rt: &impl Print,
-    s: Held,
-    w: CallWord,
-    o: &[u8],
-    kept: &mut [u8],
-    book: &mut [u8],
-    out: &mut [u8],
-) -> Held {
-    let own = s.own;
-    match w {
-        CallWord::Fresh => fresh(
-            rt,
-            octets::word(script::at(o, 0), script::at(o, 1)),
-            wait_in(o),
-        ),
-        CallWord::Earlier => earlier(
-            rt,
-            octets::word(script::at(o, 0), script::at(o, 1)),
-            wait_in(o),
-        ),
-        CallWord::Take => taken(rt, s, o, kept, book, out),
-        CallWord::Send => send(rt, s, own, o, kept, book, out),
-        CallWord::Broadcast => send(rt, s, controller::ALL, o, kept, book, out),
-        CallWord::Keep => keep(rt, s, o, kept, book, out),
-        CallWord::Offer => offer(rt, s, o, kept, out),
-        CallWord::Wait => wait(rt, s, o.len(), kept, book, out),
-        CallWord::Quiet => line_idle(rt, s, kept),
-    }
-}
-
-// The T behind an address.
-fn wait_in(o: &[u8]) -> u8 {
-    if o.len() < 3 {
-        return WAIT;
-    }
-    o[2]
-}
-
-// A fresh start with this own address and this T.
-fn fresh(rt: &impl Print, own: u16, t: u8) -> Held {
-    say_fresh(rt, own);
-    say_wait(rt, t);
-    started(rt, controller_calls::fresh(own, t))
-}
-
-// The same with the old built-in plan.
-fn earlier(rt: &impl Print, own: u16, t: u8) -> Held {
-    say_fresh(rt, own);
-    say::text(rt, b" with the old plan 0");
-    say_wait(rt, t);
-    started(rt, controller_calls::fresh_old(own, t))
-}
-
-fn say_fresh(rt: &impl Print, own: u16) {
-    say::text(rt, b"\tfresh ");
-    say::octets(rt, &[octets::high(own), octets::low(own)]);
-}
-
-fn say_wait(rt: &impl Print, t: u8) {
-    if t != WAIT {
-        say::text(rt, b", T = ");
-        say::decimal(rt, t as usize);
-    }
-}
-
-fn started(rt: &impl Print, f: HeldAnswer) -> Held {
-    if f.told.refusal != refusal::NONE {
-        say::call_refused(rt, f.told.refusal);
-    }
-    f.state
-}
-
-fn taken(
-    rt: &impl Print,
-    s: Held,
-    o: &[u8],
-    kept: &mut [u8],
-    book: &mut [u8],
-    out: &mut [u8],
-) -> Held {
-    say::text(rt, b"\ttake ");
-    say::octets(rt, o);
-    take(rt, s, o, kept, book, out)
-}
-
-// Hands the octets over one by one.
-fn take(
-    rt: &impl Print,
-    s: Held,
-    o: &[u8],
-    kept: &mut [u8],
-    book: &mut [u8],
-    out: &mut [u8],
-) -> Held {
-    let mut t = s;
-    for i in 0..o.len() {
-        let b = o[i];
-        t = octet(
-            rt,
-            t,
-            b,
-            i + 1,
-            i + 1 == o.len(),
-            &mut *kept,
-            &mut *book,
-            &mut *out,
-        );
-    }
-    t
-}
-
-// A message frame to this address: the octets given are its SEQ and its INFO.
-fn send(
-    rt: &impl Print,
-    s: Held,
-    addr: u16,
-    o: &[u8],
-    kept: &mut [u8],
-    book: &mut [u8],
-    out: &mut [u8],
-) -> Held {
-    say_send(rt, addr);
-    say::octets(rt, o);
-    hand_over(
-        rt,
-        s,
-        addr,
-        script::at(o, 0),
-        script::rest(o, 1),
-        kept,
-        book,
-        out,
-    )
-}
-
-fn say_send(rt: &impl Print, addr: u16) {
-    say::text(rt, b"\tsend ");
-    say::octets(rt, &[octets::high(addr), octets::low(addr)]);
-    say::text(rt, b": ");
-}
-
-fn hand_over(
-    rt: &impl Print,
-    s: Held,
-    addr: u16,
-    seq: u8,
-    info: &[u8],
-    kept: &mut [u8],
-    book: &mut [u8],
-    out: &mut [u8],
-) -> Held {
-    let mut frame = [0u8; OUTPUT_LEN];
-    let w = writer::write_message(seq, addr, info, &mut frame, 0);
-    take(rt, s, script::first(&frame, w.count), kept, book, out)
-}
-
-// A message 256 times, each with the SEQ after that of the one before, since with the same SEQ it would be a repeat; what comes of all but the last is
-// not said.
-fn keep(
-    rt: &impl Print,
-    s: Held,
-    o: &[u8],
-    kept: &mut [u8],
-    book: &mut [u8],
-    out: &mut [u8],
-) -> Held {
-    let seq = script::at(o, 0);
-    let info = script::rest(o, 1);
-    let t = silent(s, seq, info, &mut *kept, &mut *book, &mut *out);
-    once_more(
-        rt,
-        t,
-        std::num::wrapping_add_u8(seq, SILENT),
-        info,
-        kept,
-        book,
-        out,
-    )
-}
-
-fn silent(s: Held, seq: u8, info: &[u8], kept: &mut [u8], book: &mut [u8], out: &mut [u8]) -> Held {
-    let mut t = s;
-    for i in 0..SILENT {
-        let n = std::num::wrapping_add_u8(seq, i);
-        t = unheard_pair(t, n, info, &mut *kept, &mut *book, &mut *out);
-    }
-    t
-}
-
-fn once_more(
-    rt: &impl Print,
-    s: Held,
-    seq: u8,
-    info: &[u8],
-    kept: &mut [u8],
-    book: &mut [u8],
-    out: &mut [u8],
-) -> Held {
-    let own = s.own;
-    say::text(rt, b"\t255 times in silence, then");
-    say_send(rt, own);
-    say::octets(rt, &[seq]);
-    say::text(rt, b" ");
-    say::octets(rt, info);
-    hand_over(rt, s, own, seq, info, kept, book, out)
-}
-
-// A message frame to its own address and the ACK of its reply, whatever is told.
-fn unheard_pair(
-    s: Held,
-    seq: u8,
-    info: &[u8],
-    kept: &mut [u8],
-    book: &mut [u8],
-    out: &mut [u8],
-) -> Held {
-    let t = unheard_frame(s, seq, info, &mut *kept, &mut *book, &mut *out);
-    unheard_ack(t, s.seq, kept, book, out)
-}
-
-fn unheard_frame(
-    s: Held,
-    seq: u8,
-    info: &[u8],
-    kept: &mut [u8],
-    book: &mut [u8],
-    out: &mut [u8],
-) -> Held {
-    let mut frame = [0u8; OUTPUT_LEN];
-    let w = writer::write_message(seq, s.own, info, &mut frame, 0);
-    swallow(s, script::first(&frame, w.count), kept, book, out)
-}
-
-fn unheard_ack(s: Held, seq: u8, kept: &mut [u8], book: &mut [u8], out: &mut [u8]) -> Held {
-    let mut frame = [0u8; OUTPUT_LEN];
-    let w = writer::write_ack(seq, s.own, &mut frame, 0);
-    swallow(s, script::first(&frame, w.count), kept, book, out)
-}
-
-fn swallow(s: Held, o: &[u8], kept: &mut [u8], book: &mut [u8], out: &mut [u8]) -> Held {
-    let mut t = s;
-    for i in 0..o.len() {
-        let b = o[i];
-        t = unheard(t, b, &mut *kept, &mut *book, &mut *out);
-    }
-    t
-}
-
-// The octet call, whatever it tells.
-fn unheard(s: Held, b: u8, kept: &mut [u8], book: &mut [u8], out: &mut [u8]) -> Held {
-    controller_calls::octet(s, kept, book, out, b).state
-}
-
-// The octet call with octet b, which is number n of those given; what the last of them tells of octets dropped is said.
-fn octet(
-    rt: &impl Print,
-    s: Held,
-    b: u8,
-    n: usize,
-    last: bool,
-    kept: &mut [u8],
-    book: &mut [u8],
-    out: &mut [u8],
-) -> Held {
-    let a = controller_calls::octet(s, kept, book, &mut *out, b);
-    let told = a.told;
-    if told.refusal != refusal::NONE {
-        say_refusal(rt, n, told.refusal, told.parameter);
-    }
-    let e = told.event;
-    say_event(rt, e);
-    let link = told.link;
-    say_written(rt, link, script::first(out, told.count));
-    if last {
-        say::dropped(rt, told.dropped);
-    }
-    a.state
-}
-
-fn say_refusal(rt: &impl Print, n: usize, r: u8, parameter: u8) {
-    say::text(rt, b"\toctet ");
-    say::decimal(rt, n);
-    say::text(rt, b": refusal ");
-    say::decimal(rt, r as usize);
-    if parameter != 0 {
-        say::text(rt, b", parameter ");
-        say::decimal(rt, parameter as usize);
-    }
-}
-
-fn say_event(rt: &impl Print, e: Event) {
-    match e {
-        Event::Nothing => {}
-        Event::Ack(seq) => {
-            say::text(rt, b"\tevent ACK ");
-            say::octets(rt, &[seq]);
-        }
-        Event::Nak(seq, err) => {
-            say::text(rt, b"\tevent NAK ");
-            say::octets(rt, &[seq, err]);
+impl Post {
+    pub(crate) fn fresh() -> Post {
+        Post {
+            state: controller_calls::fresh(OWN, WAIT).state,
+            kept: [0; KEPT_LEN],
+            book: [0; BOOK_MOST],
+            book_lent: BOOK_LEN,
+            output_lent: OUTPUT_LEN,
         }
     }
-}
 
-// What an octet call wrote, and how the frame out ended.
-fn say_written(rt: &impl Print, link: Link, s: &[u8]) {
-    match link {
-        Link::Still => {
-            if s.len() != 0 {
-                say::text(rt, b"\treply ");
-                say::octets(rt, s);
-            }
+    pub(crate) fn done(
+        &mut self,
+        rt: &impl Print,
+        w: CallWord,
+        o: &[u8],
+        output: &mut [u8],
+    ) -> io::Result<()> {
+        let own = self.state.own;
+        let out = script::first_mut(output, self.output_lent);
+        match w {
+            CallWord::Fresh => self.start(rt, Which::New, o),
+            CallWord::Earlier => self.start(rt, Which::Old, o),
+            CallWord::Take => self.take_aloud(rt, o, out),
+            CallWord::Send => self.send(rt, own, o, out),
+            CallWord::Broadcast => self.send(rt, controller::ALL, o, out),
+            CallWord::Keep => self.keep(rt, o, out),
+            CallWord::Offer => self.offer(rt, o, out),
+            CallWord::Wait => self.wait(rt, o.len(), out),
+            CallWord::Quiet => self.line_idle(rt),
+            CallWord::Lend => self.lend(rt, o),
         }
-        _ => {
-            say::text(rt, b"\t");
-            say_link(rt, link, s);
+    }
+
+    // A fresh start with this built-in plan: the own address is given, and a T behind it or none.
+    fn start(&mut self, rt: &impl Print, which: Which, o: &[u8]) -> io::Result<()> {
+        let own = octets::word_at(o, 0);
+        let wait = o.get(2).copied().unwrap_or(WAIT);
+        let (f, plan) = match which {
+            Which::New => (controller_calls::fresh(own, wait), ""),
+            Which::Old => (
+                controller_calls::fresh_old(own, wait),
+                " with the old plan 0",
+            ),
+        };
+        self.state = f.state;
+        print!(rt; "\tfresh {}{plan}", Address(own))?;
+        if wait != WAIT {
+            print!(rt; ", T = {wait}")?;
+        }
+        print!(rt; "{}", RefusedCall(f.told.refusal))
+    }
+
+    // Book and output are from now on so long, two octets each.
+    fn lend(&mut self, rt: &impl Print, o: &[u8]) -> io::Result<()> {
+        self.book_lent = usize::from(octets::word_at(o, 0));
+        self.output_lent = usize::from(octets::word_at(o, 2));
+        print!(rt;
+            "\tlent a book of {} and an output of {}",
+            self.book_lent, self.output_lent
+        )
+    }
+
+    fn take_aloud(&mut self, rt: &impl Print, o: &[u8], out: &mut [u8]) -> io::Result<()> {
+        print!(rt; "\ttake {}", HexOctets(o))?;
+        self.take(rt, o, out)
+    }
+
+    // Hands the octets over one by one; what the last of them tells of octets dropped is said.
+    fn take(&mut self, rt: &impl Print, o: &[u8], out: &mut [u8]) -> io::Result<()> {
+        let mut dropped = 0;
+        for (number, b) in (1..=o.len()).zip(o) {
+            let told = self.octet(*b, &mut *out);
+            say_told(rt, told, number, out)?;
+            dropped = told.dropped;
+        }
+        print!(rt; "{}", Dropped(dropped))
+    }
+
+    // The octet call.
+    fn octet(&mut self, b: u8, out: &mut [u8]) -> Told {
+        let book = script::first_mut(&mut self.book, self.book_lent);
+        let a = controller_calls::octet(self.state, &mut self.kept, book, out, b);
+        self.state = a.state;
+        a.told
+    }
+
+    // A message frame to this address: the octets given are its SEQ and its INFO.
+    fn send(&mut self, rt: &impl Print, addr: u16, o: &[u8], out: &mut [u8]) -> io::Result<()> {
+        print!(rt; "\tsend {}: {}", Address(addr), HexOctets(o))?;
+        self.hand_over(rt, addr, octets::octet_at(o, 0), script::rest(o, 1), out)
+    }
+
+    fn hand_over(
+        &mut self,
+        rt: &impl Print,
+        addr: u16,
+        seq: u8,
+        info: &[u8],
+        out: &mut [u8],
+    ) -> io::Result<()> {
+        let mut frame = [0u8; OUTPUT_LEN];
+        let count = writer::write_message(seq, addr, info, &mut frame, 0).unwrap_or(0);
+        self.take(rt, script::first(&frame, count), out)
+    }
+
+    // A message 256 times, each with the SEQ after that of the one before, since with the same SEQ it would be a repeat; what comes of all but the
+    // last is not said.
+    fn keep(&mut self, rt: &impl Print, o: &[u8], out: &mut [u8]) -> io::Result<()> {
+        let own = self.state.own;
+        let seq = octets::octet_at(o, 0);
+        let info = script::rest(o, 1);
+        for i in 0..SILENT {
+            self.unheard_pair(seq.wrapping_add(i), info, &mut *out);
+        }
+        let last = seq.wrapping_add(SILENT);
+        print!(rt;
+            "\t255 times in silence, then\tsend {}: {last:02X} {}",
+            Address(own),
+            HexOctets(info)
+        )?;
+        self.hand_over(rt, own, last, info, out)
+    }
+
+    // A message frame to its own address and the ACK of its reply, whatever is told.
+    fn unheard_pair(&mut self, seq: u8, info: &[u8], out: &mut [u8]) {
+        let own = self.state.own;
+        let reply = self.state.seq;
+        let mut frame = [0u8; OUTPUT_LEN];
+        let count = writer::write_message(seq, own, info, &mut frame, 0).unwrap_or(0);
+        self.swallow(script::first(&frame, count), &mut *out);
+        let count = writer::write_ack(reply, own, &mut frame, 0).unwrap_or(0);
+        self.swallow(script::first(&frame, count), out);
+    }
+
+    fn swallow(&mut self, o: &[u8], out: &mut [u8]) {
+        for b in o {
+            self.octet(*b, &mut *out);
         }
     }
-}
 
-// How the link stands, and where the frame out goes again its octets.
-fn say_link(rt: &impl Print, link: Link, s: &[u8]) {
-    match link {
-        Link::Still => {}
-        Link::Again => {
-            say::text(rt, b"again ");
-            say::octets(rt, s);
-        }
-        Link::Heard => say::text(rt, b"heard"),
-        Link::Down => say::text(rt, b"down"),
+    fn line_idle(&mut self, rt: &impl Print) -> io::Result<()> {
+        let a = controller_calls::line_idle(self.state, &self.kept);
+        self.state = a.state;
+        let told = a.told;
+        print!(rt;
+            "\tline-idle call{}{}",
+            RefusedCall(told.refusal),
+            Dropped(told.dropped)
+        )
     }
-}
 
-fn line_idle(rt: &impl Print, s: Held, kept: &[u8]) -> Held {
-    say::text(rt, b"\tline-idle call");
-    let a = controller_calls::line_idle(s, kept);
-    if a.told.refusal != refusal::NONE {
-        say::call_refused(rt, a.told.refusal);
-    }
-    say::dropped(rt, a.told.dropped);
-    a.state
-}
-
-// A message of the host's own.
-fn offer(rt: &impl Print, s: Held, o: &[u8], kept: &mut [u8], out: &mut [u8]) -> Held {
-    say::text(rt, b"\toffer ");
-    say::octets(rt, o);
-    let a = controller_calls::offer(s, kept, o, &mut *out);
-    if a.told.refusal == refusal::NONE {
-        say::text(rt, b"\tsent ");
-        say::octets(rt, script::first(out, a.told.count));
-    } else {
-        say::call_refused(rt, a.told.refusal);
-    }
-    a.state
-}
-
-// So many seconds; what the link does in each is said, and what the last of them shows.
-fn wait(rt: &impl Print, s: Held, n: usize, kept: &[u8], book: &[u8], out: &mut [u8]) -> Held {
-    say::text(rt, b"\twait ");
-    say::decimal(rt, n);
-    let mut t = s;
-    for i in 0..n {
-        t = second(rt, t, i + 1, i + 1 == n, kept, book, &mut *out);
-    }
-    t
-}
-
-fn second(
-    rt: &impl Print,
-    s: Held,
-    n: usize,
-    last: bool,
-    kept: &[u8],
-    book: &[u8],
-    out: &mut [u8],
-) -> Held {
-    let w = controller_calls::second(s, kept, book, &mut *out);
-    let told = w.told;
-    let link = told.link;
-    say_turn(rt, n, link, script::first(out, told.count));
-    if last {
+    // A message of the host's own.
+    fn offer(&mut self, rt: &impl Print, o: &[u8], out: &mut [u8]) -> io::Result<()> {
+        let a = controller_calls::offer(self.state, &mut self.kept, o, &mut *out);
+        self.state = a.state;
+        let told = a.told;
+        print!(rt; "\toffer {}{}", HexOctets(o), RefusedCall(told.refusal))?;
         if told.refusal == refusal::NONE {
-            say_second(rt, w.plan, w.row);
-        } else {
-            say::call_refused(rt, told.refusal);
+            print!(rt; "\tsent {}", HexOctets(script::first(out, told.count)))?;
+        }
+        Ok(())
+    }
+
+    // So many seconds; what the link does in each is said, and what the last of them shows.
+    fn wait(&mut self, rt: &impl Print, count: usize, out: &mut [u8]) -> io::Result<()> {
+        print!(rt; "\twait {count}")?;
+        let mut last = None;
+        for number in 1..=count {
+            last = Some(self.second(rt, number, &mut *out)?);
+        }
+        match last {
+            Some(shown) => print!(rt; "{}", SecondShown(shown)),
+            None => Ok(()),
         }
     }
-    w.state
-}
 
-// What became of the frame out in second number n.
-fn say_turn(rt: &impl Print, n: usize, link: Link, s: &[u8]) {
-    match link {
-        Link::Still => {}
-        _ => {
-            say::text(rt, b", after ");
-            say::decimal(rt, n);
-            say::text(rt, b" ");
-            say_link(rt, link, s);
+    fn second(&mut self, rt: &impl Print, number: usize, out: &mut [u8]) -> io::Result<HeldShown> {
+        let book = script::first(&self.book, self.book_lent);
+        let w = controller_calls::second(self.state, &self.kept, book, &mut *out);
+        self.state = w.state;
+        let link = w.told.link;
+        if !matches!(link, Link::Still) {
+            let ended = Ended(link, script::first(out, w.told.count));
+            print!(rt; ", after {number} {ended}")?;
         }
+        Ok(w)
     }
 }
 
-fn say_second(rt: &impl Print, plan: u8, row: Row) {
-    say::text(rt, b": plan ");
-    say::decimal(rt, plan as usize);
-    say::text(rt, b", step ");
-    say::decimal(rt, row.step as usize);
-    say::text(rt, b", left ");
-    say::decimal(rt, row.left as usize);
-    say::text(rt, b", ");
-    say::word(rt, row.steady);
-    say::text(rt, b" ");
-    say::word(rt, row.flashing);
+// What octet number `number` told, and what it wrote.
+fn say_told(rt: &impl Print, told: Told, number: usize, out: &[u8]) -> io::Result<()> {
+    let refused = RefusedAtOctet {
+        number,
+        refusal: told.refusal,
+        parameter: told.parameter,
+    };
+    let written = script::first(out, told.count);
+    print!(rt; "{refused}{}", Happened(told.event))?;
+    match told.link {
+        Link::Still if written.is_empty() => Ok(()),
+        Link::Still => print!(rt; "\treply {}", HexOctets(written)),
+        link => print!(rt; "\t{}", Ended(link, written)),
+    }
 }

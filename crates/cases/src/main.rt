@@ -45,160 +45,74 @@ mod writing;
 
 use bench::Bench;
 use control::Post;
-use controller::{KEPT_LEN, OUTPUT_LEN};
-use frame::INFO_MOST;
-use input::Ended;
-use record::BOOK_LEN;
+use controller::OUTPUT_LEN;
+use std::io;
 use words::Word;
 
 // The octets of an input at most.
 const INPUT_MOST: usize = 65536;
 
-// The book has an octet to spare, so that one too long can be lent.
-const BOOK_MOST: usize = BOOK_LEN + 1;
-
 // What stands in the output at first.
 const BEFORE: u8 = 0x55;
 
-// What a case works on beside book and output.
+// What a case works on.
 #[derive(Clone, Copy)]
 struct Desk {
     bench: Bench,
     post: Post,
+    out: [u8; OUTPUT_LEN],
 }
 
+// What can't be told on standard error can't be told to anybody.
 fn main(rt: HostRuntime) {
     let mut s = [0u8; INPUT_MOST];
     let input = input::read_all(&mut rt.stdin(), &mut s);
     let ended = input.ended;
-    if cases(&rt, script::first(&s, input.count), is_whole(ended)) {
-        tell_ended(&rt, ended);
-    } else {
-        tell(&rt, "cases: the output can't be written");
-    }
-}
-
-fn is_whole(e: Ended) -> bool {
-    match e {
-        Ended::Whole => true,
-        Ended::Long => false,
-        Ended::Failed => false,
-    }
-}
-
-fn tell_ended(rt: &impl Eprint, e: Ended) {
-    match e {
-        Ended::Whole => {}
-        Ended::Long => tell(rt, "cases: the input is longer than 65536 octets"),
-        Ended::Failed => tell(rt, "cases: the input can't be read"),
-    }
-}
-
-// Tells it on standard error. Where that can't be done there is nobody left to tell.
-fn tell(rt: &impl Eprint, s: &str) {
-    let _ = rt.eprintln(s);
-}
-
-// Runs the cases and gives whether all could be printed. Of an input that is not whole the last line may have been cut off,
-// and is not run.
-fn cases(rt: &impl Print, s: &[u8], whole: bool) -> bool {
-    let mut from = 0;
-    while from < s.len() {
-        let end = script::end_of(s, from, b'\n');
-        if end == s.len() && !whole {
-            return true;
-        }
-        if !case(rt, &s[from..end]) {
-            return false;
-        }
-        from = end + 1;
-    }
-    true
-}
-
-// Runs a case and gives whether its line could be printed.
-fn case(rt: &impl Print, s: &[u8]) -> bool {
-    // the octets of INFO that are lent to the decoder, and those that are lent to the controller
-    let mut info = [0u8; INFO_MOST];
-    let mut kept = [0u8; KEPT_LEN];
-    let mut out = [BEFORE; OUTPUT_LEN];
-    let mut book = [0u8; BOOK_MOST];
-    let mut d = Desk {
-        bench: bench::start(),
-        post: control::start(),
+    let _ = match (cases(&rt, input.octets, ended.is_ok()), ended) {
+        (Err(_), _) => eprintln!(rt; "cases: the output can't be written"),
+        (Ok(()), Err(e)) => eprintln!(rt; "cases: {e}"),
+        (Ok(()), Ok(())) => Ok(()),
     };
-    let mut end = script::end_of(s, 0, b'\t');
-    say::text(rt, script::first(s, end));
-    while end < s.len() {
-        let from = end + 1;
-        end = script::end_of(s, from, b'\t');
-        d = action(
-            rt,
-            d,
-            &s[from..end],
-            &mut info,
-            &mut kept,
-            &mut book,
-            &mut out,
-        );
+}
+
+// Runs the cases. Of an input that is not whole the last line may have been cut off, and is not run.
+fn cases(rt: &impl Print, s: &[u8], whole: bool) -> io::Result<()> {
+    for line in s.split_inclusive(|c| *c == b'\n') {
+        let ended = line.strip_suffix(b"\n");
+        if whole || ended.is_some() {
+            case(rt, ended.unwrap_or(line))?;
+        }
     }
-    say::line_end(rt)
+    Ok(())
 }
 
-fn action(
-    rt: &impl Print,
-    d: Desk,
-    s: &[u8],
-    info: &mut [u8],
-    kept: &mut [u8],
-    book: &mut [u8],
-    out: &mut [u8],
-) -> Desk {
-    let mut o = [0u8; OUTPUT_LEN];
-    let end = script::end_of(s, 0, b' ');
-    let n = script::octets(script::rest(s, end), &mut o);
-    done(
-        rt,
-        d,
-        script::first(s, end),
-        script::first(&o, n),
-        info,
-        kept,
-        book,
-        out,
-    )
+fn case(rt: &impl Print, s: &[u8]) -> io::Result<()> {
+    let mut desk = Desk {
+        bench: Bench::fresh(),
+        post: Post::fresh(),
+        out: [BEFORE; OUTPUT_LEN],
+    };
+    let mut parts = s.split(|c| *c == b'\t');
+    rt.write_all(parts.next().unwrap_or(s))?;
+    for part in parts {
+        desk.action(rt, part)?;
+    }
+    rt.write_all(b"\n")
 }
 
-fn done(
-    rt: &impl Print,
-    d: Desk,
-    word: &[u8],
-    o: &[u8],
-    info: &mut [u8],
-    kept: &mut [u8],
-    book: &mut [u8],
-    out: &mut [u8],
-) -> Desk {
-    let bench = d.bench;
-    let post = d.post;
-    let w = words::find(word);
-    match w {
-        Word::Frame(f) => Desk {
-            bench: bench::done(rt, bench, f, o, info, out),
-            ..d
-        },
-        Word::Call(c) => Desk {
-            post: control::done(rt, post, c, o, kept, book, out),
-            ..d
-        },
-        Word::Lend => Desk {
-            post: control::lent(rt, post, o),
-            ..d
-        },
-        Word::Unknown => {
-            say::text(rt, b"\tunknown word: ");
-            say::text(rt, word);
-            d
+impl Desk {
+    fn action(&mut self, rt: &impl Print, s: &[u8]) -> io::Result<()> {
+        let mut room = [0u8; OUTPUT_LEN];
+        let end = s.iter().position(|c| *c == b' ').unwrap_or(s.len());
+        let word = script::first(s, end);
+        let o = script::octets(script::rest(s, end), &mut room);
+        match words::find(word) {
+            Some(Word::Frame(w)) => self.bench.done(rt, w, o, &mut self.out),
+            Some(Word::Call(w)) => self.post.done(rt, w, o, &mut self.out),
+            None => {
+                rt.write_all(b"\tunknown word: ")?;
+                rt.write_all(word)
+            }
         }
     }
 }

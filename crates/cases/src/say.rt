@@ -1,101 +1,213 @@
-// What is printed, piece by piece.
-ghost use Rattle.std.specs.Prelude.{◌+◌, ◌<◌, ◌≤◌, length};
-
+// What is printed, thing by thing. A thing that says nothing where there is nothing to say brings its own tab.
 use crate::script;
+use controller::{Event, HeldShown, Link};
 use frame::Kind;
+use frame::decoder::{Found, Place};
+use octets::refusal;
+use std::fmt;
 
 // So many of one octet in a row are counted.
 const COUNTED: usize = 4;
 
-pub(crate) fn text(rt: &impl Print, s: &[u8]) {
-    let _ = rt.write_all(s);
-}
-
-// Ends a line and gives whether that could be written.
-pub(crate) fn line_end(rt: &impl Print) -> bool {
-    rt.write_all(b"\n").is_ok()
-}
-
-pub(crate) fn decimal(rt: &impl Print, n: usize) {
-    let mut t = [0u8; 20];
-    let end = text::put_decimal(n as u64, &mut t, 0);
-    text(rt, script::first(&t, end));
-}
-
-fn hex2(rt: &impl Print, b: u8) {
-    let mut t = [0u8; 2];
-    text::put_hex2(b, &mut t, 0);
-    text(rt, &t);
-}
-
-// A lamp word in sixteen digits, as in the listing.
-pub(crate) fn word(rt: &impl Print, x: u64) {
-    let mut t = [0u8; 16];
-    text::put_hex16(x, &mut t, 0);
-    text(rt, &t);
-}
-
 // Octets parted by blanks, as an action has them.
-pub(crate) fn octets(rt: &impl Print, s: &[u8]) {
-    let mut i = 0;
-    while i < s.len() {
-        let n = alike(s, i);
-        i += run(rt, s[i], n);
-        if i < s.len() {
-            text(rt, b" ");
+#[derive(Clone, Copy)]
+pub(crate) struct HexOctets<'a>(pub(crate) &'a [u8]);
+
+impl fmt::Display for HexOctets<'_> {
+    fn fmt<W: fmt::Write>(&self, f: &mut fmt::Formatter<W>) -> fmt::Result {
+        let mut runs = self.0.chunk_by(|a, b| a == b);
+        let Some(run) = runs.next() else {
+            return Ok(());
+        };
+        write!(f, "{}", Run(run))?;
+        for run in runs {
+            write!(f, " {}", Run(run))?;
+        }
+        Ok(())
+    }
+}
+
+// Like octets: each of them, or one with their number.
+#[derive(Clone, Copy)]
+struct Run<'a>(&'a [u8]);
+
+impl fmt::Display for Run<'_> {
+    fn fmt<W: fmt::Write>(&self, f: &mut fmt::Formatter<W>) -> fmt::Result {
+        match self.0 {
+            [b, ..] if self.0.len() >= COUNTED => write!(f, "x{} {b:02X}", self.0.len()),
+            [b, rest @ ..] => {
+                write!(f, "{b:02X}")?;
+                for c in rest {
+                    write!(f, " {c:02X}")?;
+                }
+                Ok(())
+            }
+            [] => Ok(()),
         }
     }
 }
 
-// How many octets from place i on are like the one there.
-fn alike(s: &[u8], i: usize) -> usize
-    requires { i < length s.now }
-    ensures { (0 < result) × (i + result ≤ length s.now) }
-{
-    let b = s[i];
-    for j in i + 1..s.len() {
-        if s[j] != b {
-            return j - i;
-        }
-    }
-    s.len() - i
-}
+#[derive(Clone, Copy)]
+pub(crate) struct Address(pub(crate) u16);
 
-// One of n like octets, or all of them with their number; gives how many were said.
-fn run(rt: &impl Print, b: u8, n: usize) -> usize
-    requires { 0 < n }
-    ensures { (0 < result) × (result ≤ n) }
-{
-    if n < COUNTED {
-        hex2(rt, b);
-        return 1;
+impl fmt::Display for Address {
+    fn fmt<W: fmt::Write>(&self, f: &mut fmt::Formatter<W>) -> fmt::Result {
+        let [high, low] = self.0.to_be_bytes();
+        write!(f, "{high:02X} {low:02X}")
     }
-    text(rt, b"x");
-    decimal(rt, n);
-    text(rt, b" ");
-    hex2(rt, b);
-    n
 }
 
 // A frame by its kind, SEQ and ADDR.
-pub(crate) fn head(rt: &impl Print, k: Kind, seq: u8, addr: u16) {
-    match k {
-        Kind::Message => text(rt, b"message "),
-        Kind::Ack => text(rt, b"ACK "),
-        Kind::Nak => text(rt, b"NAK "),
+#[derive(Clone, Copy)]
+pub(crate) struct FrameHead(pub(crate) Kind, pub(crate) u8, pub(crate) u16);
+
+impl fmt::Display for FrameHead {
+    fn fmt<W: fmt::Write>(&self, f: &mut fmt::Formatter<W>) -> fmt::Result {
+        let kind = match self.0 {
+            Kind::Message => "message",
+            Kind::Ack => "ACK",
+            Kind::Nak => "NAK",
+        };
+        write!(f, "{kind} {:02X} {}", self.1, Address(self.2))
     }
-    octets(rt, &[seq, octets::high(addr), octets::low(addr)]);
+}
+
+// Where the decoder is.
+#[derive(Clone, Copy)]
+pub(crate) struct DecoderPlace(pub(crate) Place);
+
+impl fmt::Display for DecoderPlace {
+    fn fmt<W: fmt::Write>(&self, f: &mut fmt::Formatter<W>) -> fmt::Result {
+        f.write_str(match self.0 {
+            Place::Idle => "idle",
+            Place::LoneAa => "AA remembered",
+            _ => "in a frame",
+        })
+    }
+}
+
+// What octet number `number` brought the decoder, and the octets that it keeps.
+#[derive(Clone, Copy)]
+pub(crate) struct Brought<'a> {
+    pub(crate) found: Found,
+    pub(crate) number: usize,
+    pub(crate) kept: &'a [u8],
+}
+
+impl fmt::Display for Brought<'_> {
+    fn fmt<W: fmt::Write>(&self, f: &mut fmt::Formatter<W>) -> fmt::Result {
+        let n = self.number;
+        match self.found {
+            Found::Nothing => Ok(()),
+            Found::Refused(r, kind, seq, addr) => {
+                let head = FrameHead(kind, seq, addr);
+                write!(f, "\toctet {n}: refusal {r}, {head}")
+            }
+            Found::Message(seq, addr, filled) => {
+                let head = FrameHead(Kind::Message, seq, addr);
+                let info = script::first(self.kept, usize::from(filled));
+                write!(f, "\toctet {n}: {head}, INFO {}", HexOctets(info))
+            }
+            Found::Ack(seq, addr) => write!(f, "\toctet {n}: {}", FrameHead(Kind::Ack, seq, addr)),
+            Found::Nak(seq, addr, err) => {
+                let head = FrameHead(Kind::Nak, seq, addr);
+                write!(f, "\toctet {n}: {head}, ERR {err:02X}")
+            }
+        }
+    }
 }
 
 // How many octets were dropped, if any.
-pub(crate) fn dropped(rt: &impl Print, n: u16) {
-    if n != 0 {
-        text(rt, b"\tdropped ");
-        decimal(rt, n as usize);
+#[derive(Clone, Copy)]
+pub(crate) struct Dropped(pub(crate) u16);
+
+impl fmt::Display for Dropped {
+    fn fmt<W: fmt::Write>(&self, f: &mut fmt::Formatter<W>) -> fmt::Result {
+        match self.0 {
+            0 => Ok(()),
+            n => write!(f, "\tdropped {n}"),
+        }
     }
 }
 
-pub(crate) fn call_refused(rt: &impl Print, n: u8) {
-    text(rt, b"\tcall refused ");
-    decimal(rt, n as usize);
+// The refusal of a call, if it is refused.
+#[derive(Clone, Copy)]
+pub(crate) struct RefusedCall(pub(crate) u8);
+
+impl fmt::Display for RefusedCall {
+    fn fmt<W: fmt::Write>(&self, f: &mut fmt::Formatter<W>) -> fmt::Result {
+        match self.0 {
+            refusal::NONE => Ok(()),
+            n => write!(f, "\tcall refused {n}"),
+        }
+    }
+}
+
+// The refusal of a frame or message that octet number `number` ended, and the parameter that the reply names, if any.
+#[derive(Clone, Copy)]
+pub(crate) struct RefusedAtOctet {
+    pub(crate) number: usize,
+    pub(crate) refusal: u8,
+    pub(crate) parameter: u8,
+}
+
+impl fmt::Display for RefusedAtOctet {
+    fn fmt<W: fmt::Write>(&self, f: &mut fmt::Formatter<W>) -> fmt::Result {
+        let n = self.number;
+        let r = self.refusal;
+        match (r, self.parameter) {
+            (refusal::NONE, _) => Ok(()),
+            (_, 0) => write!(f, "\toctet {n}: refusal {r}"),
+            (_, parameter) => write!(f, "\toctet {n}: refusal {r}, parameter {parameter}"),
+        }
+    }
+}
+
+// An event, if there is one.
+#[derive(Clone, Copy)]
+pub(crate) struct Happened(pub(crate) Event);
+
+impl fmt::Display for Happened {
+    fn fmt<W: fmt::Write>(&self, f: &mut fmt::Formatter<W>) -> fmt::Result {
+        match self.0 {
+            Event::Nothing => Ok(()),
+            Event::Ack(seq) => write!(f, "\tevent ACK {seq:02X}"),
+            Event::Nak(seq, err) => write!(f, "\tevent NAK {seq:02X} {err:02X}"),
+        }
+    }
+}
+
+// What became of the frame out, and where it goes again its octets.
+#[derive(Clone, Copy)]
+pub(crate) struct Ended<'a>(pub(crate) Link, pub(crate) &'a [u8]);
+
+impl fmt::Display for Ended<'_> {
+    fn fmt<W: fmt::Write>(&self, f: &mut fmt::Formatter<W>) -> fmt::Result {
+        match self.0 {
+            Link::Still => Ok(()),
+            Link::Again => write!(f, "again {}", HexOctets(self.1)),
+            Link::Heard => f.write_str("heard"),
+            Link::Down => f.write_str("down"),
+        }
+    }
+}
+
+// What a second shows, or its refusal.
+#[derive(Clone, Copy)]
+pub(crate) struct SecondShown(pub(crate) HeldShown);
+
+impl fmt::Display for SecondShown {
+    fn fmt<W: fmt::Write>(&self, f: &mut fmt::Formatter<W>) -> fmt::Result {
+        let plan = self.0.plan;
+        let row = self.0.row;
+        let r = self.0.told.refusal;
+        if r != refusal::NONE {
+            return write!(f, "{}", RefusedCall(r));
+        }
+        write!(
+            f,
+            ": plan {plan}, step {}, left {}, {:016X} {:016X}",
+            row.step, row.left, row.steady, row.flashing
+        )
+    }
 }

@@ -1,116 +1,94 @@
-// The text of a case taken apart, and parts of octets that are there whatever is asked for.
-ghost use Rattle.std.specs.Prelude.{◌≤◌, length};
-
-// Where the part that begins at `from` ends: at the next mark, or with the text.
-pub(crate) fn end_of(s: &[u8], from: usize, mark: u8) -> usize
-    requires { from ≤ length s.now }
-    ensures { (from ≤ result) × (result ≤ length s.now) }
-{
-    for i in from..s.len() {
-        if s[i] == mark {
-            return i;
-        }
-    }
-    s.len()
-}
+// The octets of an action, read from its text, and parts of octets that are there whatever is asked for.
 
 // The first n octets, or all where there are fewer.
-pub(crate) fn first<'a>(s: &'a [u8], n: usize) -> &'a [u8] {
-    if s.len() < n {
-        return s;
-    }
-    &s[..n]
+pub(crate) fn first(s: &[u8], n: usize) -> &[u8] {
+    s.get(..n).unwrap_or(s)
+}
+
+pub(crate) fn first_mut(s: &mut [u8], n: usize) -> &mut [u8] {
+    let end = n.min(s.len());
+    &mut s[..end]
 }
 
 // All but the first n octets, or all where there are fewer.
-pub(crate) fn rest<'a>(s: &'a [u8], n: usize) -> &'a [u8] {
-    if s.len() < n {
-        return s;
-    }
-    &s[n..]
+pub(crate) fn rest(s: &[u8], n: usize) -> &[u8] {
+    s.get(n..).unwrap_or(s)
 }
 
-// The octet at a place, or 0 where there is none.
-pub(crate) fn at(s: &[u8], i: usize) -> u8 {
-    if i < s.len() { s[i] } else { 0 }
+// What a digit is that comes next.
+#[derive(Clone, Copy)]
+enum Next {
+    // The first of an octet,
+    High,
+    // the second, behind this one,
+    Low(u8),
+    // or one of how often the next octet is to be taken.
+    Times,
 }
 
-// No digit.
-const NONE: u8 = 16;
-
-// Octets that are being read: how many there are, the first digit of the next, and how often that one is to be taken.
+// Octets that are being read: how many there are, what comes next, and how often the next is to be taken.
 #[derive(Clone, Copy)]
 struct Parsed {
     count: usize,
-    high: u8,
-    counting: bool,
+    next: Next,
     times: usize,
 }
 
-// Puts the octets of an action into o and gives how many they are.
-pub(crate) fn octets(s: &[u8], o: &mut [u8]) -> usize {
+// Puts the octets of an action into o, as far as they fit, and gives them.
+pub(crate) fn octets<'a>(s: &[u8], o: &'a mut [u8]) -> &'a [u8] {
     let mut p = Parsed {
         count: 0,
-        high: NONE,
-        counting: false,
+        next: Next::High,
         times: 1,
     };
-    for i in 0..s.len() {
-        let c = s[i];
-        p = next(p, c, &mut *o);
+    for c in s {
+        p = taken(p, *c, &mut *o);
     }
-    p.count
+    first(o, p.count)
 }
 
-fn next(p: Parsed, c: u8, o: &mut [u8]) -> Parsed {
-    let v = digit(c);
-    if c == b'x' {
-        return Parsed {
-            counting: true,
+fn taken(p: Parsed, c: u8, o: &mut [u8]) -> Parsed {
+    match (digit(c), p.next) {
+        (None, _) if c == b'x' => Parsed {
+            next: Next::Times,
             times: 0,
             ..p
-        };
-    }
-    if v == NONE {
-        return Parsed {
-            high: NONE,
-            counting: false,
+        },
+        (None, _) => Parsed {
+            next: Next::High,
             ..p
-        };
-    }
-    if p.counting {
+        },
+        (Some(v), Next::High) => Parsed {
+            next: Next::Low(v),
+            ..p
+        },
+        (Some(v), Next::Low(high)) => Parsed {
+            count: put(high << 4 | v, p.times, o, p.count),
+            next: Next::High,
+            times: 1,
+        },
         // Up to 999.
-        return Parsed {
-            times: p.times % 100 * 10 + v as usize,
+        (Some(v), Next::Times) => Parsed {
+            times: p.times % 100 * 10 + usize::from(v),
             ..p
-        };
-    }
-    if p.high == NONE {
-        return Parsed { high: v, ..p };
-    }
-    Parsed {
-        count: put(p.high % 16 * 16 + v, p.times, o, p.count),
-        high: NONE,
-        counting: false,
-        times: 1,
+        },
     }
 }
 
 // What a digit counts; capitals only, so that no word is taken for octets.
-fn digit(c: u8) -> u8
-    ensures { result ≤ 16 }
-{
+fn digit(c: u8) -> Option<u8> {
     match c {
-        b'0'..=b'9' => c - b'0',
-        b'A'..=b'F' => c - b'A' + 10,
-        _ => NONE,
+        b'0'..=b'9' => Some(c - b'0'),
+        b'A'..=b'F' => Some(c - b'A' + 10),
+        _ => None,
     }
 }
 
+// Puts so many of an octet from a place on, as far as they fit, and gives the place behind them.
 fn put(b: u8, times: usize, o: &mut [u8], at: usize) -> usize {
-    let mut p = at;
-    for _ in 0..times {
-        p = octets::put(&[b], &mut *o, p);
+    let end = at.saturating_add(times).min(o.len());
+    if let Some(part) = o.get_mut(at..end) {
+        part.fill(b);
     }
-    p
+    end
 }

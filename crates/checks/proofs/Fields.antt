@@ -10,7 +10,7 @@ use lib.ListN.{length, drop}
 use lib.Seq.{get_or-drop}
 use Rattle.octets.specs.Refusal as refusal
 use Rattle.diagram.specs.Table.{phases_of}
-use Rattle.message.specs.declared.Read.{Read}
+use Rattle.message.specs.Reader.{Read}
 use Rattle.message.specs.declared.layout.Field.{Field}
 use Rattle.message.specs.declared.layout.Field.TheVariants.{Octet, Two, Order}
 use Rattle.message.specs.Fields.{two_of, width_of, value_of}

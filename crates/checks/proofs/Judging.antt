@@ -1,17 +1,24 @@
 -- What the code finds check by check is what the definitions say of the parts that they read.
 use Prim.Native.Nat.{ℕ, ◌+◌, ◌≤◌, ◌<◌}
 use mathlib.Core.Path.{◌≡◌, refl, sym, ◌∙◌}
-use mathlib.Core.Bool.{Bool, true, false, ◌&&◌}
+use mathlib.Core.Bool.{Bool, true, false, not, ◌&&◌}
 use mathlib.Core.List.{List}
 use native.Mathlib.Omega.{arith}
 use borrow.Author.Tests.{eq-eqb, le-leb, lt-leb, le-ltb, eqb-true, leb-true, leb-false, ltb-false}
 use lib.Dec.{eqb, leb, ltb}
 use lib.ListN.{length}
+use Rattle.std.specs.Prelude.{Option}
+use Rattle.std.specs.Option.{is_some}
 use Rattle.octets.specs.Choice.{pick, both}
 use Rattle.octets.proofs.Laws.{pick-by, both_left, both_right, clash}
-use Rattle.record.specs.Record.{record_len, minimum_of, maximum_of, yellow_of, all_red_of, walk_flash_of, red_man_of, direct_of, order_of, cycle_of, Within, TimesFit, AllTimesFit}
-use Rattle.checks.specs.Standing.{Tells, plan_disagree, plan_stands}
+use Rattle.record.specs.Record.{record_len, octet_at, minimum_of, maximum_of, yellow_of, all_red_of, walk_flash_of, red_man_of, direct_of, order_of, cycle_of, Within, TimesFit, AllTimesFit}
+use Rattle.checks.specs.Standing.{Tells, plan_disagree, plan_stands, check_named}
+use Rattle.checks.proofs.Laws.{none-told}
 use Rattle.checks.proofs.Stands.{plan-agrees, agrees-plan, agree-greens, greens-agree, plan-fits, fits-plan}
+
+-- an octet from a place that is the same
+pub octet-from : (rec : List ℕ) {m n : ℕ} → m ≡ n → (k : ℕ) → octet_at rec (m + k) ≡ octet_at rec (n + k)
+octet-from rec e k = rw e
 
 -- One check, and several
 
@@ -33,19 +40,19 @@ told-as f g p = record { holds = λ h. f (p.holds h); told = λ w. p.told (g w) 
 
 -- The agreement of a phase
 
-module _ (a m w : ℕ) {n : ℕ} (e : n ≡ pick (ltb m a) 1 (pick (leb a w) 2 0)) where
-  agreed : n ≡ 0 → (a ≤ m) × (w < a)
-  agreed z =
+module _ (a m w : ℕ) where
+  abbrev first-fails : ℕ
+  first-fails = pick (ltb m a) 1 (pick (leb a w) 2 0)
+
+  agreed : first-fails ≡ 0 → (a ≤ m) × (w < a)
+  agreed =
       pick-by (λ (r : ℕ). r ≡ 0 → (a ≤ m) × (w < a)) (ltb m a) (λ p h. absurd (omega arith))
       (λ p. pick-by (λ (r : ℕ). r ≡ 0 → (a ≤ m) × (w < a)) (leb a w) (λ q h. absurd (omega arith)) (λ q h. (ltb-false m a p, leb-false a w q)))
-      (sym e ∙ z)
 
-  pub told-agrees : Tells (eqb n 0) ((a ≤ m) × (w < a))
-  told-agrees = record { holds = λ h. agreed (eqb-true n 0 h); told = λ p. eq-eqb n 0 (e ∙ rw (le-ltb m a p.0, lt-leb a w p.1)) }
-
--- one part that fails is enough
-pub told-false : {t : Bool} {P Q : Type 0} → Tells t Q → t ≡ false → (P → Q) → Tells false P
-told-false q h f = record { holds = λ e. absurd (clash refl e); told = λ p. absurd (clash h (q.told (f p))) }
+  pub told-agrees : {r : Option ℕ} {t : Bool} → r ≡ check_named (pick (ltb m a) 1 (pick (leb a w) 2 0)) → is_some r ≡ not t → Tells t ((a ≤ m) × (w < a))
+  told-agrees {t} e s =
+      let told : t ≡ eqb first-fails 0 = none-told first-fails e s in
+      record { holds = λ h. agreed (eqb-true first-fails 0 (sym told ∙ h)); told = λ p. told ∙ eq-eqb first-fails 0 (rw (le-ltb m a p.0, lt-leb a w p.1)) }
 
 module _ (rec : List ℕ) (i : ℕ) {a b d e f g : Bool} where
   pub told-times : Within 3 (yellow_of rec i) 9 → Tells a (Within 5 (minimum_of rec i) 254) → Tells b (Within 5 (maximum_of rec i) 900)

@@ -1,17 +1,19 @@
 -- What follows from the definitions of specs/: one law for each way through.
-use Prim.Native.Nat.{ℕ, ◌+◌, ◌≤◌, ◌<◌, max}
-use mathlib.Core.Path.{◌≡◌, sym, ap, ◌∙◌}
-use mathlib.Core.Bool.{Bool, true, false, and-true, and-false}
+use Prim.Native.Nat.{ℕ, zero, suc, ◌+◌, ◌≤◌, ◌<◌, max}
+use mathlib.Core.Path.{◌≡◌, refl, sym, ap, ◌∙◌}
+use mathlib.Core.Bool.{Bool, true, false, not, and-true, and-false}
 use mathlib.Core.List.{List}
 use native.Mathlib.Decide.{dec_lt}
 use native.Mathlib.Omega.{arith}
 use borrow.Author.Tests.{eq-eqb, ne_eqb, le-leb, lt-leb}
-use lib.Dec.{leb}
+use lib.Dec.{eqb, leb}
 use lib.ListN.{length, drop, get_or, drop_of_length-le}
+use Rattle.std.specs.Prelude.{Option, None, Some}
+use Rattle.std.specs.Option.{is_some, unwrap_or}
 use Rattle.octets.specs.Choice.{pick, both}
 use Rattle.octets.proofs.Laws.{drop-next}
 use Rattle.record.specs.Record.{record_len, empty, times_set, ready, state_of, times_end, ready_end}
-use Rattle.checks.specs.Standing.{times_stand, plan_stands, ready_stands, all_zero, standing_of}
+use Rattle.checks.specs.Standing.{times_stand, plan_stands, ready_stands, all_zero, standing_of, check_named}
 
 -- The rest of a record
 
@@ -62,6 +64,33 @@ module _ (rec : List ℕ) (at : ℕ) where
       by : Dec (i < at) → leb end at ≡ all_zero (drop at rec)
       by (yes g) = le-leb end at (omega arith) ∙ zero-ends rec at (omega arith)
       by (no g) = let m : max at i ≡ i = omega arith in sym (and-true (leb end at)) ∙ rw (m, ← zero-ends rec i h) at e
+
+-- The number of a check that fails, where one does
+
+pub named-some : {n m : ℕ} → 0 < n → n ≡ m → Some n ≡ check_named m
+named-some {n = zero} l e = absurd (omega arith)
+named-some {n = suc n} l e = ap check_named e
+
+pub named-none : {m : ℕ} → 0 ≡ m → None ≡ check_named m
+named-none e = ap check_named e
+
+pub number-of : {n m : ℕ} → Some n ≡ check_named m → (n ≡ m) × (n ≡ 0 → ⊥)
+number-of {m = zero} e = absurd (cc)
+number-of {n} {m = suc m} e = let s : n ≡ suc m = cc in (s, λ z. omega arith)
+
+pub no-number : {m : ℕ} → None ≡ check_named m → 0 ≡ m
+no-number {m = zero} e = refl
+no-number {m = suc m} e = absurd (cc)
+
+pub number-after : {n : ℕ} {r : Option ℕ} → r ≡ check_named n → unwrap_or r 0 ≡ n
+number-after {n = zero} e = rw e
+number-after {n = suc n} e = rw e
+
+pub none-told : (n : ℕ) {r : Option ℕ} {t : Bool} → r ≡ check_named n → is_some r ≡ not t → t ≡ eqb n 0
+none-told zero {t = true} e s = refl
+none-told zero {t = false} e s = let f : false ≡ true = rw e at s in absurd (cc)
+none-told (suc n) {t = true} e s = let f : true ≡ false = rw e at s in absurd (cc)
+none-told (suc n) {t = false} e s = sym (ne_eqb (suc n) 0 (λ z. omega arith))
 
 -- The parts of a record
 

@@ -1,6 +1,6 @@
 -- 01, "Plan book": "Octets that are not such a record, checks included, read as empty." How a record stands, computed, and the
 -- statements that say it is what specs/Record.antt says.
-use Rattle.std.specs.Prelude.{ℕ, ◌+◌, ◌*◌, ◌-◌, ◌/◌, ◌%◌, ◌≤◌, ◌<◌, ◌≡◌, Bool, true, not, List, [], ◌∷◌, eqb, leb, ltb, length, take, drop}
+use Rattle.std.specs.Prelude.{ℕ, zero, suc, ◌+◌, ◌*◌, ◌-◌, ◌/◌, ◌%◌, ◌≤◌, ◌<◌, ◌≡◌, Bool, true, not, List, [], ◌∷◌, eqb, leb, ltb, length, take, drop, Option, None, Some}
 use Rattle.octets.specs.Choice.{pick, both}
 use Rattle.octets.specs.First.{First, first_of}
 use Rattle.octets.specs.Octet.{Octets}
@@ -49,6 +49,11 @@ plan_checks rec = k_of rec + 3
 
 unfoldable pub plan_disagree : List ℕ → ℕ
 plan_disagree rec = first_of (plan_fails rec) 0 (plan_checks rec)
+
+-- the number of a check that fails, where one does
+abbrev pub check_named : ℕ → Option ℕ
+check_named zero = None
+check_named (suc n) = Some (suc n)
 
 -- the fields from one place up to another: all there, and each in its range by the message layer's own search
 unfoldable pub ranged : ℕ → ℕ → ℕ → List ℕ → Bool

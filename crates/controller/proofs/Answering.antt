@@ -21,7 +21,7 @@ use Rattle.frame.specs.Frame.{Frame, message, info_least, info_most, info_fits, 
 use Rattle.frame.specs.Decoder.{fresh_head, taken_of}
 use Rattle.frame.specs.Run.{found_means, outcome_of}
 use Rattle.frame.proofs.Laws.{idled-done}
-use Rattle.message.specs.declared.Read.{Read}
+use Rattle.message.specs.Reader.{Read}
 use Rattle.message.specs.Reader as reader
 use Rattle.message.specs.Names.{plan_at}
 use Rattle.message.specs.Reader.{code_in, body_in, read_of}
@@ -29,7 +29,7 @@ use Rattle.message.specs.Promises.{Judged, short, body, unknown, wrong_length, o
 use Rattle.message.proofs.ReadSo.{read-so}
 use Rattle.plan.specs.declared.Which.{Which}
 use Rattle.plan.specs.declared.Which.TheVariants.{New, Old}
-use Rattle.plan.specs.declared.setting.Answered.{Answered}
+use Rattle.plan.specs.Setting.{Answered}
 use Rattle.record.specs.Record.{book_len, empty, k_of}
 use Rattle.checks.specs.Standing.{times_disagree, plan_disagree, standing_of, Stands}
 use Rattle.plan.specs.Reading.{record_at}

@@ -15,7 +15,7 @@ use Rattle.octets.specs.Refusal as refusal
 use Rattle.octets.specs.Word.{high_of, low_of}
 use Rattle.octets.proofs.Laws.{pick-by, octets-part}
 use Rattle.message.specs.declared.Message.{Message}
-use Rattle.message.specs.declared.Read.{Read}
+use Rattle.message.specs.Reader.{Read}
 use Rattle.message.specs.Fields as field
 use Rattle.message.specs.Layouts.{layouts, layout_at, number_of, rows_at, layout_rows}
 use Rattle.message.specs.Values.{placed}
@@ -30,7 +30,7 @@ use Rattle.message.proofs.RoundTrips.{read-info, writing-undoes-reading}
 use Rattle.record.specs.Record.{record_len, book_len, plans_most, empty, ready, k_of, times_end, greens_at, ready_end}
 use Rattle.record.proofs.Laws.{octet-below}
 use Rattle.checks.specs.Standing.{standing_of}
-use Rattle.plan.specs.declared.setting.Answered.{Answered}
+use Rattle.plan.specs.Setting.{Answered}
 use Rattle.plan.specs.Reading.{record_start, record_at}
 use Rattle.plan.specs.Setting.{set_times_code, set_plan_code, plan_in, count_in, set_times_of, set_plan_of}
 use Rattle.plan.specs.Reporting.{report_plan_code, report_running_code, times_info, plan_info}

@@ -21,7 +21,7 @@ use Rattle.frame.specs.Run.{Outcome, nothing, refused, sound, outcome_of}
 use Rattle.frame.proofs.Possible.{possible-kept}
 use Rattle.frame.proofs.Lent.{taken-long, idled-long}
 use Rattle.message.specs.Reader.{code_in, body_in, read_of}
-use Rattle.plan.specs.declared.setting.Answered.{Answered}
+use Rattle.plan.specs.Setting.{Answered}
 use Rattle.record.specs.Record.{plans_most, book_len, empty, ready, cycle_of}
 use Rattle.checks.specs.Standing.{standing_of}
 use Rattle.plan.specs.declared.Which.{Which}

@@ -9,7 +9,7 @@ use Rattle.octets.specs.Word.{high_of, low_of}
 use Rattle.message.specs.Names.{plan_at}
 use Rattle.message.specs.Reader.{code_in, body_in, read_of}
 use Rattle.plan.specs.declared.Which.{Which}
-use Rattle.plan.specs.declared.setting.Answered.{Answered}
+use Rattle.plan.specs.Setting.{Answered}
 use Rattle.record.specs.Record.{empty}
 use Rattle.checks.specs.Standing.{standing_of}
 use Rattle.plan.specs.Setting.{Setting, set_times_code, set_plan_code, set_times_of, set_plan_of, plan_in}

@@ -1,5 +1,5 @@
 -- The code's struct and the octets lent are the state: what is said of the struct is so of the state.
-use Rattle.std.proofs.Common.{◌≡◌, ℕ, ◌+◌, ◌<◌, ◌≤◌, Bool, true, false, not, eqb, leb, List, length, take, drop, set, sym, refl, ap, ◌∙◌, subst, arith, length-drop, drop-set-lt, eq-eqb, ne_eqb, le-leb}
+use Rattle.std.proofs.Common.{◌≡◌, ℕ, ◌+◌, ◌<◌, ◌≤◌, Bool, true, false, not, eqb, leb, List, length, take, drop, set, sym, refl, ap, ◌∙◌, subst, arith, length-drop, drop-set-lt, le-leb}
 use native.Mathlib.Decide.{dec_lt}
 use borrow.Author.Tests.{lt-leb}
 use lib.Seq.{take-set-lt}
@@ -24,47 +24,6 @@ use Rattle.controller.proofs.Judging.{sound-parts}
 use Rattle.controller.proofs.Laws.{both_false, counted-idles, idle-done}
 use Rattle.controller.proofs.Replying.{can-find}
 use Rattle.controller_calls.specs.Held.{held_sound, held_quiet, held_counted, with_receiver, one_dropped, one_kept, held_received}
-
--- Soundness, way by way
-
-module _ (s : Held) (lent : ℕ) where
-  pub own-all : s.own ≡ all → false ≡ held_sound s lent
-  unfolding held_sound
-  own-all h = rw (eq-eqb s.own all h)
-
-  module _ (ho : s.own ≡ all → ⊥) where
-    pub requested-over : plans_most < s.requested → false ≡ held_sound s lent
-    unfolding held_sound
-    requested-over h = rw (ne_eqb s.own all ho, lt-leb s.requested plans_most h)
-
-    module _ (hr : s.requested ≤ plans_most) where
-      pub too_few : lent < kept_len → false ≡ held_sound s lent
-      unfolding held_sound
-      too_few h = rw (ne_eqb s.own all ho, le-leb s.requested plans_most hr, lt-leb kept_len lent h)
-
-      module _ (hl : kept_len ≤ lent) {f : Bool} (ef : f ≡ last_fits s.last) where
-        pub unfit : f ≡ false → false ≡ held_sound s lent
-        unfolding held_sound
-        unfit h = rw (ne_eqb s.own all ho, le-leb s.requested plans_most hr, le-leb kept_len lent hl, ← ef, h)
-
-        module _ (hf : f ≡ true) {w : Bool} (ew : w ≡ wait_fits s.wait) where
-          pub wait-wrong : w ≡ false → false ≡ held_sound s lent
-          unfolding held_sound
-          wait-wrong h = rw (ne_eqb s.own all ho, le-leb s.requested plans_most hr, le-leb kept_len lent hl, ← ef, hf, ← ew, h)
-
-          module _ (hw : w ≡ true) {o : Bool} (eo : o ≡ out_fits s.wait s.out) where
-            pub out-wrong : o ≡ false → false ≡ held_sound s lent
-            unfolding held_sound
-            out-wrong h = rw (ne_eqb s.own all ho, le-leb s.requested plans_most hr, le-leb kept_len lent hl, ← ef, hf, ← ew, hw, ← eo, h)
-
-            module _ (hu : o ≡ true) {p : Bool} (ep : p ≡ possible_of s.receiver.head) where
-              pub impossible : p ≡ false → false ≡ held_sound s lent
-              unfolding held_sound
-              impossible h = rw (ne_eqb s.own all ho, le-leb s.requested plans_most hr, le-leb kept_len lent hl, ← ef, hf, ← ew, hw, ← eo, hu, ← ep, h)
-
-              pub by-running : p ≡ true → {r : Bool} → r ≡ running_sound s.running → r ≡ held_sound s lent
-              unfolding held_sound
-              by-running h e = rw (ne_eqb s.own all ho, le-leb s.requested plans_most hr, le-leb kept_len lent hl, ← ef, hf, ← ew, hw, ← eo, hu, ← ep, h) e
 
 -- It is the state's
 

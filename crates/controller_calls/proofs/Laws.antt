@@ -1,17 +1,18 @@
 -- What the functions' proofs rest on: one law for each way through.
-use Rattle.std.proofs.Common.{◌≡◌, ℕ, ◌+◌, ◌<◌, ◌≤◌, Bool, true, false, eqb, leb, ◌⊎◌, List, [], length, get_or, take, sym, refl, ap, ◌∙◌, subst, inl, inr, append-nil, arith, drop_of_length-le, take_all, Bor, le-ltb, lt-ltb, eq-eqb, ne_eqb, le-leb}
+use Rattle.std.specs.Prelude.{⊤, Ok, Err}
+use Rattle.std.proofs.Common.{◌≡◌, ℕ, ◌<◌, ◌≤◌, Bool, true, false, not, eqb, leb, ◌⊎◌, List, [], length, take, sym, refl, ap, ◌∙◌, subst, inl, inr, arith, take_all, Bor, le-ltb, lt-ltb, eq-eqb, ne_eqb, le-leb}
 use native.Mathlib.Decide.{dec_le, ℕ_discrete}
 use borrow.Author.Tests.{lt-leb}
-use lib.Seq.{sets-eq}
 use Rattle.octets.specs.Choice.{pick, both}
 use Rattle.octets.specs.Part.{PartOf}
-use Rattle.octets.specs.Put.{Put}
 use Rattle.octets.specs.Refusal as refusal
+use Rattle.octets.specs.Refusals.{refusal_number}
 use Rattle.octets.specs.Same.{same}
-use Rattle.octets.proofs.Laws.{put-stored, same-is}
-use Rattle.message.specs.declared.Read.{Read}
+use Rattle.octets.proofs.Laws.{same-is}
+use Rattle.message.specs.declared.Fault.{Fault}
+use Rattle.message.specs.Reader.{Read}
 use Rattle.message.specs.Reader.{code_in, body_in, read_of}
-use Rattle.plan.specs.declared.setting.Answered.{Answered}
+use Rattle.plan.specs.Setting.{Answered, set_answer}
 use Rattle.record.specs.Record.{record_len, plans_most, book_len, empty, ready, cycle_of}
 use Rattle.checks.specs.Standing.{standing_of}
 use Rattle.plan.specs.declared.Which.{Which}
@@ -19,18 +20,20 @@ use Rattle.plan.specs.BuiltIn.{built_in}
 use Rattle.plan.specs.Reading.{record_start, record_at, either_built_in, read_refusal, PartRead}
 use Rattle.plan.specs.Setting.{set_times_code, set_plan_code, set_times_of, set_plan_of, plan_in}
 use Rattle.plan.specs.Setting as setting
+use Rattle.plan_calls.proofs.Read.{refused-some}
 use Rattle.plan.proofs.Laws.{length-built-in, is-either, refused-range, read-zero, refused-empty, read_set}
 use Rattle.checks.proofs.Stands.{some-long, some-state}
 use Rattle.plan.proofs.Reportable.{standing-none, standing-past}
 use Rattle.plan.proofs.Cases.{built-in-stands}
 use Rattle.controller.specs.declared.Running.{Running}
 use Rattle.controller.specs.declared.Handled.{Handled}
+use Rattle.controller.specs.declared.Reply.TheVariants as reply
 use Rattle.controller.specs.State.{State, running_sound, record_with, plan_record, started_at}
-use Rattle.controller.specs.Handling.{run_code, query_times_code, query_plan_code, query_running_code, refused_with, set_as, run_as, query_times_as, query_plan_as, query_running_as, handling_of}
+use Rattle.controller.specs.Handling.{run_code, query_times_code, query_plan_code, query_running_code, accepted, refused_with, set_as, run_as, query_times_as, query_plan_as, query_running_as, handling_of}
 use Rattle.controller.specs.Seconds.{picked_of}
 use Rattle.controller.proofs.Laws.{both_false, picked-ready, picked-stays}
 use Rattle.controller.proofs.Replying.{plan-in-book}
-use Rattle.controller_calls.specs.Handling.{HandlingLeaves, Asks}
+use Rattle.controller_calls.specs.Handling.{HandlingLeaves, handled_as, Asks}
 use Rattle.controller_calls.specs.Stepper.{RecordOf}
 
 -- The record of a plan
@@ -135,25 +138,25 @@ module _ (info : List ℕ) where
       by (inr (inr (inl e))) = inr (inr (inl (omega (arith, ec, a.octets, e))))
       by (inr (inr (inr e))) = inr (inr (inr (omega (arith, ec, a.octets, e))))
 
--- the code's match asks for the first and the last of the four, and then for those between 0x44 and 0x46
-pub asks-end : {x : ℕ} → (x ≡ 0x18) ⊎ (x ≡ 0x48) → (x ≡ 0x18) ⊎ ((x ≡ 0x44) ⊎ ((x ≡ 0x45) ⊎ (x ≡ 0x48)))
-asks-end (inl e) = inl e
-asks-end (inr e) = inr (inr (inr e))
-
-pub asks-between : {x : ℕ} → 0x44 ≤ x → x < 0x46 → (x ≡ 0x18) ⊎ ((x ≡ 0x44) ⊎ ((x ≡ 0x45) ⊎ (x ≡ 0x48)))
-asks-between {x} l m = by (ℕ_discrete x 0x44)
-  where
-    by : Dec (x ≡ 0x44) → (x ≡ 0x18) ⊎ ((x ≡ 0x44) ⊎ ((x ≡ 0x45) ⊎ (x ≡ 0x48)))
-    by (yes e) = inr (inl e)
-    by (no n) = inr (inr (inl (omega arith)))
-
 -- the last of the four is left
-pub asks-running : {second : ℕ} → (second ≡ 0x18) ⊎ ((second ≡ 0x44) ⊎ ((second ≡ 0x45) ⊎ (second ≡ 0x48))) → (second ≡ 0x18 → ⊥) → (second ≡ 0x44 → ⊥) → (second ≡ 0x45 → ⊥)
-    → second ≡ 0x48
-asks-running (inl e) f g h = absurd (f e)
-asks-running (inr (inl e)) f g h = absurd (g e)
-asks-running (inr (inr (inl e))) f g h = absurd (h e)
-asks-running (inr (inr (inr e))) f g h = e
+pub asks-running : {code second : ℕ} → Asks code second → (code ≡ run_code → ⊥) → (code ≡ query_times_code → ⊥) → (code ≡ query_plan_code → ⊥) → code ≡ query_running_code
+asks-running {code} {second} a f g h = by a.one
+  where
+    by : (second ≡ 0x18) ⊎ ((second ≡ 0x44) ⊎ ((second ≡ 0x45) ⊎ (second ≡ 0x48))) → code ≡ query_running_code
+    by (inl e) = absurd (f (omega (arith, a.octets, e)))
+    by (inr (inl e)) = absurd (g (omega (arith, a.octets, e)))
+    by (inr (inr (inl e))) = absurd (h (omega (arith, a.octets, e)))
+    by (inr (inr (inr e))) = omega (arith, a.octets, e)
+
+-- what a set answers
+module _ (code requested : ℕ) where
+  pub set-done : (d : ⊤) {h : Handled} → h ≡ accepted requested (reply.CarriedOut code) → handled_as code requested (Ok h) ≡ set_as code requested (set_answer (Ok d))
+  unfolding set_as
+  set-done d e = e
+
+  pub set-refused : (e : Fault) → handled_as code requested (Err e) ≡ set_as code requested (set_answer (Err e))
+  unfolding set_as
+  set-refused e = rw (ne_eqb (refusal_number e.refusal) refusal.none (refused-some e.refusal))
 
 -- by the code
 module _ (s : State) (book info : List ℕ) {code : ℕ} (ec : code ≡ code_in info) {h : Handled} where
@@ -197,13 +200,17 @@ module _ (s : State) (book info : List ℕ) {code : ℕ} (ec : code ≡ code_in 
       unfolding handling_of
       asked-running e eh = rw (e, ← em, eq-eqb m.refusal refusal.none z) (record { handled = eh; book = refl })
 
-  pub handles-other : (code_in info ≡ set_times_code → ⊥) → (code_in info ≡ set_plan_code → ⊥) → (code_in info ≡ run_code → ⊥) → (code_in info ≡ query_times_code → ⊥)
-      → (code_in info ≡ query_plan_code → ⊥) → (code_in info ≡ query_running_code → ⊥) → h ≡ refused_with code s.requested refusal.code_not_handled 0
-      → HandlingLeaves (handling_of s book info) h book
+  pub handles-other : (code ≡ set_times_code → ⊥) → (code ≡ set_plan_code → ⊥) → (code ≡ run_code → ⊥) → (code ≡ query_times_code → ⊥) → (code ≡ query_plan_code → ⊥)
+      → (code ≡ query_running_code → ⊥) → h ≡ refused_with code s.requested refusal.code_not_handled 0 → HandlingLeaves (handling_of s book info) h book
   unfolding handling_of
   handles-other n1 n2 n3 n4 n5 n6 eh =
-      rw (ne_eqb (code_in info) set_times_code n1, ne_eqb (code_in info) set_plan_code n2, ne_eqb (code_in info) run_code n3, ne_eqb (code_in info) query_times_code n4, ne_eqb (code_in info) query_plan_code n5, ne_eqb (code_in info) query_running_code n6)
-      (record { handled = eh ∙ rw ec; book = refl })
+      rw (← ec, ne_eqb code set_times_code n1, ne_eqb code set_plan_code n2, ne_eqb code run_code n3, ne_eqb code query_times_code n4, ne_eqb code query_plan_code n5, ne_eqb code query_running_code n6)
+      (record { handled = eh; book = refl })
+
+-- the choice the other way round
+pub pick-not : {A : Type 0} (t : Bool) (a b : A) → pick (not t) a b ≡ pick t b a
+pick-not true a b = refl
+pick-not false a b = refl
 
 -- Soundness
 
@@ -240,14 +247,6 @@ module _ (u : Running) where
         other-plan z {n} e =
             rw (← ec, lt-ltb u.position c hc, le-leb u.plan plans_most hp, ne_eqb u.plan 0 z, ← e) (sym (both_true (eqb n ready)))
 
--- Copies
-
--- a run of octets as long as what it is stored in is all that then stands there
-pub filled : (vs l : List ℕ) {r : ℕ} {m : List ℕ} → length vs ≡ length l → Put vs 0 l r m → m ≡ vs
-filled vs l e p =
-    let s = put-stored p (omega (arith, e)) in
-    s.holds ∙ (sets-eq vs l 0 (omega (arith, e)) ∙ rw (drop_of_length-le l {i = 0 + length vs} (omega (arith, e))) (append-nil vs))
-
 -- The pick
 
 -- a ready record has its length
@@ -268,19 +267,3 @@ module _ (u : Running) (requested : ℕ) (book : List ℕ) {zero rec : List ℕ}
 
   pub stays : (n ≡ ready → ⊥) → started_at u.which u.plan u.copy ≡ picked_of u requested book
   stays g = sym (picked-stays u requested book (ne_eqb _ _ (λ (q : standing_of due ≡ ready). g (en ∙ (stands-due ∙ q)))))
-
--- The octets of a code
-
-module _ (info : List ℕ) {j : ℕ} where
-  pub high-other : get_or info 1 0 < 256 → (get_or info 0 0 ≡ 0x5F → ⊥) → j < 256 → code_in info ≡ 0x5F00 + j → ⊥
-  high-other h n l e = n (omega (arith, h, l, e))
-
-  pub low-other : get_or info 0 0 ≡ 0x5F → (get_or info 1 0 ≡ j → ⊥) → code_in info ≡ 0x5F00 + j → ⊥
-  low-other h n e = n (omega (arith, h, e))
-
-  pub code_is : get_or info 0 0 ≡ 0x5F → get_or info 1 0 ≡ j → code_in info ≡ 0x5F00 + j
-  code_is h e = omega (arith, h, e)
-
-pub outside-range : {x l m j : ℕ} → (x < l) ⊎ (m ≤ x) → l ≤ j → j < m → x ≡ j → ⊥
-outside-range (inl h) a b e = absurd (omega arith)
-outside-range (inr h) a b e = absurd (omega arith)

@@ -1,12 +1,14 @@
 -- A frame that is a repeat, and one that is accepted, as the code has them: struct and octets lent.
-use Rattle.std.proofs.Common.{◌≡◌, ℕ, ◌+◌, ◌-◌, ◌<◌, ◌≤◌, Bool, true, false, not, eqb, List, [], length, get_or, take, drop, set, sym, refl, ap, ◌∙◌, add-one, arith, length-drop, length-take-le, get_or-take, take-take, eq-eqb, ne_eqb}
-use lib.Seq.{sets}
+use Rattle.std.proofs.Common.{◌≡◌, ℕ, ◌+◌, ◌-◌, ◌≤◌, Bool, true, false, not, eqb, List, [], ◌∷◌, ◌&&◌, length, take, drop, sym, refl, ap, ◌∙◌, arith, length-drop, length-take-le, get_or-take, take-take, eq-eqb, ne_eqb}
+use lib.Seq.{sets, sets-eq, paste}
+use Rattle.std.specs.Cmp.Lexicographic.{pointwise}
+use Rattle.std.specs.List.{copy_within}
 use Rattle.octets.specs.Choice.{both}
 use Rattle.octets.specs.Part.{code_len}
 use Rattle.octets.specs.Put.{Stored}
 use Rattle.octets.specs.Refusal as refusal
 use Rattle.octets.specs.Same.{same}
-use Rattle.octets.proofs.Laws.{drop-next, drop-sets-past, drop-sets-within, take-sets-past, take-sets-within}
+use Rattle.octets.proofs.Laws.{drop-sets-past, drop-sets-within, take-sets-past, take-sets-within}
 use Rattle.frame.specs.Frame.{info_least, info_most}
 use Rattle.message.specs.Reader.{code_in}
 use Rattle.controller.specs.declared.Event.TheVariants as event
@@ -26,6 +28,14 @@ use Rattle.controller_calls.specs.Replies.{unchanged_as, brought_still, Accepted
 use Rattle.controller_calls.proofs.Written.{sent-none, memory-came, out-came, brought-unchanged}
 
 -- A repeat, way by way
+
+-- the library's `==` at octets
+pub pointwise-same : (xs ys : List ℕ) → pointwise eqb xs ys ≡ same xs ys
+unfolding same
+pointwise-same [] [] = refl
+pointwise-same [] (y ∷ ys) = refl
+pointwise-same (x ∷ xs) [] = refl
+pointwise-same (x ∷ xs) (y ∷ ys) = rw (pointwise-same xs ys) (elim (eqb x y) as (λ b. (b && same xs ys) ≡ both b (same xs ys)) [ true ↦ refl | false ↦ refl ])
 
 module _ (last : Last) (kept : List ℕ) (seq n : ℕ) (least : info_least ≤ n) (most : n ≤ info_most) (fits : last_fits last ≡ true) (long : kept_len ≤ length kept) where
   abbrev m : Memory
@@ -51,27 +61,21 @@ module _ (last : Last) (kept : List ℕ) (seq n : ℕ) (least : info_least ≤ n
           absurd (g (sym ((repeat-is m seq info i (last-parts last fits) e).long ∙ length-take-le n kept (omega arith))))
       by false e = refl
 
-  pub as_same : seq ≡ last.seq → n ≡ last.len → {r : Bool} → r ≡ same (take (n - 0) (drop 0 kept)) (take ((info_most + n) - info_most) (drop info_most kept)) → r ≡ is_repeat m seq info
+  pub as_same : seq ≡ last.seq → n ≡ last.len → {r : Bool} → r ≡ same (take n kept) (take ((info_most + n) - info_most) (drop info_most kept)) → r ≡ is_repeat m seq info
   unfolding is_repeat
   as_same e f g =
-      let j : n - 0 ≡ n = omega arith in
       let k : (info_most + n) - info_most ≡ n = omega arith in
       rw (ne_eqb last.len 0 (λ z. omega (arith, z, f)), eq-eqb seq last.seq e, ← f, take-take n info_most (drop info_most kept) most)
-      (g ∙ (λ i. same (take (j i) kept) (take (k i) (drop info_most kept))))
+      (g ∙ (λ i. same (take n kept) (take (k i) (drop info_most kept))))
 
 -- A frame that is accepted
 
--- its INFO goes behind the decoder's octet by octet; what is left of it from octet i on gives what the whole gives
-module _ (came kept : List ℕ) (n i : ℕ) (h : i < n) (most : n ≤ info_most) (long : kept_len ≤ length came) (same : take info_most kept ≡ take info_most came) where
-  octet-is : get_or kept i 0 ≡ get_or (take n came) i 0
-  octet-is =
-      sym (get_or-take info_most kept i 0 (omega arith)) ∙ ap (λ (l : List ℕ). get_or l i 0) same ∙ get_or-take info_most came i 0 (omega arith) ∙ sym (get_or-take n came i 0 h)
-
-  pub left-next : sets kept (info_most + i) (drop i (take n came)) ≡ sets came info_most (take n came)
-      → sets (set kept (info_most + i) (get_or kept i 0)) (info_most + (i + 1)) (drop (i + 1) (take n came)) ≡ sets came info_most (take n came)
-  left-next left =
-      let p : info_most + (i + 1) ≡ (info_most + i) + 1 = omega arith in
-      rw (p ∙ add-one (info_most + i), octet-is) (rw (drop-next (take n came) i (omega (arith, length-take-le n came (omega arith)))) at left)
+-- the library's copy of its INFO
+pub copied-behind : (n : ℕ) (kept : List ℕ) → n ≤ info_most → kept_len ≤ length kept → copy_within kept 0 n info_most ≡ sets kept info_most (take n kept)
+copied-behind n kept most long =
+    let l : length (take n kept) ≡ n = length-take-le n kept (omega arith) in
+    let j : n - 0 ≡ n = omega arith in
+    (λ i. paste kept info_most kept (j i)) ∙ sym (rw l at (sets-eq (take n kept) kept info_most (omega (arith, l))))
 
 module _ {seq n : ℕ} {lent : List ℕ} {r : Last} {k : List ℕ} (long : kept_len ≤ length lent) (most : n ≤ info_most) (w : Remembered seq n lent r k) where
   abbrev info' : List ℕ
@@ -101,10 +105,6 @@ module _ {seq n : ℕ} {lent : List ℕ} {r : Last} {k : List ℕ} (long : kept_
 -- The front of the octets kept
 
 module _ (n : ℕ) (kept : List ℕ) where
-  -- INFO as it is handed on
-  pub front-part : take (n - 0) (drop 0 kept) ≡ take n kept
-  front-part = let j : n - 0 ≡ n = omega arith in ap (λ (i : ℕ). take i kept) j
-
   -- its code stands in the first two
   pub code-kept : code_len ≤ n → code_in (take n kept) ≡ code_in kept
   code-kept h = rw (get_or-take n kept 0 0 (omega arith), get_or-take n kept 1 0 (omega arith))
@@ -131,9 +131,9 @@ module _ (s : Held) (lent came book out : List ℕ) (seq addr n : ℕ) (e : drop
         rw (message-repeat (joined s came) seq addr (take n lent) book f r, memory-repeat (joined s came) seq addr (take n lent) book f r)
         (brought-unchanged s came lent e refusal.none event.Nothing (acks s.own seq addr) book p u g)
 
-    module _ (h : t ≡ false) {v : Bool} (ev : SilenceWith s addr (take (n - 0) (drop 0 lent)) v) where
+    module _ (h : t ≡ false) {v : Bool} (ev : SilenceWith s addr (take n lent) v) where
       silence-came : {u : Bool} → v ≡ u → met_with_silence (joined s came) addr (take n lent) ≡ u
-      silence-came g = sym (rw (front-part n lent) at (ev came)) ∙ g
+      silence-came g = sym (ev came) ∙ g
 
       pub taken-silent : v ≡ true → {q : Brought} {r : ResultCounted} → r ≡ unchanged_as s refusal.none event.Nothing 0 → q ≡ brought_still s r → Brings q lent book out
       taken-silent z u g =

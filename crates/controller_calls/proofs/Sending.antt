@@ -4,7 +4,7 @@ use native.Mathlib.Decide.{dec_lt}
 use borrow.Author.Tests.{lt-leb}
 use Rattle.octets.specs.Put.{Put, Stored}
 use Rattle.octets.specs.Refusal as refusal
-use Rattle.octets.specs.declared.Written.{Written}
+use Rattle.octets.specs.Writing.{Written}
 use Rattle.octets.specs.Writing.{WriterLeaves, written_as}
 use Rattle.octets.proofs.Laws.{put-stored}
 use Rattle.frame.specs.Frame.{Frame, message, info_fits, info_least, info_most, written}
@@ -38,7 +38,7 @@ use Rattle.controller_calls.specs.Replies.{unchanged_as, AnsweredWith}
 use Rattle.controller_calls.specs.Sender.{InfoPut, Sendable}
 use Rattle.controller_calls.proofs.Held.{lent-enough}
 use Rattle.controller_calls.proofs.Putting.{sent_once, out-part, out-part-long, put-kept}
-use Rattle.controller_calls.proofs.Written.{info-right, message-stored, sent-none, stored-count, stored-tells}
+use Rattle.controller_calls.proofs.Written.{info-right, message-none, message-stored, sent-none, stored-count, stored-tells}
 
 -- What is sent again is of a length that INFO can have
 
@@ -74,6 +74,15 @@ module _ (s : Held) (kept out : List ℕ) (h : (info_least ≤ s.out.len) × (s.
       rw (← e, take-take s.out.len info_most (drop out_start kept) h.1)
       (message-stored q s.own i out (info-right q s.own i (omega (arith, l, h.0)) (omega (arith, l, h.1))) (omega (arith, m, room, ap length (append-nil (written (message q s.own i)))))
       (rw (out-part s.out.len kept) at w))
+
+  pub resent-none : (q : ℕ) {w : Written} {o : List ℕ}
+      → WriterLeaves (write_frame (message q s.own (take ((out_start + s.out.len) - out_start) (drop out_start kept))) 0 out) w o → w.refusal ≡ refusal.none
+  resent-none q w =
+      let i = take s.out.len (drop out_start kept) in
+      let l : length i ≡ s.out.len = out-part-long s.out.len kept h.1 long in
+      let m = message-most q s.own i (omega (arith, l, h.1)) in
+      message-none q s.own i out (info-right q s.own i (omega (arith, l, h.0)) (omega (arith, l, h.1))) (omega (arith, m, room, ap length (append-nil (written (message q s.own i)))))
+      (rw (out-part s.out.len kept) at w)
 
 -- INFO of the frame out was so before the decoder's own call
 resent-came : (s : Held) (came lent : List ℕ) → drop out_start came ≡ drop out_start lent → (l : Link) → resent (joined s lent) l ≡ resent (joined s came) l
@@ -164,6 +173,9 @@ module _ (s : Held) (lent info out : List ℕ) where
 
       pub offered-most : length info ≤ info_most
       offered-most = info-most (length info) fits.0
+
+      pub offer-none : {r : Written} {o : List ℕ} → WriterLeaves (write_frame f 0 out) r o → r.refusal ≡ refusal.none
+      offer-none w = message-none s.seq s.own info out fits.0 fits.1 w
 
       pub offer-busy : (s.out.len ≡ 0 → ⊥) → {r : HeldAnswer} → r ≡ held_quiet s refusal.sender_busy → Leaves r lent out
       offer-busy g e = offer-quiet refusal.sender_busy (offer-15 (joined s lent) info out h fits.0 fits.1 g) e

@@ -1,13 +1,14 @@
 -- What the frame and message writers leave in an output that is long enough, and what is told of it.
-use Rattle.std.proofs.Common.{◌≡◌, ℕ, ◌+◌, ◌%◌, ◌≤◌, true, false, eqb, List, [], ◌∷◌, length, take, drop, sym, refl, ap, ◌∙◌, subst, append-nil, arith, length-append, drop-drop, eq-eqb, ne_eqb, le-leb}
+use Rattle.std.specs.Prelude.{Result, Ok, Err, IsOk}
+use Rattle.std.proofs.Common.{◌≡◌, ℕ, ◌+◌, ◌%◌, ◌≤◌, true, false, eqb, List, [], ◌∷◌, length, take, drop, sym, refl, ap, ◌∙◌, subst, append-nil, arith, length-append, drop-drop, eq-eqb, le-leb}
 use lib.Seq.{sets, length-sets}
 use Rattle.octets.specs.Put.{Stored}
 use Rattle.octets.specs.Refusal as refusal
-use Rattle.octets.specs.declared.Written.{Written}
-use Rattle.octets.specs.Writing.{Writing, WriterLeaves, written_as}
+use Rattle.octets.specs.declared.refusal.Refusal.{Refusal}
+use Rattle.octets.specs.Writing.{Written, written_of, Writing, WriterLeaves, written_as}
 use Rattle.octets.proofs.Laws.{pick-by, stored-then}
 use Rattle.frame.specs.declared.Kind.{Kind}
-use Rattle.frame.specs.declared.Kind.TheVariants.{Message, Ack, Nak}
+use Rattle.frame.specs.declared.Kind.TheVariants.{Message}
 use Rattle.frame.specs.Frame.{Frame, message, ack, nak, info_fits, info_least, info_most, written}
 use Rattle.frame.specs.declared.decoder.Found.{Found}
 use Rattle.frame.specs.declared.decoder.Found.TheVariants as found
@@ -18,6 +19,7 @@ use Rattle.frame.specs.Dropped.{Counted, received_with, ReceivedLeaves}
 use Rattle.record.specs.Record.{ready}
 use Rattle.checks.specs.Standing.{standing_of}
 use Rattle.plan.specs.Reporting.{report_plan_code, report_running_code, times_info, plan_info}
+use Rattle.plan_calls.proofs.Read.{refused-some}
 use Rattle.plan.proofs.Reports.{times-most, plan-most}
 use Rattle.controller.specs.declared.Event.{Event}
 use Rattle.controller.specs.declared.Event.TheVariants as event
@@ -49,6 +51,11 @@ can-take e c = subst CanFind e c
 
 -- Frames
 
+-- where nothing is refused the writer answers how many octets it stored
+pub stored-ok : (r : Result ℕ Refusal) → (written_of r).refusal ≡ refusal.none → IsOk r
+stored-ok (Ok n) e = refl
+stored-ok (Err x) e = absurd (refused-some x e)
+
 abbrev stored-as : List ℕ → ℕ → List ℕ → Writing
 stored-as vs at out = record { answer = record { refusal = refusal.none; count = length vs }; out = sets out at vs }
 
@@ -64,6 +71,9 @@ frame-fits f at out i h = rw i (written-fits (written f) at out h)
 module _ (f : Frame) (at : ℕ) (out : List ℕ) {r : Written} {o : List ℕ} (i : info_fits f ≡ true) (h : at + length (written f) ≤ length out) (w : WriterLeaves (frame.write_frame f at out) r o) where
   pub frame-count : r.count ≡ length (written f)
   frame-count = ap (λ (x : Written). x.count) (w.answer ∙ ap (λ (x : Writing). x.answer) (frame-fits f at out i h))
+
+  pub frame-none : r.refusal ≡ refusal.none
+  frame-none = ap (λ (x : Written). x.refusal) (w.answer ∙ ap (λ (x : Writing). x.answer) (frame-fits f at out i h))
 
   pub frame-stored : {n : ℕ} → n ≡ at + r.count → Stored (written f) at out n o
   frame-stored e =
@@ -84,6 +94,10 @@ info-right seq own info least most = rw (le-leb info_least (length info) least, 
 pub message-stored : (seq own : ℕ) (info out : List ℕ) → info_fits (message seq own info) ≡ true → length (written (message seq own info)) ≤ length out
     → {w : Written} {o : List ℕ} → WriterLeaves (frame.write_frame (message seq own info) 0 out) w o → Stored (sent (message seq own info ∷ [])) 0 out w.count o
 message-stored seq own info out i l w = sent-one (message seq own info) (frame-stored (message seq own info) 0 out i (omega arith) w (omega arith))
+
+pub message-none : (seq own : ℕ) (info out : List ℕ) → info_fits (message seq own info) ≡ true → length (written (message seq own info)) ≤ length out
+    → {w : Written} {o : List ℕ} → WriterLeaves (frame.write_frame (message seq own info) 0 out) w o → w.refusal ≡ refusal.none
+message-none seq own info out i l w = frame-none (message seq own info) 0 out i (omega arith) w
 
 pub sent-none : {out : List ℕ} → Stored (sent []) 0 out 0 out
 sent-none {out} = record { place = refl; holds = refl; long = refl; fits = omega arith }
@@ -191,8 +205,10 @@ module _ (s : Held) (came lent : List ℕ) (e : drop info_most came ≡ drop inf
 -- ACK and NAK
 
 module _ (own seq addr : ℕ) (out : List ℕ) where
-  pub ack-other : (addr ≡ own → ⊥) → Stored (sent (acks own seq addr)) 0 out 0 out
-  ack-other n = rw (ne_eqb addr own n) sent-none
+  pub ack-none : output_len ≤ length out → {w : Written} {o : List ℕ} → WriterLeaves (frame.write_frame (ack seq own) 0 out) w o → w.refusal ≡ refusal.none
+  ack-none h w =
+      let f : 0 + length (written (ack seq own)) ≤ length out = omega (arith, h, ack-fits seq own, ap length (append-nil (written (ack seq own)))) in
+      frame-none (ack seq own) 0 out refl f w
 
   pub ack-stored : addr ≡ own → output_len ≤ length out → {w : Written} {o : List ℕ} → WriterLeaves (frame.write_frame (ack seq own) 0 out) w o
       → Stored (sent (acks own seq addr)) 0 out w.count o
@@ -200,23 +216,18 @@ module _ (own seq addr : ℕ) (out : List ℕ) where
       let f : 0 + length (written (ack seq own)) ≤ length out = omega (arith, h, ack-fits seq own, ap length (append-nil (written (ack seq own)))) in
       rw (eq-eqb addr own e) (sent-one (ack seq own) (frame-stored (ack seq own) 0 out refl f w (omega arith)))
 
+pub nak-none : (own n seq : ℕ) (out : List ℕ) → output_len ≤ length out → {e : ℕ} → e ≡ err_of n → {w : Written} {o : List ℕ} → WriterLeaves (frame.write_frame (nak seq own e) 0 out) w o
+    → w.refusal ≡ refusal.none
+nak-none own n seq out h {e} ee w =
+    let f : 0 + length (written (nak seq own e)) ≤ length out = omega (arith, h, nak-fits seq own e, ap length (append-nil (written (nak seq own e)))) in
+    frame-none (nak seq own e) 0 out refl f w
+
 module _ {kind : Kind} (own n seq addr : ℕ) (out : List ℕ) where
   pub nak-stored : kind ≡ Message → addr ≡ own → output_len ≤ length out → {e : ℕ} → e ≡ err_of n → {w : Written} {o : List ℕ} → WriterLeaves (frame.write_frame (nak seq own e) 0 out) w o
       → Stored (sent (naks kind own n seq addr)) 0 out w.count o
   nak-stored k a h {e} ee w =
       let f : 0 + length (written (nak seq own e)) ≤ length out = omega (arith, h, nak-fits seq own e, ap length (append-nil (written (nak seq own e)))) in
       rw (k, eq-eqb addr own a, ← ee) (sent-one (nak seq own e) (frame-stored (nak seq own e) 0 out refl f w (omega arith)))
-
-  pub nak-ack : kind ≡ Ack → Stored (sent (naks kind own n seq addr)) 0 out 0 out
-  nak-ack k = rw k sent-none
-
-  pub nak-nak : kind ≡ Nak → Stored (sent (naks kind own n seq addr)) 0 out 0 out
-  nak-nak k = rw k sent-none
-
-pub nak-other : (kind : Kind) (own n seq addr : ℕ) (out : List ℕ) → (addr ≡ own → ⊥) → Stored (sent (naks kind own n seq addr)) 0 out 0 out
-nak-other Message own n seq addr out g = rw (ne_eqb addr own g) sent-none
-nak-other Ack own n seq addr out g = sent-none
-nak-other Nak own n seq addr out g = sent-none
 
 -- The reply
 
@@ -243,12 +254,18 @@ module _ (s : Held) (seq : ℕ) (info out : List ℕ) (least : info_least ≤ le
       let e : length (sent (first ∷ second ∷ [])) ≡ length (written first) + length (written second) = rw (append-nil (written second)) (length-append (written first) (written second)) in
       omega (arith, e, sent-most seq s.seq s.own info most)
 
+  pub reply-ack-none : a.refusal ≡ refusal.none
+  reply-ack-none = frame-none first 0 out refl (omega (arith, frames-most, l)) wa
+
   ack-in : Stored (written first) 0 out a.count p
   ack-in = frame-stored first 0 out refl (omega (arith, frames-most, l)) wa (omega arith)
 
   module _ {w : Written} {o : List ℕ} (wm : WriterLeaves (frame.write_frame second a.count p) w o) where
     message-room : a.count + length (written second) ≤ length p
     message-room = omega (arith, frames-most, l, ack-in.place, ack-in.long)
+
+    pub reply-none : w.refusal ≡ refusal.none
+    reply-none = frame-none second a.count p (info-right s.seq s.own info least most) message-room wm
 
     pub reply-count : a.count + w.count ≤ output_len
     reply-count = omega (arith, frame-count second a.count p (info-right s.seq s.own info least most) message-room wm, frames-most, ack-in.place)

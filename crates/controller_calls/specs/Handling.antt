@@ -1,5 +1,10 @@
 -- What handling a message leaves, and that there is what its reply reports.
-use Rattle.std.specs.Prelude.{◌≡◌, ℕ, ◌+◌, ◌⊎◌, List}
+use Rattle.std.specs.Prelude.{◌≡◌, ℕ, ◌+◌, ◌⊎◌, Bool, List, Result, Ok, Err}
+use Rattle.octets.specs.Choice.{pick}
+use Rattle.octets.specs.Refusal as refusal
+use Rattle.octets.specs.Refusals.{refusal_number}
+use Rattle.message.specs.declared.Fault.{Fault}
+use Rattle.message.specs.Names.{plan_at}
 use Rattle.record.specs.Record.{empty, ready}
 use Rattle.checks.specs.Standing.{standing_of}
 use Rattle.controller.specs.declared.Handled.{Handled}
@@ -7,7 +12,7 @@ use Rattle.controller.specs.declared.Held.{Held}
 use Rattle.controller.specs.declared.Reply.{Reply}
 use Rattle.controller.specs.declared.Reply.TheVariants as reply
 use Rattle.controller.specs.State.{joined, plan_record}
-use Rattle.controller.specs.Handling.{Handling, handling_of}
+use Rattle.controller.specs.Handling.{Handling, refused_with, handling_of}
 
 -- the message was handled as it should, and b is left in the book
 pub record HandlingLeaves (w : Handling) (h : Handled) (b : List ℕ) : Type 0 where
@@ -17,6 +22,19 @@ pub record HandlingLeaves (w : Handling) (h : Handled) (b : List ℕ) : Type 0 w
 -- the same by the code's struct: what octets are lent with it does not matter, since those of the message are handed on
 abbrev pub HandledWith : Held → List ℕ → List ℕ → Handled → List ℕ → Type 0
 HandledWith s book info h b = (kept : List ℕ) → HandlingLeaves (handling_of (joined s kept) book info) h b
+
+-- what a fault refuses, of a message with this code
+abbrev pub refused_for : ℕ → ℕ → Fault → Handled
+refused_for code requested e = refused_with code requested (refusal_number e.refusal) e.field
+
+-- what the code makes of a message: it is handled, or there is a fault
+abbrev pub handled_as : ℕ → ℕ → Result Handled Fault → Handled
+handled_as code requested (Ok h) = h
+handled_as code requested (Err e) = refused_for code requested e
+
+-- h, or that the plan is not ready
+abbrev pub DoneIf : Bool → Handled → Result Handled Fault → Type 0
+DoneIf stands h r = (code requested : ℕ) → handled_as code requested r ≡ pick stands h (refused_with code requested refusal.not_ready plan_at)
 
 -- what a reply reports is there
 abbrev pub Reportable : Held → List ℕ → Reply → Type 0

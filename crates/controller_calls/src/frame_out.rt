@@ -15,10 +15,7 @@ use frame_calls::{INFO_LEAST, writer};
 pub(crate) fn wait_stands(t: u8) -> bool
     ensures { result ≡ wait_fits t }
 {
-    if t < WAIT_LEAST {
-        return false;
-    }
-    t <= WAIT_MOST
+    WAIT_LEAST <= t && t <= WAIT_MOST
 }
 
 // Is none out, or one that can be?
@@ -27,22 +24,12 @@ pub(crate) fn out_stands(t: u8, o: Out) -> bool
     ensures { result ≡ out_fits t o }
 {
     let n = o.len as usize;
-    if n == 0 {
-        return true;
-    }
-    if o.sends < 1 {
-        return false;
-    }
-    if SENDS_MOST < o.sends {
-        return false;
-    }
-    if t <= o.waited {
-        return false;
-    }
-    if n < INFO_LEAST {
-        return false;
-    }
-    n <= INFO_MOST
+    n == 0
+        || (1 <= o.sends
+            && o.sends <= SENDS_MOST
+            && o.waited < t
+            && INFO_LEAST <= n
+            && n <= INFO_MOST)
 }
 
 // "the same frame goes again; after five sends without an ACK, the link is reported down".
@@ -79,17 +66,14 @@ fn stays(out: Out) -> Turn
 fn out_seq(ours: u8) -> u8
     ensures { result ≡ out_seq ours }
 {
-    std::num::wrapping_add_u8(ours, 255)
+    ours.wrapping_sub(1)
 }
 
 // "An ACK or NAK with another SEQ is ignored".
 fn answers(ours: u8, o: Out, n: u8) -> bool
     ensures { result ≡ answers_out ours o n }
 {
-    if n != out_seq(ours) {
-        return false;
-    }
-    o.len != 0
+    o.len != 0 && n == out_seq(ours)
 }
 
 // An ACK for us with SEQ n.
@@ -143,10 +127,8 @@ pub(crate) fn resend(s: Held, link: Link, kept: &[u8], out: &mut [u8]) -> usize
     match link {
         Link::Again => {
             let end = OUT_AT + s.out.len as usize;
-            writer::write_message(out_seq(s.seq), s.own, &kept[OUT_AT..end], out, 0).count
+            writer::write_message(out_seq(s.seq), s.own, &kept[OUT_AT..end], out, 0).unwrap()
         }
-        Link::Still => 0,
-        Link::Heard => 0,
-        Link::Down => 0,
+        _ => 0,
     }
 }

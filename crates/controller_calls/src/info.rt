@@ -1,7 +1,7 @@
 // 01, "Messages": the INFO of each reply. 02, E6: it is put into the octets kept, from which its frame is sent and, where that is wanted, sent again.
 ghost use Rattle.std.specs.Prelude.{◌≡◌, ◌+◌, ◌≤◌, ◌++◌, length, ◌≢◌};
 ghost use Rattle.frame.specs.Frame.{info_most};
-ghost use Rattle.record.specs.Record.{book_len, empty, ready};
+ghost use Rattle.record.specs.Record.{empty, ready};
 ghost use Rattle.checks.specs.Standing.{standing_of};
 ghost use Rattle.plan.specs.Reporting.{times_info, plan_info};
 ghost use Rattle.controller.specs.Handling.{answer_info};
@@ -12,16 +12,17 @@ ghost use Rattle.controller_calls.specs.Sender.{InfoPut};
 
 use controller::{Held, OUT_AT, Reply};
 use plan_calls::book;
+use record::BOOK_LEN;
 
 // The INFO of a reply; how long it is.
-pub(crate) fn put(s: Held, reply: Reply, book: &[u8], kept: &mut [u8]) -> u16
-    requires { (length book.now ≡ book_len) × (Reportable s book.now reply) × (kept_len ≤ length kept.old) }
+pub(crate) fn put(s: Held, reply: Reply, book: &[u8; BOOK_LEN], kept: &mut [u8]) -> u16
+    requires { (Reportable s book.now reply) × (kept_len ≤ length kept.old) }
     ensures { ReplyPut s book.now reply kept.old result kept.new }
 {
     let u = s.running;
     let which = u.which;
     match reply {
-        Reply::CarriedOut(code) => put_answer(message::CARRIED_OUT, code, &[0u8; 0], kept),
+        Reply::CarriedOut(code) => put_answer(message::CARRIED_OUT, code, &[], kept),
         Reply::Refused(code, n, parameter) => {
             put_answer(message::REFUSED, code, &[n, parameter], kept)
         }

@@ -5,14 +5,15 @@
 
 mod frame_out;
 mod handling;
+mod incoming;
 mod info;
 mod memory;
 mod replies;
 mod soundness;
 mod stepper;
 
-ghost use Rattle.std.specs.Prelude.{◌≡◌, ◌<◌, length};
-ghost use Rattle.record.specs.Record.{book_len};
+ghost use Rattle.std.specs.Prelude.{◌≡◌, ◌<◌};
+ghost use Rattle.octets.specs.Refusals.{refusal_number, told_number};
 ghost use Rattle.controller.specs.State.{joined};
 ghost use Rattle.controller.specs.Replies.{answer_with, CallLeaves, octet_of, line_idle_of};
 ghost use Rattle.controller.specs.Offers.{OfferLeaves, offer_of};
@@ -26,6 +27,7 @@ use controller::{
 use frame_calls::{decoder, receiver, writer};
 use lamps::NO_ROW;
 use octets::refusal;
+use octets::refusal::Refusal;
 use plan::Which;
 use plan_calls::book;
 use record::BOOK_LEN;
@@ -60,12 +62,15 @@ fn fresh_with(which: Which, own: u16, wait: u8) -> HeldAnswer
         running,
     };
     if own == ALL {
-        return quiet(state, refusal::START_WRONG);
+        return quiet(state, Refusal::StartWrong);
     }
     if !frame_out::wait_stands(wait) {
-        return quiet(state, refusal::WAIT_WRONG);
+        return quiet(state, Refusal::WaitWrong);
     }
-    quiet(state, refusal::NONE)
+    HeldAnswer {
+        state,
+        told: tells(None),
+    }
 }
 
 // Takes one octet from the line; the first 768 of `kept` are the state's octets of INFO. What it ends is carried out on the book and
@@ -74,13 +79,13 @@ pub fn octet(mut s: Held, kept: &mut [u8], book: &mut [u8], out: &mut [u8], b: u
     ensures { CallLeaves (octet_of (joined s kept.old) book.old out.old b) kept.old result kept.new book.new out.new }
 {
     if !soundness::stands(s, kept.len()) {
-        return quiet(s, refusal::STATE_UNSOUND);
+        return quiet(s, Refusal::StateUnsound);
     }
-    if book.len() != BOOK_LEN {
-        return quiet(s, refusal::BOOK_WRONG);
-    }
+    let Some(book) = book.as_mut_array() else {
+        return quiet(s, Refusal::BookWrong);
+    };
     if out.len() < OUTPUT_LEN {
-        return quiet(s, refusal::OUTPUT_SHORT);
+        return quiet(s, Refusal::OutputShort);
     }
     let r = s.receiver;
     let h = r.head;
@@ -109,13 +114,14 @@ pub fn line_idle(s: Held, kept: &[u8]) -> HeldAnswer
     ensures { answer_with result kept.now ≡ line_idle_of (joined s kept.now) }
 {
     if !soundness::stands(s, kept.len()) {
-        return quiet(s, refusal::STATE_UNSOUND);
+        return quiet(s, Refusal::StateUnsound);
     }
-    let r = s.receiver;
-    let t = receiver::line_idle(r, kept);
-    let receiver = t.receiver;
+    let t = receiver::line_idle(s.receiver, kept);
     HeldAnswer {
-        state: Held { receiver, ..s },
+        state: Held {
+            receiver: t.receiver,
+            ..s
+        },
         told: tells_dropped(t.dropped),
     }
 }
@@ -126,36 +132,37 @@ pub fn second(s: Held, kept: &[u8], book: &[u8], out: &mut [u8]) -> HeldShown
     ensures { shown_with result kept.now out.new ≡ second_of (joined s kept.now) book.now out.old }
 {
     if !soundness::stands(s, kept.len()) {
-        return dark(s, refusal::STATE_UNSOUND);
+        return dark(s, Refusal::StateUnsound);
     }
-    if book.len() != BOOK_LEN {
-        return dark(s, refusal::BOOK_WRONG);
-    }
+    let Some(book) = book.as_array() else {
+        return dark(s, Refusal::BookWrong);
+    };
     if out.len() < OUTPUT_LEN {
-        return dark(s, refusal::OUTPUT_SHORT);
+        return dark(s, Refusal::OutputShort);
     }
     let turn = frame_out::passed(s.wait, s.out);
-    let link = turn.link;
-    let count = frame_out::resend(s, link, kept, out);
+    let count = frame_out::resend(s, turn.link, kept, out);
     shown(s, book, turn, count)
 }
 
 // A second that is accepted shows its lamps whatever becomes of the frame out, which takes this turn with so many octets written.
-fn shown(s: Held, book: &[u8], turn: Turn, count: usize) -> HeldShown
-    requires { (length book.now ≡ book_len) × (s.running.position < 65535) }
+fn shown(s: Held, book: &[u8; BOOK_LEN], turn: Turn, count: usize) -> HeldShown
+    requires { s.running.position < 65535 }
     ensures { result ≡ held_shown s book.now turn count }
 {
     let u = s.running;
     let running = stepper::moved_on(u, record::cycle(&u.copy), s.requested, book);
     let row = lamps_calls::row_at(&u.copy, u.position);
-    let out = turn.out;
-    let link = turn.link;
     HeldShown {
-        state: Held { out, running, ..s },
+        state: Held {
+            out: turn.out,
+            running,
+            ..s
+        },
         told: Told {
             count,
-            link,
-            ..tells(refusal::NONE)
+            link: turn.link,
+            ..tells(None)
         },
         plan: u.plan,
         row,
@@ -167,20 +174,19 @@ pub fn offer(s: Held, kept: &mut [u8], info: &[u8], out: &mut [u8]) -> HeldAnswe
     ensures { OfferLeaves (offer_of (joined s kept.old) info.now out.old) kept.old result kept.new out.new }
 {
     if !soundness::stands(s, kept.len()) {
-        return quiet(s, refusal::STATE_UNSOUND);
+        return quiet(s, Refusal::StateUnsound);
     }
-    let n = writer::refuses_message(info, out, 0);
-    if n != refusal::NONE {
-        return quiet(s, n);
+    if let Some(why) = writer::refuses_message(info, out, 0) {
+        return quiet(s, why);
     }
     if s.out.len != 0 {
-        return quiet(s, refusal::SENDER_BUSY);
+        return quiet(s, Refusal::SenderBusy);
     }
     octets::put(info, &mut *kept, OUT_AT);
-    let w = writer::write_message(s.seq, s.own, info, out, 0);
+    let count = writer::write_message(s.seq, s.own, info, out, 0).unwrap();
     HeldAnswer {
         state: Held {
-            seq: std::num::wrapping_add_u8(s.seq, 1),
+            seq: s.seq.wrapping_add(1),
             out: Out {
                 sends: 1,
                 waited: 0,
@@ -189,18 +195,22 @@ pub fn offer(s: Held, kept: &mut [u8], info: &[u8], out: &mut [u8]) -> HeldAnswe
             ..s
         },
         told: Told {
-            count: w.count,
-            ..tells(refusal::NONE)
+            count,
+            ..tells(None)
         },
     }
 }
 
 // "Other numbers in a refused call's result are 0."
-fn tells(n: u8) -> Told
-    ensures { result ≡ tells n }
+fn tells(why: Option<Refusal>) -> Told
+    ensures { result ≡ tells (told_number why) }
 {
+    let refusal = match why {
+        Some(r) => r.number(),
+        None => refusal::NONE,
+    };
     Told {
-        refusal: n,
+        refusal,
         parameter: 0,
         event: Event::Nothing,
         count: 0,
@@ -215,26 +225,26 @@ pub(crate) fn tells_dropped(dropped: u16) -> Told
 {
     Told {
         dropped,
-        ..tells(refusal::NONE)
+        ..tells(None)
     }
 }
 
 // "same state, nothing written"
-fn quiet(s: Held, n: u8) -> HeldAnswer
-    ensures { result ≡ held_quiet s n }
+fn quiet(s: Held, why: Refusal) -> HeldAnswer
+    ensures { result ≡ held_quiet s (refusal_number why) }
 {
     HeldAnswer {
         state: s,
-        told: tells(n),
+        told: tells(Some(why)),
     }
 }
 
-fn dark(s: Held, n: u8) -> HeldShown
-    ensures { result ≡ held_dark s n }
+fn dark(s: Held, why: Refusal) -> HeldShown
+    ensures { result ≡ held_dark s (refusal_number why) }
 {
     HeldShown {
         state: s,
-        told: tells(n),
+        told: tells(Some(why)),
         plan: 0,
         row: NO_ROW,
     }

@@ -6,7 +6,7 @@ ghost use Rattle.frame.specs.Frame.{info_least, info_most, message};
 ghost use Rattle.frame.specs.Decoder.{joined_decoder};
 ghost use Rattle.frame.specs.Dropped.{counted_of};
 ghost use Rattle.frame.specs.Run.{sound, found_means};
-ghost use Rattle.record.specs.Record.{plans_most, book_len, ready};
+ghost use Rattle.record.specs.Record.{ready};
 ghost use Rattle.checks.specs.Standing.{standing_of};
 ghost use Rattle.controller.specs.Memory.{last_fits};
 ghost use Rattle.controller.specs.Sender.{out_start, out_fits};
@@ -17,12 +17,15 @@ ghost use Rattle.controller_calls.specs.Held.{one_dropped, one_kept};
 ghost use Rattle.controller_calls.specs.Replies.{unchanged_as, brought_still, RepliedWith, AcceptedWith, AnsweredWith, SilenceWith, BroughtWith};
 ghost use Rattle.controller_calls.specs.Sender.{Sendable};
 
+use crate::incoming::Incoming;
 use crate::{frame_out, handling, info, memory};
 use controller::{ALL, Event, Handled, Held, HeldAnswer, Last, Link, OUT_AT, Out, Told, Turn};
 use frame::Kind;
 use frame::decoder::{Found, Head, Receiver};
 use frame_calls::{receiver, writer};
 use octets::refusal;
+use octets::refusal::Refusal;
+use record::BOOK_LEN;
 
 // ERR of a NAK for refusal 3; for 1 and 2 it is the refusal itself.
 const ERR_LEN: u8 = 4;
@@ -62,8 +65,7 @@ pub(crate) fn info_kept(r: Receiver, kept: &mut [u8], b: u8) -> Receiver
     ensures { (result ≡ one_kept r) × (kept.new ≡ slice_set kept.old r.head.filled b) }
 {
     let h = r.head;
-    let at = h.filled as usize;
-    kept[at] = b;
+    kept[h.filled as usize] = b;
     let head = Head {
         filled: h.filled + 1,
         ..h
@@ -72,42 +74,48 @@ pub(crate) fn info_kept(r: Receiver, kept: &mut [u8], b: u8) -> Receiver
 }
 
 // One octet to a sound state, and what it brought.
-pub(crate) fn taken(s: Held, kept: &mut [u8], book: &mut [u8], out: &mut [u8], b: u8) -> HeldAnswer
-    requires { (sound_of (joined s kept.old) ≡ true) × (length book.old ≡ book_len) × (output_len ≤ length out.old) }
+pub(crate) fn taken(
+    s: Held,
+    kept: &mut [u8],
+    book: &mut [u8; BOOK_LEN],
+    out: &mut [u8],
+    b: u8,
+) -> HeldAnswer
+    requires { (sound_of (joined s kept.old) ≡ true) × (output_len ≤ length out.old) }
     ensures { CallLeaves (done_of (joined s kept.old) (counted_of (joined_decoder s.receiver.head kept.old) s.receiver.dropped b) book.old out.old) kept.old result kept.new book.new out.new }
 {
     let t = receiver::octet(s.receiver, &mut *kept, b);
-    let receiver = t.receiver;
-    let found = t.found;
-    let w = by_found(found, s, kept, book, out);
-    let last = w.last;
+    let w = by_found(t.found, s, kept, book, out);
     let r = w.result;
-    let event = r.event;
-    let out_then = r.out;
-    let link = r.link;
     HeldAnswer {
         state: Held {
             seq: r.seq,
             requested: r.requested,
-            receiver,
-            last,
-            out: out_then,
+            receiver: t.receiver,
+            last: w.last,
+            out: r.out,
             ..s
         },
         told: Told {
             refusal: r.refusal,
             parameter: r.parameter,
-            event,
+            event: r.event,
             count: r.count,
             dropped: t.dropped,
-            link,
+            link: r.link,
         },
     }
 }
 
 // What the decoder found, with the octets kept.
-fn by_found(found: Found, s: Held, kept: &mut [u8], book: &mut [u8], out: &mut [u8]) -> Brought
-    requires { (CanFind found) × (last_fits s.last ≡ true) × (out_fits s.wait s.out ≡ true) × (kept_len ≤ length kept.old) × (standing_of s.running.copy ≡ ready) × (s.running.plan ≤ plans_most) × (length book.old ≡ book_len) × (output_len ≤ length out.old) }
+fn by_found(
+    found: Found,
+    s: Held,
+    kept: &mut [u8],
+    book: &mut [u8; BOOK_LEN],
+    out: &mut [u8],
+) -> Brought
+    requires { (CanFind found) × (last_fits s.last ≡ true) × (out_fits s.wait s.out ≡ true) × (kept_len ≤ length kept.old) × (standing_of s.running.copy ≡ ready) × (output_len ≤ length out.old) }
     ensures { BroughtWith (found_means found (take info_most kept.old)) s kept.old book.old out.old result kept.new book.new out.new }
 {
     match found {
@@ -116,7 +124,9 @@ fn by_found(found: Found, s: Held, kept: &mut [u8], book: &mut [u8], out: &mut [
             let count = nak(kind, s.own, n, seq, addr, out);
             still(s, unchanged(s, n, Event::Nothing, count))
         }
-        Found::Message(seq, addr, n) => message_taken(s, seq, addr, n, kept, book, out),
+        Found::Message(seq, addr, len) => {
+            message_taken(s, Incoming { seq, addr, len }, kept, book, out)
+        }
         Found::Ack(seq, addr) => {
             let t = frame_out::acked(s.seq, s.out, seq);
             still(s, answered(s, addr, Event::Ack(seq), t, kept, out))
@@ -132,15 +142,16 @@ fn by_found(found: Found, s: Held, kept: &mut [u8], book: &mut [u8], out: &mut [
 fn still(s: Held, res: ResultCounted) -> Brought
     ensures { result ≡ brought_still s res }
 {
-    let last = s.last;
-    Brought { result: res, last }
+    Brought {
+        result: res,
+        last: s.last,
+    }
 }
 
 // No message was handled: there is no parameter, and SEQ, request and what is out stay.
 fn unchanged(s: Held, n: u8, event: Event, count: usize) -> ResultCounted
     ensures { result ≡ unchanged_as s n event count }
 {
-    let out = s.out;
     ResultCounted {
         refusal: n,
         parameter: 0,
@@ -148,7 +159,7 @@ fn unchanged(s: Held, n: u8, event: Event, count: usize) -> ResultCounted
         count,
         seq: s.seq,
         requested: s.requested,
-        out,
+        out: s.out,
         link: Link::Still,
     }
 }
@@ -161,18 +172,11 @@ fn answered(s: Held, addr: u16, event: Event, t: Turn, kept: &[u8], out: &mut [u
     if addr != s.own {
         return unchanged(s, refusal::NONE, Event::Nothing, 0);
     }
-    let out_then = t.out;
-    let link = t.link;
-    let count = frame_out::resend(s, link, kept, out);
+    let count = frame_out::resend(s, t.link, kept, out);
     ResultCounted {
-        refusal: refusal::NONE,
-        parameter: 0,
-        event,
-        count,
-        seq: s.seq,
-        requested: s.requested,
-        out: out_then,
-        link,
+        out: t.out,
+        link: t.link,
+        ..unchanged(s, refusal::NONE, event, count)
     }
 }
 
@@ -185,45 +189,45 @@ fn nak(kind: Kind, own: u16, n: u8, seq: u8, addr: u16, out: &mut [u8]) -> usize
         return 0;
     }
     match kind {
-        Kind::Message => writer::write_nak(seq, own, err(n), out, 0).count,
-        Kind::Ack => 0,
-        Kind::Nak => 0,
+        Kind::Message => writer::write_nak(seq, own, err(n), out, 0).unwrap(),
+        _ => 0,
     }
 }
 
 fn err(n: u8) -> u8
     ensures { result ≡ err_of n }
 {
-    if n == refusal::LEN_WRONG { ERR_LEN } else { n }
+    if n == Refusal::LenWrong.number() {
+        ERR_LEN
+    } else {
+        n
+    }
 }
 
-// A sound message frame, with n octets of INFO. "A sound frame for another address is dropped silently."; 02, E4: a repeat "gets the ACK (none for
+// A sound message frame. "A sound frame for another address is dropped silently."; 02, E4: a repeat "gets the ACK (none for
 // FFFF) and nothing else"; E6: one that is met with silence gets nothing; any other is accepted, and remembered.
 fn message_taken(
     s: Held,
-    seq: u8,
-    addr: u16,
-    n: u16,
+    m: Incoming,
     kept: &mut [u8],
-    book: &mut [u8],
+    book: &mut [u8; BOOK_LEN],
     out: &mut [u8],
 ) -> Brought
-    requires { (info_least ≤ n) × (n ≤ info_most) × (last_fits s.last ≡ true) × (kept_len ≤ length kept.old) × (standing_of s.running.copy ≡ ready) × (s.running.plan ≤ plans_most) × (length book.old ≡ book_len) × (output_len ≤ length out.old) }
-    ensures { BroughtWith (sound (message seq addr (take n kept.old))) s kept.old book.old out.old result kept.new book.new out.new }
+    requires { (last_fits s.last ≡ true) × (kept_len ≤ length kept.old) × (standing_of s.running.copy ≡ ready) × (output_len ≤ length out.old) }
+    ensures { BroughtWith (sound (message m.seq m.addr (take m.len kept.old))) s kept.old book.old out.old result kept.new book.new out.new }
 {
-    if !for_us(s.own, addr) {
+    if !for_us(s.own, m.addr) {
         return still(s, unchanged(s, refusal::NONE, Event::Nothing, 0));
     }
-    if memory::is_repeat(s.last, seq, n, kept) {
-        let count = ack(s.own, seq, addr, out);
+    if memory::is_repeat(s.last, m, kept) {
+        let count = ack(s.own, m.seq, m.addr, out);
         return still(s, unchanged(s, refusal::NONE, Event::Nothing, count));
     }
-    let end = n as usize;
-    if met_with_silence(s, addr, &kept[0..end]) {
+    if met_with_silence(s, m.addr, &kept[..m.len as usize]) {
         return still(s, unchanged(s, refusal::NONE, Event::Nothing, 0));
     }
-    let last = memory::remember(seq, n, &mut *kept);
-    let result = accepted(s, seq, addr, n, kept, book, out);
+    let last = memory::remember(m, &mut *kept);
+    let result = accepted(s, m, kept, book, out);
     Brought { result, last }
 }
 
@@ -233,53 +237,38 @@ fn met_with_silence(s: Held, addr: u16, info: &[u8]) -> bool
     requires { code_len ≤ length info.now }
     ensures { SilenceWith s addr info.now result }
 {
-    if s.out.len == 0 {
-        return false;
-    }
-    if addr != s.own {
-        return false;
-    }
-    !is_answer(octets::word(info[0], info[1]))
+    s.out.len != 0 && addr == s.own && !is_answer(octets::word(info[0], info[1]))
 }
 
-// A message frame that is no repeat and not met with silence, with n octets of INFO.
+// A message frame that is no repeat and not met with silence.
 fn accepted(
     s: Held,
-    seq: u8,
-    addr: u16,
-    n: u16,
+    m: Incoming,
     kept: &mut [u8],
-    book: &mut [u8],
+    book: &mut [u8; BOOK_LEN],
     out: &mut [u8],
 ) -> ResultCounted
-    requires { (code_len ≤ n) × (n ≤ info_most) × (kept_len ≤ length kept.old) × (standing_of s.running.copy ≡ ready) × (s.running.plan ≤ plans_most) × (length book.old ≡ book_len) × (output_len ≤ length out.old) }
-    ensures { AcceptedWith s seq addr (take n kept.old) kept.old book.old out.old result kept.new book.new out.new }
+    requires { (kept_len ≤ length kept.old) × (standing_of s.running.copy ≡ ready) × (output_len ≤ length out.old) }
+    ensures { AcceptedWith s m.seq m.addr (take m.len kept.old) kept.old book.old out.old result kept.new book.new out.new }
 {
     if is_answer(octets::word(kept[0], kept[1])) {
-        let count = ack(s.own, seq, addr, out);
+        let count = ack(s.own, m.seq, m.addr, out);
         return unchanged(s, refusal::NONE, Event::Nothing, count);
     }
-    let end = n as usize;
-    let h = handling::carry_out(s, &mut *book, &kept[0..end]);
-    replied(s, seq, addr, h, kept, book, out)
+    let h = handling::carry_out(s, &mut *book, &kept[..m.len as usize]);
+    replied(s, m, h, kept, book, out)
 }
 
 fn for_us(own: u16, addr: u16) -> bool
     ensures { result ≡ for_us own addr }
 {
-    if addr == own {
-        return true;
-    }
-    addr == ALL
+    addr == own || addr == ALL
 }
 
 fn is_answer(code: u16) -> bool
     ensures { result ≡ is_answer code }
 {
-    if code == message::CARRIED_OUT {
-        return true;
-    }
-    code == message::REFUSED
+    matches!(code, message::CARRIED_OUT | message::REFUSED)
 }
 
 // "A received 0F 80 or 0F 81 of any length gets the ACK only (nothing for FFFF) and is no refusal."; 02, E4: and so does a repeat.
@@ -290,48 +279,41 @@ fn ack(own: u16, seq: u8, addr: u16, out: &mut [u8]) -> usize
     if addr != own {
         return 0;
     }
-    writer::write_ack(seq, own, out, 0).count
+    writer::write_ack(seq, own, out, 0).unwrap()
 }
 
 // "A sound message frame for us writes an ACK with the received SEQ, then one message frame with our next SEQ."; 02, E6: "The octet call hands its reply
 // to this sender, which writes it in that call".
 fn replied(
     s: Held,
-    seq: u8,
-    addr: u16,
+    m: Incoming,
     h: Handled,
     kept: &mut [u8],
-    book: &[u8],
+    book: &[u8; BOOK_LEN],
     out: &mut [u8],
 ) -> ResultCounted
-    requires { (kept_len ≤ length kept.old) × (length book.now ≡ book_len) × (Reportable s book.now h.reply) × (output_len ≤ length out.old) }
-    ensures { RepliedWith s book.now seq addr h kept.old out.old result kept.new out.new }
+    requires { (kept_len ≤ length kept.old) × (Reportable s book.now h.reply) × (output_len ≤ length out.old) }
+    ensures { RepliedWith s book.now m.seq m.addr h kept.old out.old result kept.new out.new }
 {
+    let told = ResultCounted {
+        parameter: h.parameter,
+        requested: h.requested,
+        ..unchanged(s, h.refusal, Event::Nothing, 0)
+    };
     // "FFFF is for all: carried out, never replied to."
-    let reply_due = addr == s.own;
-    let mut count: usize = 0;
-    let mut next = s.seq;
-    let mut out_then = s.out;
-    if reply_due {
-        let reply = h.reply;
-        let len = info::put(s, reply, book, &mut *kept);
-        count = write_reply(s, seq, len, kept, out);
-        next = std::num::wrapping_add_u8(s.seq, 1);
-        out_then = Out {
+    if m.addr != s.own {
+        return told;
+    }
+    let len = info::put(s, h.reply, book, &mut *kept);
+    ResultCounted {
+        count: write_reply(s, m.seq, len, kept, out),
+        seq: s.seq.wrapping_add(1),
+        out: Out {
             sends: 1,
             waited: 0,
             len,
-        };
-    }
-    ResultCounted {
-        refusal: h.refusal,
-        parameter: h.parameter,
-        event: Event::Nothing,
-        count,
-        seq: next,
-        requested: h.requested,
-        out: out_then,
-        link: Link::Still,
+        },
+        ..told
     }
 }
 
@@ -340,8 +322,8 @@ fn write_reply(s: Held, seq: u8, len: u16, kept: &[u8], out: &mut [u8]) -> usize
     requires { (info_least ≤ len) × (len ≤ info_most) × (kept_len ≤ length kept.now) × (output_len ≤ length out.old) }
     ensures { Stored (sent (replies_of seq s.seq s.own (take len (drop out_start kept.now)))) 0 out.old result out.new }
 {
-    let a = writer::write_ack(seq, s.own, &mut *out, 0);
+    let a = writer::write_ack(seq, s.own, &mut *out, 0).unwrap();
     let end = OUT_AT + len as usize;
-    let w = writer::write_message(s.seq, s.own, &kept[OUT_AT..end], &mut *out, a.count);
-    a.count + w.count
+    let w = writer::write_message(s.seq, s.own, &kept[OUT_AT..end], &mut *out, a).unwrap();
+    a + w
 }

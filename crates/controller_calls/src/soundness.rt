@@ -18,31 +18,14 @@ use record::PLANS_MOST;
 pub(crate) fn stands(s: Held, lent: usize) -> bool
     ensures { result ≡ held_sound s lent }
 {
-    if s.own == ALL {
-        return false;
-    }
-    if PLANS_MOST < s.requested {
-        return false;
-    }
-    if lent < KEPT_LEN {
-        return false;
-    }
-    let last = s.last;
-    if !memory::last_stands(last) {
-        return false;
-    }
-    if !frame_out::wait_stands(s.wait) {
-        return false;
-    }
-    let o = s.out;
-    if !frame_out::out_stands(s.wait, o) {
-        return false;
-    }
-    let h = s.receiver.head;
-    if !decoder_stands(h) {
-        return false;
-    }
-    running_stands(s.running)
+    s.own != ALL
+        && s.requested <= PLANS_MOST
+        && KEPT_LEN <= lent
+        && memory::last_stands(s.last)
+        && frame_out::wait_stands(s.wait)
+        && frame_out::out_stands(s.wait, s.out)
+        && decoder_stands(s.receiver.head)
+        && running_stands(s.running)
 }
 
 // Most octets of a quiet line find the decoder idle, which is always possible: that is told without a call.
@@ -50,11 +33,7 @@ pub(crate) fn stands(s: Held, lent: usize) -> bool
 fn decoder_stands(h: Head) -> bool
     ensures { result ≡ possible_of h }
 {
-    let place = h.place;
-    match place {
-        Place::Idle => true,
-        _ => decoder::possible(h),
-    }
+    h.place == Place::Idle || decoder::possible(h)
 }
 
 // A built-in record passes the checks, so plan 0 is only compared with the one that is kept.

@@ -3,8 +3,7 @@
 
 #![tactic(auto)]
 
-ghost use Rattle.std.specs.Prelude.{◌≡◌, ◌+◌, ◌≤◌, ◌<◌, leb, get_or};
-ghost use Rattle.octets.specs.Choice.{both};
+ghost use Rattle.std.specs.Prelude.{◌≡◌, ◌+◌, ◌≤◌, ◌<◌, get_or};
 ghost use Rattle.diagram.specs.Rows.{lamp_rows};
 ghost use Rattle.diagram.specs.Table.{diagram_of, phases_of, steps_of, row_number, dark_row, lamp_row_of};
 ghost use Rattle.diagram_calls.specs.Lines.{pair_at};
@@ -26,50 +25,30 @@ const ROWS_A_LINE: usize = LINE_LEN / 2;
 pub fn phases(order: u8) -> u8
     ensures { result ≡ phases_of order }
 {
-    if order == 0x00 {
-        return 2;
+    match order {
+        0x00 => 2,
+        0x20 | 0x38 => 3,
+        0x50..=0x57 | 0x60..=0x6d => 4,
+        _ => 0,
     }
-    if order == 0x20 {
-        return 3;
-    }
-    if order == 0x38 {
-        return 3;
-    }
-    if in_range(0x50, order, 0x57) {
-        return 4;
-    }
-    if in_range(0x60, order, 0x6d) {
-        return 4;
-    }
-    0
-}
-
-fn in_range(least: u8, order: u8, greatest: u8) -> bool
-    ensures { result ≡ both (leb least order) (leb order greatest) }
-{
-    least <= order && order <= greatest
 }
 
 // The steps of an order; 0 where it is unknown.
 fn steps(order: u8) -> u16
     ensures { result ≡ steps_of order }
 {
-    STEPS_A_PHASE * phases(order) as u16
+    STEPS_A_PHASE * u16::from(phases(order))
 }
 
 // The first row of a known order, from 0. The diagrams of four phases have twenty rows each.
 fn first_row(order: u8) -> u16
     ensures { 1 ≤ phases_of order → result ≡ (diagram_of order).first }
 {
-    if 0x60 <= order {
-        return 200 + 20 * (order - 0x60) as u16;
-    }
-    if 0x50 <= order {
-        return 40 + 20 * (order - 0x50) as u16;
-    }
     match order {
-        0x20 => 10,
+        0x60.. => 200 + 20 * u16::from(order - 0x60),
+        0x50.. => 40 + 20 * u16::from(order - 0x50),
         0x38 => 25,
+        0x20 => 10,
         _ => 0,
     }
 }
@@ -78,19 +57,10 @@ fn first_row(order: u8) -> u16
 fn row_number(order: u8, step: u16) -> usize
     ensures { result ≡ row_number order step }
 {
-    if step == 0 {
+    if step == 0 || steps(order) < step {
         return ROWS;
     }
-    if steps(order) < step {
-        return ROWS;
-    }
-    first_row(order) as usize + (step - 1) as usize
-}
-
-fn wide(word: u32) -> u64
-    ensures { result ≡ word }
-{
-    word as u64
+    usize::from(first_row(order)) + usize::from(step - 1)
 }
 
 // The two words that stand in a line from a place on.
@@ -99,8 +69,8 @@ fn pair_at(line: [u32; LINE_LEN], at: usize) -> LampRow
     ensures { result ≡ pair_at line at }
 {
     LampRow {
-        steady: wide(line[at]),
-        flashing: wide(line[at + 1]),
+        steady: u64::from(line[at]),
+        flashing: u64::from(line[at + 1]),
     }
 }
 

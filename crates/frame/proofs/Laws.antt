@@ -10,7 +10,7 @@ use lib.ListN.{length, take, drop, get_or, length-append}
 use Rattle.octets.specs.ExclusiveOr.{exclusive_or}
 use Rattle.octets.specs.Choice.{both}
 use Rattle.octets.specs.Writing.{WriterLeaves, written_as, nothing_written}
-use Rattle.octets.specs.declared.Written.{Written}
+use Rattle.octets.specs.Writing.{Written}
 use Rattle.octets.specs.Word.{low_of, word_of}
 use Rattle.octets.proofs.Laws.{pick-by, exclusive-or-append, both_left, both_right, clash, drop-next}
 use Rattle.frame.specs.declared.Kind.{Kind}

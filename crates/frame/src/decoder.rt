@@ -2,7 +2,7 @@
 use crate::Kind;
 
 // What the next octet is to the decoder.
-#[derive(Clone, Copy)]
+#[derive(Clone, Copy, Debug, PartialEq, Eq)]
 pub enum Place {
     Idle,
     LoneAa,

@@ -9,7 +9,7 @@ pub mod decoder;
 // INFO of a message frame, at most.
 pub const INFO_MOST: usize = 256;
 
-#[derive(Clone, Copy)]
+#[derive(Clone, Copy, Debug, PartialEq, Eq)]
 pub enum Kind {
     Message,
     Ack,

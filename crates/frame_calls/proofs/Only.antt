@@ -1,5 +1,6 @@
 -- Any two results that a contract allows are equal.
 use mathlib.Core.Path.{◌≡◌, refl, sym, ◌∙◌}
+use Rattle.octets.proofs.Refusals.{told-apart, written-apart}
 use Rattle.frame.proofs.Lent.{received-one-to-one}
 use Rattle.frame_calls.proofs.receiver.fresh.Reads as fresh
 use Rattle.frame_calls.proofs.receiver.octet.Reads as octet
@@ -37,19 +38,19 @@ only-idle_drops κs a r s x y p q = p ∙ sym q
 
 only-write_message : (κs : _) (a : _) (r s : _) (x y : _) → write-message.Post κs a r x → write-message.Post κs a s y
     → (r ≡ s) × (x.1.1.1.0.now ≡ y.1.1.1.0.now)
-only-write_message κs a r s x y p q = (p.answer ∙ sym q.answer, p.out ∙ sym q.out)
+only-write_message κs a r s x y p q = (written-apart r s (p.answer ∙ sym q.answer), p.out ∙ sym q.out)
 
 only-refuses_message : (κs : _) (a : _) (r s : _) (x y : _) → refuses-message.Post κs a r x → refuses-message.Post κs a s y → r ≡ s
-only-refuses_message κs a r s x y p q = p 0 0 ∙ sym (q 0 0)
+only-refuses_message κs a r s x y p q = told-apart r s (p 0 0 ∙ sym (q 0 0))
 
 only-write_message_from : (κs : _) (a : _) (r s : _) (x y : _) → write-message-from.Post κs a r x → write-message-from.Post κs a s y
     → (r ≡ s) × (x.1.1.1.1.0.now ≡ y.1.1.1.1.0.now)
-only-write_message_from κs a r s x y p q = (p.answer ∙ sym q.answer, p.out ∙ sym q.out)
+only-write_message_from κs a r s x y p q = (written-apart r s (p.answer ∙ sym q.answer), p.out ∙ sym q.out)
 
 only-write_ack : (κs : _) (a : _) (r s : _) (x y : _) → write-ack.Post κs a r x → write-ack.Post κs a s y
     → (r ≡ s) × (x.1.1.0.now ≡ y.1.1.0.now)
-only-write_ack κs a r s x y p q = (p.answer ∙ sym q.answer, p.out ∙ sym q.out)
+only-write_ack κs a r s x y p q = (written-apart r s (p.answer ∙ sym q.answer), p.out ∙ sym q.out)
 
 only-write_nak : (κs : _) (a : _) (r s : _) (x y : _) → write-nak.Post κs a r x → write-nak.Post κs a s y
     → (r ≡ s) × (x.1.1.1.0.now ≡ y.1.1.1.0.now)
-only-write_nak κs a r s x y p q = (p.answer ∙ sym q.answer, p.out ∙ sym q.out)
+only-write_nak κs a r s x y p q = (written-apart r s (p.answer ∙ sym q.answer), p.out ∙ sym q.out)

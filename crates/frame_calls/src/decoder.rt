@@ -1,41 +1,33 @@
 // 01, "Frames": "The decoder takes one octet a call."
 ghost use Rattle.std.specs.Prelude.{◌≡◌, true, ◌+◌, ◌≤◌, ◌<◌, ltb, take};
-ghost use Rattle.octets.specs.ExclusiveOr.{exclusive_or};
+ghost use Rattle.octets.specs.Refusals.{refusal_number};
 ghost use Rattle.frame.specs.Frame.{len_fits, info_most, message_len};
 ghost use Rattle.frame.specs.Decoder.{has_info, info_due, info_whole, err_due, cks_due, idle_drops, info_goes_on, possible_of, head_at, found_at, moved, ended, opened, refused_by, idle_octet, after_aa, after_len, len_judged, after_info, kept, info_octet, info_aa_octet, close_aa_octet, close_cc_octet, cks_in, sound_by, cks_octet, step_at};
 
 use crate::{AA, ACK_LEN, BB, CC, DD, EE, INFO_LEAST, MESSAGE_LEN, NAK_LEN};
 use frame::decoder::{Found, Head, Place, Stepped};
 use frame::{INFO_MOST, Kind};
-use octets::refusal;
+use octets::refusal::Refusal;
 
 // "Idle: AA is remembered, all else is dropped." What is dropped leaves the decoder as it is.
 pub fn idle_drops(h: Head, b: u8) -> bool
     ensures { result ≡ idle_drops h.place b }
 {
-    let p = h.place;
-    match p {
-        Place::Idle => b != AA,
-        _ => false,
-    }
+    h.place == Place::Idle && b != AA
 }
 
 // An octet of INFO, no AA, behind which others are still to come: it is kept, and the decoder stays where it is.
 pub fn info_goes_on(h: Head, b: u8) -> bool
     ensures { result ≡ info_goes_on h.place h.len h.filled b }
 {
-    let p = h.place;
-    match p {
-        Place::Info => b != AA && more_follow(h.len, h.filled),
-        _ => false,
-    }
+    h.place == Place::Info && b != AA && more_follow(h.len, h.filled)
 }
 
 // Does one more octet of INFO leave others to come?
 fn more_follow(len: u16, filled: u16) -> bool
     ensures { result ≡ ltb (message_len + (filled + 1)) len }
 {
-    MESSAGE_LEN as u32 + (filled as u32 + 1) < len as u32
+    u32::from(MESSAGE_LEN) + (u32::from(filled) + 1) < u32::from(len)
 }
 
 // Can a decoder stand so? Kind, LEN and the count of INFO must fit the place.
@@ -43,22 +35,14 @@ fn more_follow(len: u16, filled: u16) -> bool
 pub fn possible(h: Head) -> bool
     ensures { result ≡ possible_of h }
 {
-    let p = h.place;
-    let k = h.kind;
-    match p {
-        Place::Idle => true,
-        Place::LoneAa => true,
-        Place::Seq => true,
-        Place::AddrHigh => true,
+    match h.place {
+        Place::Idle | Place::LoneAa | Place::Seq | Place::AddrHigh | Place::LenHigh => true,
         Place::AddrLow => h.addr < 256,
-        Place::LenHigh => true,
         Place::LenLow => h.len < 256,
-        Place::Info => info_due(k, h.len, h.filled),
-        Place::InfoAa => info_due(k, h.len, h.filled),
-        Place::CloseAa => info_whole(k, h.len, h.filled),
-        Place::CloseCc => info_whole(k, h.len, h.filled),
-        Place::Err => err_due(k, h.len),
-        Place::Cks => cks_due(k, h.len, h.filled),
+        Place::Info | Place::InfoAa => info_due(h.kind, h.len, h.filled),
+        Place::CloseAa | Place::CloseCc => info_whole(h.kind, h.len, h.filled),
+        Place::Err => err_due(h.kind, h.len),
+        Place::Cks => cks_due(h.kind, h.len, h.filled),
     }
 }
 
@@ -66,11 +50,7 @@ pub fn possible(h: Head) -> bool
 fn has_info(k: Kind, len: u16) -> bool
     ensures { result ≡ has_info k len }
 {
-    match k {
-        Kind::Message => len_fits(k, len),
-        Kind::Ack => false,
-        Kind::Nak => false,
-    }
+    k == Kind::Message && len_fits(k, len)
 }
 
 // A message some of whose INFO is still to come.
@@ -91,11 +71,7 @@ fn info_whole(k: Kind, len: u16, filled: u16) -> bool
 fn err_due(k: Kind, len: u16) -> bool
     ensures { result ≡ err_due k len }
 {
-    match k {
-        Kind::Message => false,
-        Kind::Ack => false,
-        Kind::Nak => len_fits(k, len),
-    }
+    k == Kind::Nak && len_fits(k, len)
 }
 
 // A frame all of which but CKS is in.
@@ -104,8 +80,7 @@ fn cks_due(k: Kind, len: u16, filled: u16) -> bool
 {
     match k {
         Kind::Message => info_whole(k, len, filled),
-        Kind::Ack => len_fits(k, len),
-        Kind::Nak => len_fits(k, len),
+        Kind::Ack | Kind::Nak => len_fits(k, len),
     }
 }
 
@@ -137,9 +112,8 @@ pub(crate) fn placed(h: Head, p: Place, k: Kind) -> Head
 fn found_at(h: Head, p: Place, k: Kind, f: Found) -> Stepped
     ensures { result ≡ found_at h p k f }
 {
-    let head = placed(h, p, k);
     Stepped {
-        head,
+        head: placed(h, p, k),
         found: f,
         keeps: false,
     }
@@ -149,16 +123,14 @@ fn found_at(h: Head, p: Place, k: Kind, f: Found) -> Stepped
 fn moved(h: Head, p: Place) -> Stepped
     ensures { result ≡ moved h p }
 {
-    let k = h.kind;
-    found_at(h, p, k, Found::Nothing)
+    found_at(h, p, h.kind, Found::Nothing)
 }
 
 // Idle again, after what was found.
 fn ended(h: Head, f: Found) -> Stepped
     ensures { result ≡ ended h f }
 {
-    let k = h.kind;
-    found_at(h, Place::Idle, k, f)
+    found_at(h, Place::Idle, h.kind, f)
 }
 
 // A frame of this kind is opened, after what was found.
@@ -169,11 +141,10 @@ fn opened(h: Head, k: Kind, f: Found) -> Stepped
 }
 
 // The refusal of the frame that is open.
-fn refused_by(h: Head, n: u8) -> Found
-    ensures { result ≡ refused_by h n }
+fn refused_by(h: Head, r: Refusal) -> Found
+    ensures { result ≡ refused_by h (refusal_number r) }
 {
-    let k = h.kind;
-    Found::Refused(n, k, h.seq, h.addr)
+    Found::Refused(r.number(), h.kind, h.seq, h.addr)
 }
 
 // "Idle: AA is remembered, all else is dropped."
@@ -190,9 +161,8 @@ fn idle_octet(h: Head, b: u8) -> Stepped
 fn after_aa(h: Head, b: u8, f: Found) -> Stepped
     ensures { result ≡ after_aa h b f }
 {
-    let k = h.kind;
     match b {
-        AA => found_at(h, Place::LoneAa, k, f),
+        AA => found_at(h, Place::LoneAa, h.kind, f),
         BB => opened(h, Kind::Message, f),
         DD => opened(h, Kind::Ack, f),
         EE => opened(h, Kind::Nak, f),
@@ -215,13 +185,12 @@ fn after_len(k: Kind) -> Place
 fn len_judged(mut h: Head, n: u16) -> Stepped
     ensures { result ≡ len_judged h n }
 {
-    let k = h.kind;
-    if len_fits(k, n) {
+    if len_fits(h.kind, n) {
         h.len = n;
         h.filled = 0;
-        moved(h, after_len(k))
+        moved(h, after_len(h.kind))
     } else {
-        ended(h, refused_by(h, refusal::LEN_WRONG))
+        ended(h, refused_by(h, Refusal::LenWrong))
     }
 }
 
@@ -242,11 +211,11 @@ fn kept(mut h: Head) -> Stepped
     requires { h.filled < info_most }
     ensures { result ≡ kept h }
 {
-    let g = h.filled + 1;
-    h.filled = g;
-    let mut t = moved(h, after_info(h.len, g));
-    t.keeps = true;
-    t
+    h.filled += 1;
+    Stepped {
+        keeps: true,
+        ..moved(h, after_info(h.len, h.filled))
+    }
 }
 
 // An AA of INFO comes twice: the first is not kept.
@@ -268,7 +237,7 @@ fn info_aa_octet(h: Head, b: u8) -> Stepped
 {
     match b {
         AA => kept(h),
-        _ => after_aa(h, b, refused_by(h, refusal::CLOSING_WRONG)),
+        _ => after_aa(h, b, refused_by(h, Refusal::ClosingWrong)),
     }
 }
 
@@ -279,7 +248,7 @@ fn close_aa_octet(h: Head, b: u8) -> Stepped
 {
     match b {
         AA => moved(h, Place::CloseCc),
-        _ => ended(h, refused_by(h, refusal::CLOSING_WRONG)),
+        _ => ended(h, refused_by(h, Refusal::ClosingWrong)),
     }
 }
 
@@ -289,32 +258,26 @@ fn close_cc_octet(h: Head, b: u8) -> Stepped
 {
     match b {
         CC => moved(h, Place::Cks),
-        _ => after_aa(h, b, refused_by(h, refusal::CLOSING_WRONG)),
+        _ => after_aa(h, b, refused_by(h, Refusal::ClosingWrong)),
     }
 }
 
-// The exclusive or goes on over the first n octets of INFO.
-fn info_cks(x: u8, info: &[u8], n: u16) -> u8
-    ensures { result ≡ exclusive_or x (take n info.now) }
+// The first n octets of INFO, or all where there are fewer.
+pub(crate) fn first(info: &[u8], n: u16) -> &[u8]
+    ensures { result.now ≡ take n info.now }
 {
-    let m = n as usize;
-    if m <= info.len() {
-        octets::exclusive_or(x, &info[..m])
-    } else {
-        octets::exclusive_or(x, info)
-    }
+    &info[..usize::from(n).min(info.len())]
 }
 
 // CKS as it should come: over what is kept, so before doubling.
 fn cks(h: Head, info: &[u8]) -> u8
     ensures { result ≡ cks_in h info.now }
 {
-    let k = h.kind;
-    let f = crate::front(k, h.seq, h.addr, h.len);
+    let f = crate::front(h.kind, h.seq, h.addr, h.len);
     let x = octets::exclusive_or(0, &f);
-    match k {
+    match h.kind {
         Kind::Message => {
-            let y = info_cks(x, info, h.filled);
+            let y = octets::exclusive_or(x, first(info, h.filled));
             octets::exclusive_or(y, &[AA, CC])
         }
         Kind::Ack => x,
@@ -326,8 +289,7 @@ fn cks(h: Head, info: &[u8]) -> u8
 fn sound_by(h: Head) -> Found
     ensures { result ≡ sound_by h }
 {
-    let k = h.kind;
-    match k {
+    match h.kind {
         Kind::Message => Found::Message(h.seq, h.addr, h.filled),
         Kind::Ack => Found::Ack(h.seq, h.addr),
         Kind::Nak => Found::Nak(h.seq, h.addr, h.err),
@@ -341,7 +303,7 @@ fn cks_octet(h: Head, info: &[u8], b: u8) -> Stepped
     if cks(h, info) == b {
         ended(h, sound_by(h))
     } else {
-        ended(h, refused_by(h, refusal::CKS_WRONG))
+        ended(h, refused_by(h, Refusal::CksWrong))
     }
 }
 
@@ -350,8 +312,7 @@ pub(crate) fn step(mut h: Head, info: &[u8], b: u8) -> Stepped
     requires { possible_of h ≡ true }
     ensures { result ≡ step_at h.place h info.now b }
 {
-    let p = h.place;
-    match p {
+    match h.place {
         Place::Idle => idle_octet(h, b),
         Place::LoneAa => after_aa(h, b, Found::Nothing),
         Place::Seq => {
@@ -359,7 +320,7 @@ pub(crate) fn step(mut h: Head, info: &[u8], b: u8) -> Stepped
             moved(h, Place::AddrHigh)
         }
         Place::AddrHigh => {
-            h.addr = b as u16;
+            h.addr = u16::from(b);
             moved(h, Place::AddrLow)
         }
         Place::AddrLow => {
@@ -367,7 +328,7 @@ pub(crate) fn step(mut h: Head, info: &[u8], b: u8) -> Stepped
             moved(h, Place::LenHigh)
         }
         Place::LenHigh => {
-            h.len = b as u16;
+            h.len = u16::from(b);
             moved(h, Place::LenLow)
         }
         Place::LenLow => len_judged(h, octets::word(octets::low(h.len), b)),

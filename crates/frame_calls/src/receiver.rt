@@ -9,7 +9,7 @@ ghost use Rattle.frame.specs.Dropped.{open_at, open_in, open_most, stopped, wait
 use crate::{FRONT_LEN, decoder, writer};
 use frame::decoder::{Found, Head, Place, Received, Receiver, Stepped};
 use frame::{INFO_MOST, Kind};
-use octets::refusal;
+use octets::refusal::{NONE, Refusal};
 
 // "The number stops at 65,535".
 const DROPPED_MOST: u16 = 65535;
@@ -38,22 +38,20 @@ pub fn fresh() -> Receiver
 pub fn octet(r: Receiver, kept: &mut [u8], b: u8) -> Received
     ensures { ReceivedLeaves (octet_lent (joined_decoder r.head kept.old) r.dropped b) kept.old result kept.new }
 {
-    if kept.len() < INFO_MOST {
+    let Some(info) = kept.first_chunk::<INFO_MOST>() else {
         return unsound(r);
-    }
+    };
     let h = r.head;
     if !decoder::possible(h) {
         return unsound(r);
     }
-    let t = decoder::step(h, &kept[0..INFO_MOST], b);
+    let t = decoder::step(h, info, b);
     if t.keeps {
-        let head = t.head;
-        let found = t.found;
-        let at = h.filled as usize;
+        let at = usize::from(h.filled);
         kept[at] = b;
-        return received(head, r.dropped, found, r.dropped);
+        return received(t.head, r.dropped, t.found, r.dropped);
     }
-    counted(r, &kept[0..INFO_MOST], t)
+    counted(r, info, t)
 }
 
 // "A line-idle call, made by the host, returns the decoder to idle and changes nothing else."; 02, E5: "Line-idle counts the frame or AA it
@@ -61,16 +59,16 @@ pub fn octet(r: Receiver, kept: &mut [u8], b: u8) -> Received
 pub fn line_idle(r: Receiver, kept: &[u8]) -> Received
     ensures { received_with result kept.now ≡ idle_lent (joined_decoder r.head kept.now) r.dropped }
 {
-    if kept.len() < INFO_MOST {
+    let Some(info) = kept.first_chunk::<INFO_MOST>() else {
         return unsound(r);
-    }
+    };
     let h = r.head;
     if !decoder::possible(h) {
         return unsound(r);
     }
-    let k = h.kind;
-    let n = stopped(r.dropped as usize + still_open(h, &kept[0..INFO_MOST]));
-    received(decoder::placed(h, Place::Idle, k), n, Found::Nothing, n)
+    let n = stopped(usize::from(r.dropped) + still_open(h, info));
+    let idle = decoder::placed(h, Place::Idle, h.kind);
+    received(idle, n, Found::Nothing, n)
 }
 
 // "state handed in is unsound": "same state"; no number is told.
@@ -78,7 +76,7 @@ fn unsound(r: Receiver) -> Received
     ensures { result ≡ received_none r }
 {
     Received {
-        refusal: refusal::STATE_UNSOUND,
+        refusal: Refusal::StateUnsound.number(),
         receiver: r,
         found: Found::Nothing,
         dropped: 0,
@@ -90,7 +88,7 @@ fn received(head: Head, kept: u16, found: Found, told: u16) -> Received
     ensures { result ≡ received_as head kept found told }
 {
     Received {
-        refusal: refusal::NONE,
+        refusal: NONE,
         receiver: Receiver {
             head,
             dropped: kept,
@@ -101,26 +99,18 @@ fn received(head: Head, kept: u16, found: Found, told: u16) -> Received
 }
 
 // The number after an octet that is not kept. An octet that goes on with its frame leaves the number, so what is open is not worked out.
-fn counted(r: Receiver, info: &[u8], t: Stepped) -> Received
-    requires { (length info.now ≡ info_most) × (OpenThen r.head info.now t) }
+fn counted(r: Receiver, info: &[u8; INFO_MOST], t: Stepped) -> Received
+    requires { OpenThen r.head info.now t }
     ensures { result ≡ received_by t.found t.head r.dropped (stopped ((r.dropped + open_in r.head info.now + 1) - open_in t.head info.now)) }
 {
-    let head = t.head;
-    let found = t.found;
-    match found {
-        Found::Nothing => {
-            if waits(head) {
-                let n = number_then(r, info, head);
-                return received(head, n, found, n);
-            }
-            received(head, r.dropped, found, r.dropped)
-        }
-        Found::Refused(_, _, _, _) => {
-            let n = number_then(r, info, head);
-            received(head, n, found, n)
+    match t.found {
+        Found::Nothing if !waits(t.head) => received(t.head, r.dropped, t.found, r.dropped),
+        Found::Nothing | Found::Refused(..) => {
+            let n = number_then(r, info, t.head);
+            received(t.head, n, t.found, n)
         }
         // "the next sound frame carries it out and clears it"
-        _ => received(head, 0, found, r.dropped),
+        _ => received(t.head, 0, t.found, r.dropped),
     }
 }
 
@@ -128,21 +118,15 @@ fn counted(r: Receiver, info: &[u8], t: Stepped) -> Received
 fn waits(h: Head) -> bool
     ensures { result ≡ waits h.place }
 {
-    let p = h.place;
-    match p {
-        Place::Idle => true,
-        Place::LoneAa => true,
-        _ => false,
-    }
+    matches!(h.place, Place::Idle | Place::LoneAa)
 }
 
 // The octets that were open, and the one that was taken, are dropped but for those that are open then.
-fn number_then(r: Receiver, info: &[u8], then: Head) -> u16
-    requires { (length info.now ≡ info_most) × (open_in then info.now ≤ open_in r.head info.now + 1) }
+fn number_then(r: Receiver, info: &[u8; INFO_MOST], then: Head) -> u16
+    requires { open_in then info.now ≤ open_in r.head info.now + 1 }
     ensures { result ≡ stopped ((r.dropped + open_in r.head info.now + 1) - open_in then info.now) }
 {
-    let h = r.head;
-    let before = r.dropped as usize + still_open(h, info);
+    let before = usize::from(r.dropped) + still_open(r.head, info);
     stopped(before + 1 - still_open(then, info))
 }
 
@@ -151,20 +135,14 @@ fn number_then(r: Receiver, info: &[u8], then: Head) -> u16
 pub fn stopped(n: usize) -> u16
     ensures { result ≡ stopped n }
 {
-    if n <= DROPPED_MOST as usize {
-        return n as u16;
-    }
-    DROPPED_MOST
+    n.min(usize::from(DROPPED_MOST)) as u16
 }
 
 // "Octets of a frame still open, or a remembered AA": how many of them have been taken.
-fn still_open(h: Head, info: &[u8]) -> usize
-    requires { length info.now ≡ info_most }
+fn still_open(h: Head, info: &[u8; INFO_MOST]) -> usize
     ensures { (result ≡ open_in h info.now) × (result ≤ open_most) }
 {
-    let p = h.place;
-    let k = h.kind;
-    match p {
+    match h.place {
         Place::Idle => 0,
         Place::LoneAa => 1,
         Place::Seq => 2,
@@ -172,18 +150,15 @@ fn still_open(h: Head, info: &[u8]) -> usize
         Place::AddrLow => 4,
         Place::LenHigh => 5,
         Place::LenLow => 6,
-        Place::Info => FRONT_LEN + came(h.filled, info),
-        Place::InfoAa => FRONT_LEN + came(h.filled, info) + 1,
-        Place::CloseAa => FRONT_LEN + came(h.filled, info),
-        Place::CloseCc => FRONT_LEN + came(h.filled, info) + 1,
+        Place::Info | Place::CloseAa => FRONT_LEN + came(h.filled, info),
+        Place::InfoAa | Place::CloseCc => FRONT_LEN + came(h.filled, info) + 1,
         Place::Err => FRONT_LEN,
-        Place::Cks => FRONT_LEN + behind_len(k, h.filled, info),
+        Place::Cks => FRONT_LEN + behind_len(h.kind, h.filled, info),
     }
 }
 
 // What came between LEN and CKS.
-fn behind_len(k: Kind, filled: u16, info: &[u8]) -> usize
-    requires { length info.now ≡ info_most }
+fn behind_len(k: Kind, filled: u16, info: &[u8; INFO_MOST]) -> usize
     ensures { (7 + result ≡ open_at Cks k (take filled info.now)) × (7 + result ≤ open_most) }
 {
     match k {
@@ -194,14 +169,8 @@ fn behind_len(k: Kind, filled: u16, info: &[u8]) -> usize
 }
 
 // The first n octets of INFO as they came: of a doubled AA both.
-fn came(n: u16, info: &[u8]) -> usize
-    requires { length info.now ≡ info_most }
+fn came(n: u16, info: &[u8; INFO_MOST]) -> usize
     ensures { (result ≡ length (doubled (take n info.now))) × (result ≤ info_most + info_most) }
 {
-    let m = n as usize;
-    if m <= info.len() {
-        writer::doubled_len(&info[..m])
-    } else {
-        writer::doubled_len(info)
-    }
+    writer::doubled_len(decoder::first(info, n))
 }

@@ -3,32 +3,39 @@ ghost use Rattle.std.specs.Prelude.{◌≡◌, ◌++◌, ◌+◌, ◌≤◌, leb
 ghost use Rattle.octets.specs.Choice.{both};
 ghost use Rattle.octets.specs.Put.{Stored};
 ghost use Rattle.frame.specs.Frame.{message, ack, nak, twice, doubled, info_least, info_most};
-ghost use Rattle.octets.specs.Writing.{WriterLeaves, written_as};
+ghost use Rattle.octets.specs.Refusals.{told_number};
+ghost use Rattle.octets.specs.Writing.{WriterLeaves, written_as, written_of};
 ghost use Rattle.frame.specs.Writer.{write_frame, RefusesMessage};
 
 use crate::{AA, ACK_LEN, CC, INFO_LEAST, MESSAGE_LEN, NAK_LEN};
 use frame::{INFO_MOST, Kind};
-use octets::{Written, refusal};
+use octets::refusal::Refusal;
 
 // A message frame. INFO that is not 2 to 256 long is refused before the output is looked at.
-pub fn write_message(seq: u8, addr: u16, info: &[u8], out: &mut [u8], at: usize) -> Written
-    ensures { WriterLeaves (write_frame (message seq addr info.now) at out.old) result out.new }
+pub fn write_message(
+    seq: u8,
+    addr: u16,
+    info: &[u8],
+    out: &mut [u8],
+    at: usize,
+) -> Result<usize, Refusal>
+    ensures { WriterLeaves (write_frame (message seq addr info.now) at out.old) (written_of result) out.new }
 {
-    write_message_from(seq, addr, info, &[0u8; 0], out, at)
+    write_message_from(seq, addr, info, &[], out, at)
 }
 
 // What `write_message` would refuse, with nothing written: the caller may have something else to look at first.
-pub fn refuses_message(info: &[u8], out: &[u8], at: usize) -> u8
-    ensures { RefusesMessage info.now at out.now result }
+pub fn refuses_message(info: &[u8], out: &[u8], at: usize) -> Option<Refusal>
+    ensures { RefusesMessage info.now at out.now (told_number result) }
 {
     if !info_fits(info.len(), 0) {
-        return refusal::INFO_WRONG;
+        return Some(Refusal::InfoWrong);
     }
-    let long = MESSAGE_LEN as usize + doubled_len(info);
+    let long = usize::from(MESSAGE_LEN) + doubled_len(info);
     if !octets::room(out.len(), at, long) {
-        return refusal::OUTPUT_SHORT;
+        return Some(Refusal::OutputShort);
     }
-    refusal::NONE
+    None
 }
 
 // A message frame whose INFO stands in two places, one run of octets behind the other: it is put together nowhere but in the output.
@@ -39,14 +46,11 @@ pub fn write_message_from(
     rest: &[u8],
     out: &mut [u8],
     at: usize,
-) -> Written
-    ensures { WriterLeaves (write_frame (message seq addr (head.now ++ rest.now)) at out.old) result out.new }
+) -> Result<usize, Refusal>
+    ensures { WriterLeaves (write_frame (message seq addr (head.now ++ rest.now)) at out.old) (written_of result) out.new }
 {
     if !info_fits(head.len(), rest.len()) {
-        return Written {
-            refusal: refusal::INFO_WRONG,
-            count: 0,
-        };
+        return Err(Refusal::InfoWrong);
     }
     let n = head.len() + rest.len();
     let f = crate::front(Kind::Message, seq, addr, MESSAGE_LEN + n as u16);
@@ -56,36 +60,30 @@ pub fn write_message_from(
     write_parts(&f, head, rest, &e, out, at)
 }
 
-pub fn write_ack(seq: u8, addr: u16, out: &mut [u8], at: usize) -> Written
-    ensures { WriterLeaves (write_frame (ack seq addr) at out.old) result out.new }
+pub fn write_ack(seq: u8, addr: u16, out: &mut [u8], at: usize) -> Result<usize, Refusal>
+    ensures { WriterLeaves (write_frame (ack seq addr) at out.old) (written_of result) out.new }
 {
     let f = crate::front(Kind::Ack, seq, addr, ACK_LEN);
     let e = [octets::exclusive_or(0, &f)];
-    write_plain(&f, &e, out, at)
+    write_parts(&f, &[], &[], &e, out, at)
 }
 
-pub fn write_nak(seq: u8, addr: u16, err: u8, out: &mut [u8], at: usize) -> Written
-    ensures { WriterLeaves (write_frame (nak seq addr err) at out.old) result out.new }
+pub fn write_nak(seq: u8, addr: u16, err: u8, out: &mut [u8], at: usize) -> Result<usize, Refusal>
+    ensures { WriterLeaves (write_frame (nak seq addr err) at out.old) (written_of result) out.new }
 {
     let f = crate::front(Kind::Nak, seq, addr, NAK_LEN);
     let e = [
         err,
         octets::exclusive_or(octets::exclusive_or(0, &f), &[err]),
     ];
-    write_plain(&f, &e, out, at)
+    write_parts(&f, &[], &[], &e, out, at)
 }
 
 // "n from 2 to 256", of INFO in two runs
 fn info_fits(head: usize, rest: usize) -> bool
     ensures { result ≡ both (leb info_least (head + rest)) (leb (head + rest) info_most) }
 {
-    if INFO_MOST < head {
-        return false;
-    }
-    if INFO_MOST - head < rest {
-        return false;
-    }
-    INFO_LEAST <= head + rest
+    head <= INFO_MOST && rest <= INFO_MOST - head && INFO_LEAST <= head + rest
 }
 
 // The front of a frame, its INFO with each AA twice, and its end, where there is room for all of it.
@@ -96,45 +94,19 @@ fn write_parts(
     end: &[u8],
     out: &mut [u8],
     at: usize,
-) -> Written
+) -> Result<usize, Refusal>
     requires { (length front.now ≤ info_most) × (length head.now ≤ info_most) × (length rest.now ≤ info_most) × (length end.now ≤ info_most) }
-    ensures { WriterLeaves (written_as (front.now ++ (doubled head.now ++ (doubled rest.now ++ end.now))) at out.old) result out.new }
+    ensures { WriterLeaves (written_as (front.now ++ (doubled head.now ++ (doubled rest.now ++ end.now))) at out.old) (written_of result) out.new }
 {
     let need = front.len() + doubled_len(head) + doubled_len(rest) + end.len();
     if !octets::room(out.len(), at, need) {
-        return Written {
-            refusal: refusal::OUTPUT_SHORT,
-            count: 0,
-        };
+        return Err(Refusal::OutputShort);
     }
     let p = octets::put(front, &mut *out, at);
     let h = put_doubled(head, &mut *out, p);
     let q = put_doubled(rest, &mut *out, h);
     octets::put(end, &mut *out, q);
-    Written {
-        refusal: refusal::NONE,
-        count: need,
-    }
-}
-
-// A frame without INFO: its front and its end, where there is room for both.
-fn write_plain(front: &[u8], end: &[u8], out: &mut [u8], at: usize) -> Written
-    requires { (length front.now ≤ info_most) × (length end.now ≤ info_most) }
-    ensures { WriterLeaves (written_as (front.now ++ end.now) at out.old) result out.new }
-{
-    let n = front.len() + end.len();
-    if !octets::room(out.len(), at, n) {
-        return Written {
-            refusal: refusal::OUTPUT_SHORT,
-            count: 0,
-        };
-    }
-    let p = octets::put(front, &mut *out, at);
-    octets::put(end, &mut *out, p);
-    Written {
-        refusal: refusal::NONE,
-        count: n,
-    }
+    Ok(need)
 }
 
 // How many octets INFO is as sent.
@@ -142,18 +114,7 @@ pub(crate) fn doubled_len(info: &[u8]) -> usize
     requires { length info.now ≤ info_most }
     ensures { (result ≡ length (doubled info.now)) × (result ≤ info_most + info_most) }
 {
-    let mut n: usize = 0;
-    for i in 0..info.len() {
-        n += twice_len(info[i]);
-    }
-    n
-}
-
-#[tactic(auto, unfolding(frame::specs::Frame::twice))]
-fn twice_len(b: u8) -> usize
-    ensures { (result ≡ length (twice b)) × (result ≤ 2) }
-{
-    if b == AA { 2 } else { 1 }
+    info.len() + info.iter().filter(|b| **b == AA).count()
 }
 
 // INFO as sent.
@@ -162,9 +123,8 @@ fn put_doubled(info: &[u8], out: &mut [u8], at: usize) -> usize
     ensures { Stored (doubled info.now) at out.old result out.new }
 {
     let mut p = at;
-    for i in 0..info.len() {
-        let b = info[i];
-        p = put_twice(b, &mut *out, p);
+    for b in info {
+        p = put_twice(*b, &mut *out, p);
     }
     p
 }

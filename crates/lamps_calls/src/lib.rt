@@ -2,31 +2,22 @@
 
 #![tactic(auto)]
 
-ghost use Rattle.std.specs.Prelude.{◌≡◌, ◌-◌, ◌≤◌, ◌<◌, length, get_or};
+ghost use Rattle.std.specs.Prelude.{◌≡◌, ◌≤◌, ◌<◌, length, get_or};
 ghost use Rattle.record.specs.Record.{k_of, ready_end};
 ghost use Rattle.lamps.specs.Rows.{green_less, table_of, phase_table, table_sum, row_of, phase_rows, no_row, row_at};
 
 use lamps::{NO_ROW, Row};
-use record::{ALL_RED, GREEN_LEN, HEAD_LEN, RED_MAN, TIMES_LEN, WALK_FLASH, YELLOW};
+use record::{ALL_RED, GREEN_LEN, RED_MAN, WALK_FLASH, YELLOW};
 
 const STEPS: usize = diagram::STEPS_A_PHASE as usize;
-
-// a less b, and 0 where that would be below 0.
-fn less(a: u16, b: u8) -> u16
-    ensures { result ≡ a - b }
-{
-    let b = b as u16;
-    if a < b {
-        return 0;
-    }
-    a - b
-}
 
 // "green less walk flash less red man", and never below 0.
 fn green_less(green: u16, flash: u8, man: u8) -> u16
     ensures { result ≡ green_less green flash man }
 {
-    less(less(green, flash), man)
+    green
+        .saturating_sub(u16::from(flash))
+        .saturating_sub(u16::from(man))
 }
 
 // The seconds of a phase's five steps, from its green, walk flash, red man, yellow and all-red.
@@ -36,10 +27,10 @@ fn table_of(green: u16, flash: u8, man: u8, yellow: u8, red: u8) -> [u16; STEPS]
     let before_flash = green_less(green, flash, man);
     [
         before_flash,
-        flash as u16,
-        man as u16,
-        yellow as u16,
-        red as u16,
+        u16::from(flash),
+        u16::from(man),
+        u16::from(yellow),
+        u16::from(red),
     ]
 }
 
@@ -49,8 +40,8 @@ fn table_in(rec: &[u8], i: u8) -> [u16; STEPS]
     requires { (i < k_of rec.now) × (ready_end rec.now ≤ length rec.now) }
     ensures { result ≡ phase_table rec.now i }
 {
-    let times = HEAD_LEN + TIMES_LEN * i as usize;
-    let green = record::greens_at(rec) + GREEN_LEN * i as usize;
+    let times = record::times_at(i);
+    let green = record::greens_at(rec) + GREEN_LEN * usize::from(i);
     table_of(
         octets::word(rec[green], rec[green + 1]),
         rec[times + WALK_FLASH],
@@ -82,13 +73,7 @@ fn phase_table(rec: &[u8], i: u8) -> [u16; STEPS]
 fn table_sum(table: [u16; STEPS]) -> u32
     ensures { result ≡ table_sum table }
 {
-    wide(table[0]) + wide(table[1]) + wide(table[2]) + wide(table[3]) + wide(table[4])
-}
-
-fn wide(seconds: u16) -> u32
-    ensures { (result ≡ seconds) × (result < 65536) }
-{
-    seconds as u32
+    table.iter().map(|seconds| u32::from(*seconds)).sum()
 }
 
 // A second of a step: its lamps are the diagram's.
@@ -110,14 +95,12 @@ fn row_in(rec: &[u8], i: u8, table: [u16; STEPS], on: u16) -> Row
     ensures { result ≡ get_or (phase_rows rec.now i) on no_row }
 {
     let first = diagram::STEPS_A_PHASE * i as u16 + 1;
-    let end = first + diagram::STEPS_A_PHASE;
     let mut rest = on;
-    for step in first..end {
-        let here = table[(step - first) as usize];
-        if rest < here {
-            return row_of(record::order(rec), step, here - rest);
+    for (j, here) in table.iter().enumerate() {
+        if rest < *here {
+            return row_of(record::order(rec), first + j as u16, *here - rest);
         }
-        rest = rest - here;
+        rest = rest - *here;
     }
     NO_ROW
 }

@@ -1,24 +1,30 @@
 -- The promises of specs/Promises.antt: what has been seen tells the octets that were, but for a bad line's.
-use Rattle.std.proofs.Common.{◌≡◌, ℕ, zero, suc, ◌+◌, ◌*◌, ◌%◌, ◌<◌, ◌≤◌, true, eqb, leb, List, [], ◌∷◌, ◌++◌, length, replicate, sym, refl, ap, ◌∙◌, append_assoc, append-nil, arith, ne_eqb, eqb-true, leb-true}
-use borrow.Author.Tests.{eqb-false}
+use Rattle.std.proofs.Common.{◌≡◌, ℕ, zero, suc, ◌+◌, ◌*◌, ◌%◌, ◌<◌, ◌≤◌, true, eqb, leb, List, [], ◌∷◌, ◌++◌, length, replicate, sym, refl, ap, ◌∙◌, append_assoc, append-nil, arith, ne_eqb, eqb-true, leb-true, Option, Some, None}
+use Rattle.std.specs.Option.{option_map_or}
+use Rattle.std.proofs.lemmas.Option.{none-some, same_Some}
 use Rattle.octets.proofs.Laws.{pick-by, both_left, both_right}
 use Rattle.line.specs.declared.Seen.{Seen}
 use Rattle.line.specs.declared.Seen.TheVariants as seen
 use Rattle.line.specs.declared.LineFound.{LineFound}
 use Rattle.line.specs.declared.LineFound.TheVariants as found
 use Rattle.line.specs.declared.Line.{Line}
-use Rattle.line.specs.Line.{letter_t, letter_b, tab, line_feed, no_digit, within, hex_of, seen_of, whole_of, line_numbered, next_number, line_octet, end_in, end_of}
+use Rattle.line.specs.Line.{letter_t, letter_b, tab, line_feed, within, hex_of, seen_of, whole_of, line_numbered, next_number, line_octet, end_in, end_of}
 use Rattle.line.specs.Promises.{Hex, digit, capital, small, IsSecond, IsOctet, IsBad, Is, second, octet, bad, LineIsOne, NoFeed, founds, line_after, LineRead, lines_found, found_in, with_feeds, NoFeeds, last_line, Are, none, more, InputRead}
 use Rattle.line.proofs.Laws.{inside, above}
 
 -- Digits
 
-hex-of : {c v : ℕ} → Hex c v → hex_of c ≡ v
+some-same : {v w : ℕ} → v ≡ w → Some v ≡ Some w
+some-same e = rw e
+
+hex-of : {c v : ℕ} → Hex c v → hex_of c ≡ Some v
 unfolding hex_of
-hex-of {c} {v} (digit h e) = rw (inside 0x30 0x39 c (omega arith) (omega arith)) (omega arith)
-hex-of {c} {v} (capital g h e) = rw (above 0x30 0x39 c (omega arith) (omega arith), inside 0x41 0x46 c (omega arith) (omega arith)) (omega arith)
+hex-of {c} {v} (digit h e) = rw (inside 0x30 0x39 c (omega arith) (omega arith)) (some-same (omega arith))
+hex-of {c} {v} (capital g h e) =
+    rw (above 0x30 0x39 c (omega arith) (omega arith), inside 0x41 0x46 c (omega arith) (omega arith)) (some-same (omega arith))
 hex-of {c} {v} (small g h e) =
-    rw (above 0x30 0x39 c (omega arith) (omega arith), above 0x41 0x46 c (omega arith) (omega arith), inside 0x61 0x66 c (omega arith) (omega arith)) (omega arith)
+    rw (above 0x30 0x39 c (omega arith) (omega arith), above 0x41 0x46 c (omega arith) (omega arith), inside 0x61 0x66 c (omega arith) (omega arith))
+    (some-same (omega arith))
 
 hex-small : {c v : ℕ} → Hex c v → v < 16
 hex-small (digit h e) = omega arith
@@ -29,16 +35,20 @@ in-range : (a z o : ℕ) → within a z o ≡ true → (a ≤ o) × (o ≤ z)
 in-range a z o h = (leb-true a o (both_left (leb a o) (leb o z) h), leb-true o z (both_right (leb a o) (leb o z) h))
 
 -- what has a value is a digit
-hex-is : (c : ℕ) → (hex_of c ≡ no_digit → ⊥) → Hex c (hex_of c)
+hex-is : (c v : ℕ) → hex_of c ≡ Some v → Hex c v
 unfolding hex_of
-hex-is c =
-    pick-by (λ (v : ℕ). (v ≡ no_digit → ⊥) → Hex c v) (within 0x30 0x39 c)
-    (λ h _. let r = in-range 0x30 0x39 c h in digit (omega arith) (omega arith))
-    (λ _. pick-by (λ (v : ℕ). (v ≡ no_digit → ⊥) → Hex c v) (within 0x41 0x46 c)
-    (λ h _. let r = in-range 0x41 0x46 c h in capital (omega arith) (omega arith) (omega arith))
-    (λ _. pick-by (λ (v : ℕ). (v ≡ no_digit → ⊥) → Hex c v) (within 0x61 0x66 c)
-    (λ h _. let r = in-range 0x61 0x66 c h in small (omega arith) (omega arith) (omega arith))
-    (λ _ p. absurd (p refl))))
+hex-is c v =
+    pick-by (λ (o : Option ℕ). o ≡ Some v → Hex c v) (within 0x30 0x39 c)
+    (λ h e. let r = in-range 0x30 0x39 c h in let d = same_Some _ _ e in digit (omega (arith, d)) (omega (arith, d)))
+    (λ _. pick-by (λ (o : Option ℕ). o ≡ Some v → Hex c v) (within 0x41 0x46 c)
+    (λ h e. let r = in-range 0x41 0x46 c h in let d = same_Some _ _ e in capital (omega (arith, d)) (omega (arith, d)) (omega (arith, d)))
+    (λ _. pick-by (λ (o : Option ℕ). o ≡ Some v → Hex c v) (within 0x61 0x66 c)
+    (λ h e. let r = in-range 0x61 0x66 c h in let d = same_Some _ _ e in small (omega (arith, d)) (omega (arith, d)) (omega (arith, d)))
+    (λ _ e. absurd (none-some v e))))
+
+map-or-by : {A B : Type 0} (P : B → Type 0) (f : A → B) (o : Option A) {b : B} → ((x : A) → o ≡ Some x → P (f x)) → P b → P (option_map_or f o b)
+map-or-by P f None g h = h
+map-or-by P f (Some x) g h = g x refl
 
 -- What has been seen
 
@@ -65,21 +75,21 @@ led_on seen.Second xs o e = tt
 led_on seen.Begun xs o e =
     pick-by (λ (s : Seen). Led s (xs ++ (o ∷ []))) (eqb o tab) (λ t. rw (e, eqb-true o tab t)) (λ _. tt)
 led_on seen.Tab xs o e =
-    pick-by (λ (s : Seen). Led s (xs ++ (o ∷ []))) (eqb (hex_of o) no_digit) (λ _. tt)
-    (λ t. record { c = o; octets = rw e; high = hex-is o (eqb-false (hex_of o) no_digit t) })
+    map-or-by (λ (s : Seen). Led s (xs ++ (o ∷ []))) _ (hex_of o) (λ w k. record { c = o; octets = rw e; high = hex-is o w k }) tt
 led_on (seen.High h) xs o e =
-    pick-by (λ (s : Seen). Led s (xs ++ (o ∷ []))) (eqb (hex_of o) no_digit) (λ _. tt)
-    (λ t. let k = hex-is o (eqb-false (hex_of o) no_digit t) in
+    map-or-by (λ (s : Seen). Led s (xs ++ (o ∷ []))) _ (hex_of o)
+    (λ w t. let k = hex-is o w t in
     record {
       c = e.c;
       d = o;
       v = h;
-      w = hex_of o;
+      w = w;
       octets = rw e.octets;
       high = e.high;
       low = k;
       value = omega (arith, hex-small e.high, hex-small k);
     })
+    tt
 led_on (seen.Octet b) xs o e = tt
 led_on seen.Bad xs o e = tt
 
@@ -100,7 +110,7 @@ to-octet xs b e =
     let h = hex-small e.high in
     let k = hex-small e.low in
     let m : b ≡ e.v % 16 * 16 + e.w % 16 = omega (arith, e.value) in
-    rw (e.octets, hex-of e.high, ne_eqb e.v no_digit (λ z. omega arith), hex-of e.low, ne_eqb e.w no_digit (λ z. omega arith), m)
+    rw (e.octets, hex-of e.high, hex-of e.low, m)
 
 -- a line that is found bad is neither
 is-bad : (n : ℕ) (xs : List ℕ) → whole_of (seen_all seen.Nothing xs) n ≡ found.Bad n → IsBad xs
@@ -124,7 +134,7 @@ is_whole n xs = is-told n xs (seen_all seen.Nothing xs) refl (led seen.Nothing [
 
 -- Octet by octet
 
-on-more : (s : Seen) (n o : ℕ) → (o ≡ line_feed → ⊥) → line_octet (record { seen = s; number = n }) o ≡ record { line = record { seen = seen_of s o; number = n }; found = found.More }
+on-more : (s : Seen) (n o : ℕ) → (o ≡ line_feed → ⊥) → line_octet (record { seen = s; number = n }) o ≡ record { line = record { seen = seen_of s o; number = n }; found = None }
 unfolding line_octet
 on-more s n o h = rw (ne_eqb o line_feed h)
 
@@ -133,16 +143,16 @@ unfolding line_after
 after-all s n [] h = refl
 after-all s n (x ∷ xs) h = rw (on-more s n x h.0) (after-all (seen_of s x) n xs h.1)
 
-founds-more : (s : Seen) (n : ℕ) (xs : List ℕ) → NoFeed xs → founds (record { seen = s; number = n }) xs ≡ replicate (length xs) found.More
+founds-more : (s : Seen) (n : ℕ) (xs : List ℕ) → NoFeed xs → founds (record { seen = s; number = n }) xs ≡ replicate (length xs) None
 unfolding founds
 founds-more s n [] h = refl
-founds-more s n (x ∷ xs) h = rw (on-more s n x h.0) (ap {B = List LineFound} (λ fs. found.More ∷ fs) (founds-more (seen_of s x) n xs h.1))
+founds-more s n (x ∷ xs) h = rw (on-more s n x h.0) (ap {B = List (Option LineFound)} (λ fs. None ∷ fs) (founds-more (seen_of s x) n xs h.1))
 
 pub line_read : LineRead
 unfolding line_octet
 line_read n xs h =
     let e = after-all seen.Nothing n xs h in
-    record { before = founds-more seen.Nothing n xs h; found = rw e (is_whole n xs); next = rw e }
+    record { before = founds-more seen.Nothing n xs h; line = whole_of (seen_all seen.Nothing xs) n; found = rw e; is = is_whole n xs; next = rw e }
 
 pub line-is-one : LineIsOne
 line-is-one n xs f g (second p) (second q) = refl
@@ -160,22 +170,16 @@ line-is-one n xs f g (bad p) (bad q) = refl
 founds-append : (l : Line) (xs ys : List ℕ) → founds l (xs ++ ys) ≡ founds l xs ++ founds (line_after l xs) ys
 unfolding founds line_after
 founds-append l [] ys = refl
-founds-append l (x ∷ xs) ys = ap {B = List LineFound} (λ fs. (line_octet l x).found ∷ fs) (founds-append (line_octet l x).line xs ys)
+founds-append l (x ∷ xs) ys = ap {B = List (Option LineFound)} (λ fs. (line_octet l x).found ∷ fs) (founds-append (line_octet l x).line xs ys)
 
 after-append : (l : Line) (xs ys : List ℕ) → line_after l (xs ++ ys) ≡ line_after (line_after l xs) ys
 unfolding line_after
 after-append l [] ys = refl
 after-append l (x ∷ xs) ys = after-append (line_octet l x).line xs ys
 
-ended-more : (k : ℕ) (fs : List LineFound) → lines_found (replicate k found.More ++ fs) ≡ lines_found fs
+ended-more : (k : ℕ) (fs : List (Option LineFound)) → lines_found (replicate k None ++ fs) ≡ lines_found fs
 ended-more zero fs = refl
 ended-more (suc k) fs = ended-more k fs
-
--- what is found is told
-ended_is : (n : ℕ) (xs : List ℕ) (f : LineFound) (fs : List LineFound) → Is n xs f → lines_found (f ∷ fs) ≡ f ∷ lines_found fs
-ended_is n xs f fs (second p) = refl
-ended_is n xs f fs (octet p) = refl
-ended_is n xs f fs (bad p) = refl
 
 line_first : (n : ℕ) (xs os : List ℕ) → NoFeed xs → found_in (line_numbered n) (xs ++ (line_feed ∷ os)) ≡ whole_of (seen_all seen.Nothing xs) n ∷ found_in (line_numbered (next_number n)) os
 unfolding found_in founds line_after line_octet
@@ -183,10 +187,10 @@ line_first n xs os h =
     let f = whole_of (seen_all seen.Nothing xs) n in
     let fs = founds (line_numbered (next_number n)) os ++ (end_of (line_after (line_numbered (next_number n)) os) ∷ []) in
     rw (founds-append (line_numbered n) xs (line_feed ∷ os), after-append (line_numbered n) xs (line_feed ∷ os), after-all seen.Nothing n xs h, founds-more seen.Nothing n xs h, append_assoc)
-    (ended-more (length xs) (f ∷ fs) ∙ ended_is n xs f fs (is_whole n xs))
+    (ended-more (length xs) (Some f ∷ fs))
 
 -- where something was seen, the end of the input finds what a line feed would
-end_whole : (n : ℕ) (s : Seen) (x : ℕ) (xs : List ℕ) → Led s (x ∷ xs) → end_in s n ≡ whole_of s n
+end_whole : (n : ℕ) (s : Seen) (x : ℕ) (xs : List ℕ) → Led s (x ∷ xs) → end_in s n ≡ Some (whole_of s n)
 end_whole n seen.Nothing x xs e = absurd (let z : ◌≡◌ {A = ℕ} 0 1 = cc in omega arith)
 end_whole n seen.Second x xs e = refl
 end_whole n seen.Begun x xs e = refl
@@ -206,7 +210,7 @@ last-read n (x ∷ xs) h =
     let s = seen_all seen.Nothing (x ∷ xs) in
     let i = is_whole n (x ∷ xs) in
     let e = end_whole n s x xs (led seen.Nothing [] (x ∷ xs) refl) in
-    rw (last_found n (x ∷ xs) h, e, ended_is n (x ∷ xs) (whole_of s n) [] i) (more i none)
+    rw (last_found n (x ∷ xs) h, e) (more i none)
 
 read-from : (n : ℕ) (ls : List (List ℕ)) (last : List ℕ) → NoFeeds ls → NoFeed last → Are n (ls ++ last_line last) (found_in (line_numbered n) (with_feeds ls ++ last))
 read-from n [] last h k = last-read n last k

@@ -1,5 +1,6 @@
 -- 01, "Cases": the listing program "reads lines: `T` is a second, `B`, tab, two hex digits an octet".
-use Rattle.std.specs.Prelude.{ℕ, ◌+◌, ◌-◌, ◌*◌, ◌%◌, ◌^◌, Bool, ◌==◌, nat_le}
+use Rattle.std.specs.Prelude.{ℕ, ◌+◌, ◌-◌, ◌*◌, ◌%◌, ◌^◌, Bool, ◌==◌, nat_le, Option, Some, None}
+use Rattle.std.specs.Option.{option_map_or}
 use Rattle.octets.specs.Choice.{pick, both}
 use Rattle.line.specs.declared.Seen.{Seen}
 use Rattle.line.specs.declared.Seen.TheVariants as seen
@@ -21,19 +22,15 @@ tab = 0x09
 abbrev pub line_feed : ℕ
 line_feed = 0x0A
 
--- what stands for no digit's value
-abbrev pub no_digit : ℕ
-no_digit = 16
-
 abbrev pub within : ℕ → ℕ → ℕ → Bool
 within a z o = both (nat_le a o) (nat_le o z)
 
 -- "Hex .. is read in either case": `0` to `9`, `A` to `F`, `a` to `f`
-unfoldable pub hex_of : ℕ → ℕ
+unfoldable pub hex_of : ℕ → Option ℕ
 hex_of o =
-    pick (within 0x30 0x39 o) (o - 0x30)
-    (pick (within 0x41 0x46 o) (o - 0x41 + 10)
-    (pick (within 0x61 0x66 o) (o - 0x61 + 10) no_digit))
+    pick (within 0x30 0x39 o) (Some (o - 0x30))
+    (pick (within 0x41 0x46 o) (Some (o - 0x41 + 10))
+    (pick (within 0x61 0x66 o) (Some (o - 0x61 + 10)) None))
 
 -- What has been seen with one octet more, which is no line feed
 
@@ -44,10 +41,10 @@ abbrev pub due_of : ℕ → ℕ → Seen → Seen
 due_of o only then = pick (o == only) then seen.Bad
 
 abbrev pub high_digit : ℕ → Seen
-high_digit o = pick (hex_of o == no_digit) seen.Bad (seen.High (hex_of o))
+high_digit o = option_map_or seen.High (hex_of o) seen.Bad
 
 abbrev pub low_digit : ℕ → ℕ → Seen
-low_digit h o = pick (hex_of o == no_digit) seen.Bad (seen.Octet (h % 16 * 16 + hex_of o % 16))
+low_digit h o = option_map_or (λ (d : ℕ). seen.Octet (h % 16 * 16 + d % 16)) (hex_of o) seen.Bad
 
 abbrev pub seen_of : Seen → ℕ → Seen
 seen_of seen.Nothing o = first_seen o
@@ -84,18 +81,18 @@ next_number n = (n + 1) % 2 ^ 64
 -- one octet of the input
 unfoldable pub line_octet : Line → ℕ → LineTaken
 line_octet l o =
-    pick (o == line_feed) (record { line = line_numbered (next_number l.number); found = whole_of l.seen l.number })
-    (record { line = record { seen = seen_of l.seen o; number = l.number }; found = found.More })
+    pick (o == line_feed) (record { line = line_numbered (next_number l.number); found = Some (whole_of l.seen l.number) })
+    (record { line = record { seen = seen_of l.seen o; number = l.number }; found = None })
 
 -- what the end of the input finds in what has been seen of line n; nothing seen is no line
-abbrev pub end_in : Seen → ℕ → LineFound
-end_in seen.Nothing n = found.More
-end_in seen.Second n = found.Second
-end_in (seen.Octet b) n = found.Octet b
-end_in seen.Begun n = found.Bad n
-end_in seen.Tab n = found.Bad n
-end_in (seen.High h) n = found.Bad n
-end_in seen.Bad n = found.Bad n
+abbrev pub end_in : Seen → ℕ → Option LineFound
+end_in seen.Nothing n = None
+end_in seen.Second n = Some found.Second
+end_in (seen.Octet b) n = Some (found.Octet b)
+end_in seen.Begun n = Some (found.Bad n)
+end_in seen.Tab n = Some (found.Bad n)
+end_in (seen.High h) n = Some (found.Bad n)
+end_in seen.Bad n = Some (found.Bad n)
 
-unfoldable pub end_of : Line → LineFound
+unfoldable pub end_of : Line → Option LineFound
 end_of l = end_in l.seen l.number

@@ -1,5 +1,5 @@
 -- 01, "Cases": what a line is, told from all its octets at once, and that reading them one by one finds just that.
-use Rattle.std.specs.Prelude.{◌≡◌, ℕ, ◌+◌, ◌-◌, ◌*◌, ◌%◌, ◌^◌, ◌<◌, ◌≤◌, List, [], ◌∷◌, ◌++◌, length, replicate, ◌≢◌}
+use Rattle.std.specs.Prelude.{◌≡◌, ℕ, ◌+◌, ◌-◌, ◌*◌, ◌%◌, ◌^◌, ◌<◌, ◌≤◌, List, [], ◌∷◌, ◌++◌, length, replicate, ◌≢◌, Option, Some, None}
 use Rattle.line.specs.declared.LineFound.{LineFound}
 use Rattle.line.specs.declared.LineFound.TheVariants as found
 use Rattle.line.specs.declared.Line.{Line}
@@ -51,7 +51,7 @@ NoFeed [] = Unit
 NoFeed (x ∷ xs) = (x ≢ 0x0A) × NoFeed xs
 
 -- octets taken one after another: what each finds, and the line then under way
-unfoldable pub founds : Line → List ℕ → List LineFound
+unfoldable pub founds : Line → List ℕ → List (Option LineFound)
 founds l [] = []
 founds l (o ∷ os) = (line_octet l o).found ∷ founds (line_octet l o).line os
 
@@ -60,8 +60,10 @@ line_after l [] = l
 line_after l (o ∷ os) = line_after (line_octet l o).line os
 
 pub record LineReadSo (n : ℕ) (xs : List ℕ) : Type 0 where
-  pub before : founds (line_numbered n) xs ≡ replicate (length xs) found.More
-  pub found : Is n xs (line_octet (line_after (line_numbered n) xs) 0x0A).found
+  pub before : founds (line_numbered n) xs ≡ replicate (length xs) None
+  pub line : LineFound
+  pub found : (line_octet (line_after (line_numbered n) xs) 0x0A).found ≡ Some line
+  pub is : Is n xs line
   pub next : (line_octet (line_after (line_numbered n) xs) 0x0A).line ≡ line_numbered ((n + 1) % 2 ^ 64)
 
 -- nothing is found before the line feed, then what the line is; the next line has the next number, modulo 2^64, and nothing of this one
@@ -71,12 +73,10 @@ LineRead = (n : ℕ) (xs : List ℕ) → NoFeed xs → LineReadSo n xs
 -- Reading a whole input
 
 -- all that was found, in order
-abbrev pub lines_found : List LineFound → List LineFound
+abbrev pub lines_found : List (Option LineFound) → List LineFound
 lines_found [] = []
-lines_found (found.More ∷ fs) = lines_found fs
-lines_found (found.Second ∷ fs) = found.Second ∷ lines_found fs
-lines_found (found.Octet b ∷ fs) = found.Octet b ∷ lines_found fs
-lines_found (found.Bad n ∷ fs) = found.Bad n ∷ lines_found fs
+lines_found (None ∷ fs) = lines_found fs
+lines_found (Some f ∷ fs) = f ∷ lines_found fs
 
 unfoldable pub found_in : Line → List ℕ → List LineFound
 found_in l os = lines_found (founds l os ++ (end_of (line_after l os) ∷ []))

@@ -4,15 +4,12 @@
 #![tactic(auto)]
 
 ghost use Rattle.std.specs.Prelude.{◌≡◌};
-ghost use Rattle.line.specs.Line.{hex_of, first_seen, due_of, high_digit, low_digit, seen_of, whole_of, first_line, line_octet, end_of};
+ghost use Rattle.line.specs.Line.{hex_of, high_digit, low_digit, seen_of, whole_of, first_line, line_octet, end_of};
 
 // What ends a line, and what parts its fields.
 const LINE_FEED: u8 = b'\n';
 
 const TAB: u8 = b'\t';
-
-// The value of what is no digit.
-const NO_DIGIT: u8 = 16;
 
 // What has been seen of the line under way.
 #[derive(Clone, Copy)]
@@ -33,19 +30,19 @@ pub struct Line {
     pub number: u64,
 }
 
-// What a line is; `More` where none has ended. A bad line has its number.
+// What a line is. A bad one has its number.
 #[derive(Clone, Copy)]
 pub enum LineFound {
-    More,
     Second,
     Octet(u8),
     Bad(u64),
 }
 
+// The line under way after an octet, and the line that the octet ended, if it did.
 #[derive(Clone, Copy)]
 pub struct LineTaken {
     pub line: Line,
-    pub found: LineFound,
+    pub found: Option<LineFound>,
 }
 
 // The first line, of which nothing has been seen.
@@ -63,36 +60,32 @@ pub fn line_start() -> Line
 pub fn line_octet(l: Line, o: u8) -> LineTaken
     ensures { result ≡ line_octet l o }
 {
-    let s = l.seen;
-    let n = l.number;
     if o == LINE_FEED {
         return LineTaken {
             line: Line {
                 seen: Seen::Nothing,
-                number: std::num::wrapping_add_u64(n, 1),
+                number: l.number.wrapping_add(1),
             },
-            found: whole(s, n),
+            found: Some(whole(l.seen, l.number)),
         };
     }
     LineTaken {
         line: Line {
-            seen: seen_with(s, o),
+            seen: seen_with(l.seen, o),
             ..l
         },
-        found: LineFound::More,
+        found: None,
     }
 }
 
 // The end of the input: what the last line is where it lacks its line feed.
 #[tactic(auto, unfolding(crate::specs::Line::end_of))]
-pub fn line_end(l: Line) -> LineFound
+pub fn line_end(l: Line) -> Option<LineFound>
     ensures { result ≡ end_of l }
 {
-    let s = l.seen;
-    let n = l.number;
-    match s {
-        Seen::Nothing => LineFound::More,
-        _ => whole(s, n),
+    match l.seen {
+        Seen::Nothing => None,
+        s => Some(whole(s, l.number)),
     }
 }
 
@@ -111,60 +104,37 @@ fn whole(s: Seen, n: u64) -> LineFound
 fn seen_with(s: Seen, o: u8) -> Seen
     ensures { result ≡ seen_of s o }
 {
-    match s {
-        Seen::Nothing => first(o),
-        Seen::Begun => due(o, TAB, Seen::Tab),
-        Seen::Tab => high(o),
-        Seen::High(h) => low(h, o),
+    match (s, o) {
+        (Seen::Nothing, b'T') => Seen::Second,
+        (Seen::Nothing, b'B') => Seen::Begun,
+        (Seen::Begun, TAB) => Seen::Tab,
+        (Seen::Tab, _) => high(o),
+        (Seen::High(h), _) => low(h, o),
         _ => Seen::Bad,
     }
-}
-
-fn first(o: u8) -> Seen
-    ensures { result ≡ first_seen o }
-{
-    match o {
-        b'T' => Seen::Second,
-        b'B' => Seen::Begun,
-        _ => Seen::Bad,
-    }
-}
-
-fn due(o: u8, only: u8, then: Seen) -> Seen
-    ensures { result ≡ due_of o only then }
-{
-    if o == only { then } else { Seen::Bad }
 }
 
 fn high(o: u8) -> Seen
     ensures { result ≡ high_digit o }
 {
-    let d = hex(o);
-    if d == NO_DIGIT {
-        return Seen::Bad;
-    }
-    Seen::High(d)
+    hex(o).map_or(Seen::Bad, |d| Seen::High(d))
 }
 
 fn low(h: u8, o: u8) -> Seen
     ensures { result ≡ low_digit h o }
 {
-    let d = hex(o);
-    if d == NO_DIGIT {
-        return Seen::Bad;
-    }
-    Seen::Octet(h % 16 * 16 + d % 16)
+    hex(o).map_or(Seen::Bad, |d| Seen::Octet(h % 16 * 16 + d % 16))
 }
 
 // "Hex .. is read in either case."
 #[tactic(auto, unfolding(crate::specs::Line::hex_of))]
-fn hex(o: u8) -> u8
+fn hex(o: u8) -> Option<u8>
     ensures { result ≡ hex_of o }
 {
     match o {
-        b'0'..=b'9' => o - b'0',
-        b'A'..=b'F' => o - b'A' + 10,
-        b'a'..=b'f' => o - b'a' + 10,
-        _ => NO_DIGIT,
+        b'0'..=b'9' => Some(o - b'0'),
+        b'A'..=b'F' => Some(o - b'A' + 10),
+        b'a'..=b'f' => Some(o - b'a' + 10),
+        _ => None,
     }
 }

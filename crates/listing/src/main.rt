@@ -6,20 +6,21 @@
 
 #![tactic(auto)]
 
-ghost use Rattle.std.specs.Prelude.{◌≤◌, ◌<◌, ◌≡◌, length};
+ghost use Rattle.std.specs.Prelude.{◌≤◌, ◌≡◌, Some};
 ghost use Rattle.octets.specs.Put.{Stored};
 ghost use Rattle.controller.specs.State.{joined};
 ghost use Rattle.printout.specs.Run.{line_made};
-ghost use Rattle.listing.specs.Room.{Room, half};
+ghost use Rattle.listing.specs.Room.{Room, text_len};
 
 use controller::{KEPT_LEN, OUTPUT_LEN};
 use line::{Line, LineFound};
 use plan::Which;
-use printout::{Asked, Run};
+use printout::Run;
 use printout_calls::run;
 use printout_calls::run::WORD_LEN;
 use record::BOOK_LEN;
 use std::env::{Env, FillError};
+use std::fmt;
 use std::io::Read;
 
 // The octets of one read at most.
@@ -30,288 +31,161 @@ const TEXT_LEN: usize = 8192;
 
 const HALF: usize = 4096;
 
-// A run, and whether its output is lost: once it can't be written, no more of it is.
+// Why there is no listing, or no more of it.
 #[derive(Clone, Copy)]
-struct Printing {
-    run: Run,
-    lost: bool,
+enum Failure {
+    Words,
+    Input,
+    Output,
 }
 
-// The line under way, what the lines before it made, and whether there is more to read.
-#[derive(Clone, Copy)]
-struct Reading {
+impl fmt::Display for Failure {
+    fn fmt<W: fmt::Write>(&self, f: &mut fmt::Formatter<W>) -> fmt::Result {
+        f.write_str(match self {
+            Failure::Words => "usage: listing [old]",
+            Failure::Input => "listing: the input can't be read",
+            Failure::Output => "listing: the output can't be written",
+        })
+    }
+}
+
+// The listing under way: the line that is being read, what the lines before it made, and the text that is not yet written out.
+#[derive(Drop)]
+struct Listing {
     line: Line,
-    printing: Printing,
-    more: bool,
+    run: Run,
+    kept: [u8; KEPT_LEN],
+    book: [u8; BOOK_LEN],
+    out: [u8; OUTPUT_LEN],
+    text: [u8; TEXT_LEN],
+}
+
+// Where the failure can't be told there is nobody left to tell.
+fn main(rt: HostRuntime) {
+    if let Err(failure) = listed(&rt, &mut rt.stdin()) {
+        let _ = rt.eprintln(failure);
+    }
 }
 
 // Of a word that is too long for the room given nothing is handed out, and an empty one is not known.
-fn main(rt: HostRuntime) {
+fn listed(rt: &(impl Env + Print), input: &mut impl Read) -> Result<(), Failure> {
     let mut word = [0u8; WORD_LEN];
     let n = rt.arg(1, &mut word).unwrap_or(0);
-    let asked = run::start_asked(words_given(&rt), &word[..n]);
-    match asked {
-        Asked::Start(which) => list(&rt, &mut rt.stdin(), which),
-        Asked::Unknown => tell(&rt, "usage: listing [old]"),
-    }
+    let which = run::start_asked(words_given(rt), &word[..n]).ok_or(Failure::Words)?;
+    list(rt, input, which)
 }
 
 // How many words stand after the program's name. They are counted one by one, since nothing says how many there are.
 fn words_given(rt: &impl Env) -> usize {
-    for n in 0..usize::MAX {
-        if !is_given(rt, n + 1) {
-            return n;
-        }
-    }
-    usize::MAX
+    (1..=usize::MAX)
+        .take_while(|place| is_given(rt, *place))
+        .count()
 }
 
 // Whether there is a word at this place. No room is lent for it, since it is not wanted: one that is there may be too long.
 fn is_given(rt: &impl Env, place: usize) -> bool {
-    match rt.arg(place, &mut []) {
-        Ok(_) => true,
-        Err(FillError::TooLong) => true,
-        Err(FillError::NotPresent) => false,
-    }
-}
-
-// Tells it on standard error. Where that can't be done there is nobody left to tell.
-fn tell(rt: &impl Eprint, s: &str) {
-    let _ = rt.eprintln(s);
+    !matches!(rt.arg(place, &mut []), Err(FillError::NotPresent))
 }
 
 #[tactic(auto, unfolding(printout::specs::Listing::header))]
-fn list(rt: &(impl Print + Eprint), input: &mut impl Read, which: Which) {
-    let mut kept = [0u8; KEPT_LEN];
-    let mut book = [0u8; BOOK_LEN];
-    let mut out = [0u8; OUTPUT_LEN];
+fn list(rt: &impl Print, input: &mut impl Read, which: Which) -> Result<(), Failure> {
     let mut text = [0u8; TEXT_LEN];
     let used = printout_calls::put_header(&mut text, 0);
-    let start = Reading {
+    let mut listing = Listing {
         line: line::line_start(),
-        printing: Printing {
-            run: Run {
-                used,
-                ..run::run_start(which)
-            },
-            lost: false,
+        run: Run {
+            used,
+            ..run::run_start(which)
         },
-        more: true,
+        kept: [0; KEPT_LEN],
+        book: [0; BOOK_LEN],
+        out: [0; OUTPUT_LEN],
+        text,
     };
-    read_all(rt, input, start, &mut kept, &mut book, &mut out, &mut text);
+    listing.read_all(rt, input)
 }
 
-// Reads to the end. A proved loop has to end, and nothing says that an input does, so the turns are counted down from a
-// number that no run uses up.
-fn read_all(
-    rt: &(impl Print + Eprint),
-    input: &mut impl Read,
-    start: Reading,
-    kept: &mut [u8],
-    book: &mut [u8],
-    out: &mut [u8],
-    text: &mut [u8],
-)
-    requires { Room start.printing.run text.old }
-{
-    let mut g = start;
-    let mut turns = u64::MAX;
-    while turns > 0 {
-        g = read_next(
-            rt,
-            &mut *input,
-            g,
-            &mut *kept,
-            &mut *book,
-            &mut *out,
-            &mut *text,
-        );
-        turns = turns_left(turns, g.more);
-    }
-}
-
-// One less, or none where there is no more to read.
-fn turns_left(turns: u64, more: bool) -> u64
-    requires { 0 < turns }
-    ensures { result < turns }
-{
-    if more { turns - 1 } else { 0 }
-}
-
-// A read may wait for somebody to type, so all there is to see is written out before it.
-fn read_next(
-    rt: &(impl Print + Eprint),
-    input: &mut impl Read,
-    g: Reading,
-    kept: &mut [u8],
-    book: &mut [u8],
-    out: &mut [u8],
-    text: &mut [u8],
-) -> Reading
-    requires { Room g.printing.run text.old }
-    ensures { Room result.printing.run text.new }
-{
-    let printing = written(rt, g.printing, &*text);
-    let shown = Reading { printing, ..g };
-    if printing.lost {
-        return Reading {
-            more: false,
-            ..shown
-        };
-    }
-    read_once(rt, input, shown, kept, book, out, text)
-}
-
-// At the end of the input its last line may lack a line feed. Where a read fails the line under way was cut off, and nobody
-// knows what it was to be.
-fn read_once(
-    rt: &(impl Print + Eprint),
-    input: &mut impl Read,
-    g: Reading,
-    kept: &mut [u8],
-    book: &mut [u8],
-    out: &mut [u8],
-    text: &mut [u8],
-) -> Reading
-    requires { Room g.printing.run text.old }
-    ensures { Room result.printing.run text.new }
-{
-    let mut block = [0u8; BLOCK_LEN];
-    match input.read(&mut block) {
-        Ok(0) => {
-            let r = last(rt, g, kept, book, out, text);
-            Reading { more: false, ..r }
+impl Listing {
+    // Reads to the end. A proved loop has to end, and nothing says that an input does, so the turns are counted, to a number
+    // that no run reaches. A read may wait for somebody to type, so all there is to see is written out before it. Where a read
+    // fails the line under way was cut off, and nobody knows what it was to be.
+    fn read_all(&mut self, rt: &impl Print, input: &mut impl Read) -> Result<(), Failure>
+        requires { Room self.old.run self.old.text }
+    {
+        for _ in 0..u64::MAX {
+            self.write_out(rt)?;
+            let mut block = [0u8; BLOCK_LEN];
+            let n = input.read(&mut block).map_err(|_| Failure::Input)?;
+            if n == 0 {
+                return self.end(rt);
+            }
+            self.take(rt, &block[..n])?;
         }
-        Ok(n) => taken(rt, g, &block[..n], kept, book, out, text),
-        Err(_) => {
-            tell(rt, "listing: the input can't be read");
-            Reading { more: false, ..g }
-        }
+        Ok(())
     }
-}
 
-// Takes the octets of one read.
-fn taken(
-    rt: &(impl Print + Eprint),
-    g: Reading,
-    s: &[u8],
-    kept: &mut [u8],
-    book: &mut [u8],
-    out: &mut [u8],
-    text: &mut [u8],
-) -> Reading
-    requires { Room g.printing.run text.old }
-    ensures { Room result.printing.run text.new }
-{
-    let mut l = g.line;
-    let mut p = g.printing;
-    for i in 0..s.len() {
-        let read = line::line_octet(l, s[i]);
-        l = read.line;
-        let f = read.found;
-        match f {
-            LineFound::More => {}
-            _ => {
-                p = done(rt, p, f, &mut *kept, &mut *book, &mut *out, &mut *text);
+    // Takes the octets of one read.
+    fn take(&mut self, rt: &impl Print, s: &[u8]) -> Result<(), Failure>
+        requires { Room self.old.run self.old.text }
+        ensures { Room self.new.run self.new.text }
+    {
+        for o in s {
+            let taken = line::line_octet(self.line, *o);
+            self.line = taken.line;
+            if let Some(found) = taken.found {
+                self.end_line(rt, found)?;
             }
         }
+        Ok(())
     }
-    Reading {
-        line: l,
-        printing: p,
-        more: true,
+
+    // The end of the input ends the last line, which may lack its line feed.
+    fn end(&mut self, rt: &impl Print) -> Result<(), Failure>
+        requires { Room self.old.run self.old.text }
+        ensures { Room self.new.run self.new.text }
+    {
+        if let Some(found) = line::line_end(self.line) {
+            self.end_line(rt, found)?;
+        }
+        self.write_out(rt)
     }
-}
 
-// The end of the input ends the last line.
-fn last(
-    rt: &(impl Print + Eprint),
-    g: Reading,
-    kept: &mut [u8],
-    book: &mut [u8],
-    out: &mut [u8],
-    text: &mut [u8],
-) -> Reading
-    requires { Room g.printing.run text.old }
-    ensures { Room result.printing.run text.new }
-{
-    let p = done(
-        rt,
-        g.printing,
-        line::line_end(g.line),
-        kept,
-        book,
-        out,
-        &mut *text,
-    );
-    let printing = written(rt, p, text);
-    Reading { printing, ..g }
-}
-
-// A line that has ended.
-fn done(
-    rt: &(impl Print + Eprint),
-    p: Printing,
-    f: LineFound,
-    kept: &mut [u8],
-    book: &mut [u8],
-    out: &mut [u8],
-    text: &mut [u8],
-) -> Printing
-    requires { Room p.run text.old }
-    ensures { Room result.run text.new }
-{
-    let run = listed(p.run, f, kept, book, out, &mut *text);
-    flushed(rt, Printing { run, ..p }, text)
-}
-
-// The text of a line is never dropped: with half the text free there is room for it.
-fn listed(
-    run: Run,
-    f: LineFound,
-    kept: &mut [u8],
-    book: &mut [u8],
-    out: &mut [u8],
-    text: &mut [u8],
-) -> Run
-    requires { Room run text.old }
-    ensures { Stored (line_made f (joined run.state kept.old) run.seconds book.old out.old).said.text run.used text.old result.used text.new }
-{
-    run::on_line(run, f, kept, book, out, text)
-}
-
-// Writes the text out where more than half of it is filled.
-fn flushed(rt: &(impl Print + Eprint), p: Printing, text: &[u8]) -> Printing
-    requires { p.run.used ≤ length text.now }
-    ensures { result.run.used ≤ half }
-{
-    if p.run.used <= HALF {
-        return p;
+    // A line that has ended. The text is written out where more than half of it is filled.
+    fn end_line(&mut self, rt: &impl Print, found: LineFound) -> Result<(), Failure>
+        requires { Room self.old.run self.old.text }
+        ensures { Room self.new.run self.new.text }
+    {
+        self.print_line(found);
+        if self.run.used <= HALF {
+            return Ok(());
+        }
+        self.write_out(rt)
     }
-    written(rt, p, text)
-}
 
-// Writes the text out.
-fn written(rt: &(impl Print + Eprint), p: Printing, text: &[u8]) -> Printing
-    requires { p.run.used ≤ length text.now }
-    ensures { result.run.used ≡ 0 }
-{
-    let run = p.run;
-    let used = run.used;
-    Printing {
-        run: Run { used: 0, ..run },
-        lost: lost(rt, p.lost, &text[..used]),
+    // The text of a line is never dropped: with half the text free there is room for it.
+    fn print_line(&mut self, found: LineFound)
+        requires { Room self.old.run self.old.text }
+        ensures { Stored (line_made (Some found) (joined self.old.run.state self.old.kept) self.old.run.seconds self.old.book self.old.out).said.text self.old.run.used self.old.text self.new.run.used self.new.text }
+    {
+        self.run = run::on_line(
+            self.run,
+            Some(found),
+            &mut self.kept,
+            &mut self.book,
+            &mut self.out,
+            &mut self.text,
+        );
     }
-}
 
-// Whether the output is lost, before these octets or with them; that it is is told once.
-fn lost(rt: &(impl Print + Eprint), before: bool, s: &[u8]) -> bool {
-    if before {
-        return true;
+    // Writes the text out.
+    fn write_out(&mut self, rt: &impl Print) -> Result<(), Failure>
+        requires { self.old.run.used ≤ text_len }
+        ensures empty { self.new.run.used ≡ 0 }
+        ensures room { Room self.new.run self.new.text }
+    {
+        let used = self.run.used;
+        self.run.used = 0;
+        rt.write_all(&self.text[..used])
+            .map_err(|_| Failure::Output)
     }
-    if rt.write_all(s).is_ok() {
-        return false;
-    }
-    tell(rt, "listing: the output can't be written");
-    true
 }

@@ -10,7 +10,7 @@ use Rattle.octets.specs.Part.{code_len}
 use Rattle.octets.specs.Refusal as refusal
 use Rattle.octets.proofs.Search.{search-first}
 use Rattle.message.specs.declared.Message.{Message}
-use Rattle.message.specs.declared.Read.{Read}
+use Rattle.message.specs.Reader.{Read}
 use Rattle.message.specs.declared.layout.Field.{Field}
 use Rattle.message.specs.Layouts.{layout_at, codes, number_of, rows_at}
 use Rattle.message.specs.Values.{values_of, placed}

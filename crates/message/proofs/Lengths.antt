@@ -5,7 +5,7 @@ use mathlib.Core.List.{List, ◌∷◌}
 use native.Mathlib.Omega.{arith}
 use lib.ListN.{length}
 use Rattle.octets.specs.First.{first_of}
-use Rattle.message.specs.declared.Read.{Read}
+use Rattle.message.specs.Reader.{Read}
 use Rattle.message.specs.Layouts.{layouts, layout_at, known, number_of, rows_at, layout_rows}
 use Rattle.message.specs.Values.{size_of, zeros, placed, first_out}
 use Rattle.message.specs.Reader.{no_message, not_read, k_in, part_of, ranged_of, read_part_of, read_of}

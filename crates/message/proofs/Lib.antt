@@ -13,3 +13,4 @@ pub mod Places
 pub mod WrittenSo
 pub mod RoundTrips
 pub mod Cases
+pub mod Answers

@@ -10,7 +10,7 @@ use lib.Dec.{leb, eqb}
 use lib.ListN.{length, get_or, get_or-eq_default}
 use Rattle.octets.specs.Choice.{both}
 use Rattle.octets.proofs.Laws.{both_left, both_right, clash}
-use Rattle.message.specs.declared.Read.{Read}
+use Rattle.message.specs.Reader.{Read}
 use Rattle.message.specs.declared.layout.Field.{Field}
 use Rattle.message.specs.Layouts.{layouts, layout_at, known, number_of, rows_at, k_fits}
 use Rattle.message.specs.Values.{fields_most, size_of, values_of, zeros, placed, first_out}

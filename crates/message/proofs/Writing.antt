@@ -12,7 +12,7 @@ use Rattle.octets.specs.Put.{Stored}
 use Rattle.octets.specs.Part.{code_len}
 use Rattle.octets.specs.Refusal as refusal
 use Rattle.octets.specs.Writing.{WriterLeaves, nothing_written, written_as}
-use Rattle.octets.specs.declared.Written.{Written}
+use Rattle.octets.specs.Writing.{Written}
 use Rattle.octets.proofs.Laws.{both_left, both_right, sets-append}
 use Rattle.message.specs.declared.Message.{Message}
 use Rattle.message.specs.declared.layout.Field.{Field}

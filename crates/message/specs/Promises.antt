@@ -1,17 +1,18 @@
 -- What 01 demands of messages, stated from outside.
-use Rattle.std.specs.Prelude.{ℕ, ◌+◌, ◌*◌, ◌≤◌, ◌<◌, ◌≡◌, true, List, [], ◌∷◌, ◌++◌, eqb, length, get_or, take, drop, replicate}
+use Rattle.std.specs.Prelude.{ℕ, ◌+◌, ◌*◌, ◌≤◌, ◌<◌, ◌≡◌, true, List, [], ◌∷◌, ◌++◌, Result, Ok, Err, eqb, length, get_or, take, drop, replicate}
 use Rattle.octets.specs.First.{First}
 use Rattle.octets.specs.Octet.{Octets}
+use Rattle.octets.specs.Refusals.{refusal_number}
 use Rattle.octets.specs.Writing.{Writing}
 use Rattle.diagram.specs.Table.{phases_of}
+use Rattle.message.specs.declared.Fault.{Fault}
 use Rattle.message.specs.declared.Message.{Message}
-use Rattle.message.specs.declared.Read.{Read}
 use Rattle.message.specs.declared.layout.Field.{Field}
 use Rattle.message.specs.declared.layout.Field.TheVariants.{Octet, Two, Order}
 use Rattle.message.specs.Fields.{passes, no_field}
 use Rattle.message.specs.Layouts.{layouts, layout_at, number_of, rows_at, stored_times, stored_plan}
 use Rattle.message.specs.Values.{size_of, field_start, values_of}
-use Rattle.message.specs.Reader.{k_in, part_of, read_part_of, read_of, code_in, body_in}
+use Rattle.message.specs.Reader.{Read, reading_of, k_in, part_of, read_part_of, read_of, code_in, body_in}
 use Rattle.message.specs.Writer.{number_in, k_of_message, info_of, write_message}
 use Rattle.message.specs.Names as number
 
@@ -222,6 +223,16 @@ pub data Judged (info : List ℕ) : Read → Type 0 where
 -- "When, and only then": refusals 10, 11 and 12.
 abbrev pub PartsReadSo : Type 0
 PartsReadSo = (l k : ℕ) (os : List ℕ) (r : Read) → (PartJudged l k os r → r ≡ read_part_of l k os) × (r ≡ read_part_of l k os → PartJudged l k os r)
+
+-- A reader's answer in 01's numbers: the message, with nothing refused; or the refusal and the field that it names, "and then gives no message".
+pub record ReadersAnswer : Type 0 where
+  pub read : (m : Message) → reading_of (Ok m) ≡ message_read m
+  pub refused : (e : Fault) → reading_of (Err e) ≡ refused_reading (refusal_number e.refusal) e.field
+  -- and from the numbers the answer is known
+  pub apart : (r s : Result Message Fault) → reading_of r ≡ reading_of s → r ≡ s
+
+abbrev pub ReadersAnswerSo : Type 0
+ReadersAnswerSo = ReadersAnswer
 
 abbrev pub MessagesReadSo : Type 0
 MessagesReadSo = (info : List ℕ) (r : Read) → (Judged info r → r ≡ read_of info) × (r ≡ read_of info → Judged info r)

@@ -1,15 +1,22 @@
 -- 01, "Messages" and "Plan book": what a call of the reader answers.
 -- "The message reader alone reads every code of the table; it refuses with 10, 11 (so for under two octets) or 12 and then
 -- gives no message."
-use Rattle.std.specs.Prelude.{ℕ, not, List, eqb, ltb, length, get_or, drop}
+use Rattle.std.specs.Prelude.{ℕ, not, List, Result, Ok, Err, eqb, ltb, length, get_or, drop}
 use Rattle.octets.specs.Choice.{pick, both}
 use Rattle.octets.specs.Part.{code_len}
 use Rattle.octets.specs.Refusal as refusal
+use Rattle.octets.specs.Refusals.{refusal_number}
 use Rattle.octets.specs.Word.{word_of}
 use Rattle.message.specs.declared.Message.{Message}
-use Rattle.message.specs.declared.Read.{Read}
+use Rattle.message.specs.declared.Fault.{Fault}
 use Rattle.message.specs.Layouts.{Layout, layout_at, known, number_of, rows_at, k_fits}
 use Rattle.message.specs.Values.{size_of, values_of, zeros, placed, numbered, first_out}
+
+-- What reading gives: the refusal, the number of the field that refusal 12 names, and the message where nothing is refused.
+pub record Read : Type 0 where
+  pub refusal : ℕ
+  pub field : ℕ
+  pub message : Message
 
 -- "and then gives no message"
 unfoldable pub no_message : Message
@@ -20,6 +27,11 @@ not_read n field = record { refusal = n; field = field; message = no_message }
 
 abbrev pub read_as : Message → Read
 read_as m = record { refusal = refusal.none; field = 0; message = m }
+
+-- what the code answers: the message, or why it is refused
+abbrev pub reading_of : Result Message Fault → Read
+reading_of (Ok m) = read_as m
+reading_of (Err e) = not_read (refusal_number e.refusal) e.field
 
 -- the count k in the octets
 abbrev pub k_in : Layout → List ℕ → ℕ

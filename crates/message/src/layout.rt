@@ -51,10 +51,6 @@ pub const OFFSET: Field = Field::Two(0, 899);
 // Past the last field nothing but 0 has a place.
 pub const NO_FIELD: Field = Field::Octet(0, 0);
 
-// How many layouts there are: number 0 is that of a code that is not listed, 1 to 11 are 01's table, and 12 and 13 the parts
-// of a record.
-pub const LAYOUTS: usize = 14;
-
 // A layout, as the code keeps it.
 #[derive(Clone, Copy)]
 pub struct LayoutLine {

@@ -6,6 +6,8 @@
 pub mod layout;
 pub mod lines;
 
+use octets::refusal::Refusal;
+
 // The codes of 01's table, high octet first.
 pub const CARRIED_OUT: u16 = 0x0F80;
 
@@ -29,9 +31,6 @@ pub const QUERY_PLAN: u16 = 0x5F45;
 
 pub const QUERY_RUNNING: u16 = 0x5F48;
 
-// The code of no message.
-pub const NO_MESSAGE: u16 = 0;
-
 // "Fields are numbered from 1 after the code": the plan of each message that names one, and of a 5F 15 direct and the count.
 pub const PLAN: u8 = 1;
 
@@ -53,10 +52,9 @@ pub struct Message {
     pub values: [u16; FIELDS_MOST],
 }
 
-// What reading gives: the refusal, the number of the field that refusal 12 names, and the message where nothing is refused.
-#[derive(Clone, Copy)]
-pub struct Read {
-    pub refusal: u8,
+// Why a message is refused: the refusal, and the number of the field that it names, 0 where it names none.
+#[derive(Clone, Copy, Debug, PartialEq, Eq)]
+pub struct Fault {
+    pub refusal: Refusal,
     pub field: u8,
-    pub message: Message,
 }

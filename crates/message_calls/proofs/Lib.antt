@@ -1,3 +1,5 @@
+pub mod Shapes
+pub mod Parts
 pub mod Walking
 pub mod Promised
 pub mod Only

@@ -1,27 +1,21 @@
 -- A walk over the fields of a layout has the layout's rows ahead at first, and from each row one less.
-use Prim.Native.Nat.{ℕ, zero, suc, ◌+◌, ◌*◌, ◌-◌, ◌≤◌, ◌<◌}
-use mathlib.Core.Path.{◌≡◌, refl, sym, ap, ◌∙◌}
-use mathlib.Core.Bool.{true}
+use Prim.Native.Nat.{ℕ, zero, suc, ◌+◌, ◌-◌, ◌≤◌, ◌<◌}
+use mathlib.Core.Path.{◌≡◌, refl, sym, ap}
 use mathlib.Core.List.{List, [], ◌∷◌, ◌++◌, append_assoc}
 use native.Mathlib.Decide.{dec_lt}
-use native.Mathlib.Nat.{add-zero}
 use native.Mathlib.Numerals.{add-one}
 use native.Mathlib.Omega.{arith}
-use lib.Dec.{leb}
-use lib.ListN.{length, get_or}
-use lib.Seq.{drop-cons, drop-drop, get_or-drop, take-add}
-use Rattle.octets.specs.Choice.{both}
-use Rattle.octets.proofs.Every.{every, every-at}
+use lib.ListN.{get_or}
+use lib.Seq.{drop-cons, drop-drop, take-add}
 use Rattle.message.specs.declared.layout.Field.{Field}
 use Rattle.message.specs.declared.layout.LayoutLine.{LayoutLine}
-use Rattle.message.specs.Fields.{k_most, no_field}
-use Rattle.message.specs.Layouts.{Layout, layouts, no_layout, layout_at, k_fits, layout_rows, repeated, rows_at}
-use Rattle.message.specs.Table.{table, table_len, cut, kept_by, Kept}
-use Rattle.message.specs.Values.{fields_most}
-use Rattle.message.proofs.Layouts.{length_cut}
-use Rattle.message.proofs.Ranges.{both-le}
+use Rattle.message.specs.Fields.{no_field}
+use Rattle.message.specs.Layouts.{layout_rows, repeated}
+use Rattle.message.specs.Table.{table, table_len, cut, kept_by}
+use Rattle.message_calls.specs.declared.shape.Shape.{Shape}
+use Rattle.message_calls.specs.Shape.{shape_rows}
 use Rattle.message_calls.specs.declared.walk.Walk.{Walk}
-use Rattle.message_calls.specs.Walk.{fields_from, fields_ahead, Walking, AtPlace}
+use Rattle.message_calls.specs.Walk.{fields_from, fields_ahead, Walking}
 
 -- Rows of the table, from one on
 
@@ -64,29 +58,13 @@ module _ (y : LayoutLine) where
       let e : suc again - 1 ≡ again = omega arith in
       rw (e, ← rounds-ahead again y.from (omega arith), ← cut_on y.from y.head y.group first (after - y.from) refl (omega arith)) (simp append_assoc)
 
--- rows come k times just where k may be more than 0
-repeating-at : (l : ℕ) → (let y = layout_at l in (length y.group ≤ fields_most * y.fewest) × (y.most ≤ k_most * length y.group))
-unfolding layouts layout_at every
-repeating-at l =
-    both-le _ _ _ _
-    (every-at (λ (y : Layout). both (leb (length y.group) (fields_most * y.fewest)) (leb y.most (k_most * length y.group))) layouts l no_layout refl (λ _. refl))
-
 -- the walk from a layout's first row on, for k
-module _ {l : ℕ} {y : LayoutLine} (h : Kept l y) (k : ℕ) (f : k_fits (layout_at l) k ≡ true) where
-  counted : (k ≡ 0 → y.group ≡ 0) × (0 < k → 0 < y.group)
-  counted =
-      let g = sym (length_cut (first y) y.group (omega (arith, h.inside))) ∙ ap (λ (l : Layout). length l.group) h.is in
-      let r = repeating-at l in
-      let t = both-le (layout_at l).fewest k k (layout_at l).most f in
-      (λ e. omega arith, λ p. omega arith)
-
-  pub start-stands : AtPlace (rows_at l k) 0 (record { row = y.from; rounds = k; first = first y; after = after y; end = end y })
-  unfolding rows_at
-  start-stands =
-      record {
-        walking = record { ends = omega arith; inside = h.inside; again = λ p. let g = counted.1 (omega arith) in (omega arith, omega arith) };
-        ahead = rw (← h.is) (sym (layout-ahead y k counted.0));
-      }
+pub over-stands : (s : Shape) → (let y = s.line in let w : Walk = record { row = y.from; rounds = s.k; first = first y; after = after y; end = end y } in Walking w × (fields_ahead w ≡ shape_rows s))
+over-stands s =
+    let y = s.line in (
+      record { ends = omega arith; inside = s.inside; again = λ p. (omega (arith, s.group_where_k), omega (arith, s.group_where_k)) },
+      sym (layout-ahead y s.k (λ e. omega (arith, s.k_where_group))),
+    )
 
 -- A step
 
@@ -109,30 +87,18 @@ module _ (w : Walk) (h : Walking w) where
       by (no q) = let s : w.rounds - 1 ≡ 0 = omega arith in rw (s, cut-next w.row w.end l h.inside)
 
   module _ (l : w.row < w.end) where
-    pub on-stands : (1 < w.rounds → w.row + 1 ≡ w.after → ⊥)
-        → AtPlace (fields_ahead w) 1 (record { row = w.row + 1; rounds = w.rounds; first = w.first; after = w.after; end = w.end })
-    on-stands n =
-        record {
-          walking = record { ends = h.ends; inside = h.inside; again = λ p. (omega (arith, (h.again p).0, n p), (h.again p).1) };
-          ahead = rw (ahead-next l);
-        }
+    -- the walk after the field of its row
+    abbrev On : Walk → Type 0
+    On t = Walking t × (fields_ahead w ≡ get_or table w.row no_field ∷ fields_ahead t)
 
-    pub again-stands : w.row + 1 ≡ w.after → 1 < w.rounds
-        → AtPlace (fields_ahead w) 1 (record { row = w.first; rounds = w.rounds - 1; first = w.first; after = w.after; end = w.end })
+    pub on-stands : (1 < w.rounds → w.row + 1 ≡ w.after → ⊥) → On (record { row = w.row + 1; rounds = w.rounds; first = w.first; after = w.after; end = w.end })
+    on-stands n = (record { ends = h.ends; inside = h.inside; again = λ p. (omega (arith, (h.again p).0, n p), (h.again p).1) }, ahead-next l)
+
+    pub again-stands : w.row + 1 ≡ w.after → 1 < w.rounds → On (record { row = w.first; rounds = w.rounds - 1; first = w.first; after = w.after; end = w.end })
     unfolding fields_from
     again-stands e p =
         let s : w.rounds - 1 ≡ suc (w.rounds - 2) = omega arith in
-        let t : w.rounds - 1 - 1 ≡ w.rounds - 2 = omega arith in
-        record {
-          walking = record { ends = h.ends; inside = h.inside; again = λ q. ((h.again p).1, (h.again p).1) };
-          ahead = rw (ahead-next l, t, s, cut-done (w.row + 1) w.after (omega arith));
-        }
-
--- A walk at a place of the fields
-
-module _ {fs : List Field} {i : ℕ} {w : Walk} (s : AtPlace fs i w) where
-  pub field-there : {f : Field} → f ≡ get_or (fields_ahead w) 0 no_field → f ≡ get_or fs i no_field
-  field-there e = e ∙ rw (s.ahead, get_or-drop, add-zero)
-
-  pub stands-next : {r : Walk} → AtPlace (fields_ahead w) 1 r → AtPlace fs (i + 1) r
-  stands-next n = record { walking = n.walking; ahead = n.ahead ∙ rw (s.ahead, drop-drop) }
+        let t : w.rounds - 1 - 1 ≡ w.rounds - 2 = omega arith in (
+          record { ends = h.ends; inside = h.inside; again = λ q. ((h.again p).1, (h.again p).1) },
+          rw (ahead-next l, t, s, cut-done (w.row + 1) w.after (omega arith)),
+        )

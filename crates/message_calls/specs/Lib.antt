@@ -1,3 +1,4 @@
 pub mod Info
+pub mod Shape
 pub mod Walk
 pub mod Promises

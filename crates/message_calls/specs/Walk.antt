@@ -1,8 +1,7 @@
 -- How the code walks over the fields of a message, "left to right": the rows of the table of fields that it has still to come to.
-use Rattle.std.specs.Prelude.{ℕ, zero, suc, ◌-◌, ◌≤◌, ◌<◌, ◌≡◌, false, List, ◌++◌, drop}
+use Rattle.std.specs.Prelude.{ℕ, zero, suc, ◌-◌, ◌≤◌, ◌<◌, List, ◌++◌}
 use Rattle.message.specs.declared.layout.Field.{Field}
 use Rattle.message.specs.Table.{table_len, cut}
-use Rattle.message.specs.Values.{fields_most, out_at}
 use Rattle.message_calls.specs.declared.walk.Walk.{Walk}
 
 -- from a row on: straight to the end, or, where the repeated rows come again so many times, up to the row after them and then from the first of them
@@ -19,13 +18,3 @@ pub record Walking (w : Walk) : Type 0 where
   pub inside : w.end ≤ table_len
   -- what comes again is some rows, and the walk has not come past them
   pub again : 1 < w.rounds → (w.row < w.after) × (w.first < w.after)
-
--- no value from this place of a message's on is out of its field's range
-pub record NoneOut (fs : List Field) (vs : List ℕ) (end : ℕ) : Type 0 where
-  pub most : end ≤ fields_most
-  pub none : (j : ℕ) → end ≤ j → j < fields_most → out_at fs vs j ≡ false
-
--- a walk that stands at place i, from 0, of the fields
-pub record AtPlace (fs : List Field) (i : ℕ) (w : Walk) : Type 0 where
-  pub walking : Walking w
-  pub ahead : fields_ahead w ≡ drop i fs

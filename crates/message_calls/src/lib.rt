@@ -5,5 +5,6 @@
 pub mod info;
 pub mod layout;
 pub mod reader;
+mod shape;
 mod walk;
 pub mod writer;

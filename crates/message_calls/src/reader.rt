@@ -1,105 +1,86 @@
 // 01, "Messages": "The fields of a message are read left to right", each by a reader of INFO.
-ghost use Rattle.std.specs.Prelude.{◌≡◌, true};
-ghost use Rattle.message.specs.Layouts.{layout_at, k_fits, rows_at};
+ghost use Rattle.std.specs.Prelude.{◌≡◌, ℕ};
 ghost use Rattle.message.specs.Values.{values_of, placed};
-ghost use Rattle.message.specs.Reader.{not_read, k_in, ranged_of, read_part_of, read_of};
+ghost use Rattle.message.specs.Reader.{reading_of, k_in, ranged_of, read_of};
+ghost use Rattle.message.specs.Table.{kept_by, Kept};
+ghost use Rattle.message_calls.specs.Shape.{IsListed, shape_rows};
 
+use crate::shape::Shape;
 use crate::walk::Walk;
 use crate::{info, layout};
-use message::{FIELDS_MOST, Message, NO_MESSAGE, Read};
-use octets::refusal;
+use message::layout::LayoutLine;
+use message::{FIELDS_MOST, Fault, Message};
+use octets::refusal::Refusal;
+
+const NOT_HANDLED: Fault = Fault {
+    refusal: Refusal::CodeNotHandled,
+    field: 0,
+};
+
+const LENGTH_WRONG: Fault = Fault {
+    refusal: Refusal::InfoLengthWrong,
+    field: 0,
+};
 
 // The message that stands in INFO; "it refuses with 10, 11 (so for under two octets) or 12 and then gives no message."
-pub fn read(info: &[u8]) -> Read
-    ensures { result ≡ read_of info.now }
+pub fn read(info: &[u8]) -> Result<Message, Fault>
+    ensures { reading_of result ≡ read_of info.now }
 {
     if info.len() < octets::CODE_LEN {
-        return refused(refusal::INFO_LENGTH_WRONG, 0);
+        return Err(LENGTH_WRONG);
     }
-    let l = layout::find(info::value_at(info, 0, true));
+    let Some(line) = layout::find(info::value_at(info, 0, true)) else {
+        return Err(NOT_HANDLED);
+    };
     let body = octets::body(info);
-    let k = count_in(l, body);
-    read_part(l, k, body)
-}
-
-// The fields of a layout, by its number, for k, that stand in the part.
-fn read_part(l: usize, k: usize, part: &[u8]) -> Read
-    ensures { result ≡ read_part_of l k part.now }
-{
-    if !layout::known(l) {
-        return refused(refusal::CODE_NOT_HANDLED, 0);
+    let Some(shape) = Shape::of(line, count_in(line, body)) else {
+        return Err(LENGTH_WRONG);
+    };
+    if body.len() != shape.size() {
+        return Err(LENGTH_WRONG);
     }
-    if !layout::k_fits(l, k) {
-        return refused(refusal::INFO_LENGTH_WRONG, 0);
-    }
-    if part.len() != layout::size(l, k) {
-        return refused(refusal::INFO_LENGTH_WRONG, 0);
-    }
-    ranged(l, k, part)
+    ranged(shape, body)
 }
 
 // A part of the right length: its first field out of range is refused.
-fn ranged(l: usize, k: usize, part: &[u8]) -> Read
-    requires { k_fits (layout_at l) k ≡ true }
-    ensures { result ≡ ranged_of l k part.now }
+fn ranged(shape: Shape, part: &[u8]) -> Result<Message, Fault>
+    ensures { (l : ℕ) → Kept l shape.line → reading_of result ≡ ranged_of l shape.k part.now }
 {
-    let values = values(l, k, part);
-    let fields = layout::fields(l, k);
-    let field = layout::first_out(l, k, fields, &values);
-    if field != 0 {
-        return refused(refusal::OUT_OF_RANGE, field as u8);
+    let values = values(shape, part);
+    if let Some(place) = layout::first_out(shape, &values) {
+        return Err(Fault {
+            refusal: Refusal::OutOfRange,
+            field: (place + 1) as u8,
+        });
     }
-    let code = layout::layout_at(l).code;
-    Read {
-        refusal: refusal::NONE,
-        field: 0,
-        message: Message {
-            code,
-            fields,
-            values,
-        },
-    }
-}
-
-fn refused(n: u8, field: u8) -> Read
-    ensures { result ≡ not_read n field }
-{
-    Read {
-        refusal: n,
-        field,
-        message: Message {
-            code: NO_MESSAGE,
-            fields: 0,
-            values: [0u16; FIELDS_MOST],
-        },
-    }
+    Ok(Message {
+        code: shape.line.code,
+        fields: shape.fields(),
+        values,
+    })
 }
 
 // The count k: the octets before it are a field each.
-fn count_in(l: usize, body: &[u8]) -> usize
-    ensures { result ≡ k_in (layout_at l) body.now }
+fn count_in(line: LayoutLine, body: &[u8]) -> usize
+    requires { IsListed line }
+    ensures { result ≡ k_in (kept_by line) body.now }
 {
-    let n = layout::layout_at(l).count;
-    if n == 0 {
+    if line.count == 0 {
         return 0;
     }
-    info::value_at(body, n - 1, false) as usize
+    usize::from(info::value_at(body, line.count - 1, false))
 }
 
 // The values of the fields, left to right.
-fn values(l: usize, k: usize, body: &[u8]) -> [u16; FIELDS_MOST]
-    requires { k_fits (layout_at l) k ≡ true }
-    ensures { result ≡ placed (values_of (rows_at l k) body.now) }
+fn values(shape: Shape, body: &[u8]) -> [u16; FIELDS_MOST]
+    ensures { result ≡ placed (values_of (shape_rows shape) body.now) }
 {
-    let n = layout::fields(l, k);
-    let mut w = Walk::start(l, k);
-    let mut v = [0u16; FIELDS_MOST];
+    let mut values = [0u16; FIELDS_MOST];
     let mut at: usize = 0;
-    for i in 0..n {
-        let two = layout::two(w.field());
-        v[i] = info::value_at(body, at, two);
+    for (i, field) in Walk::over(shape).enumerate() {
+        let two = layout::two(field);
+        values[i] = info::value_at(body, at, two);
         at += layout::width(two);
-        w = w.next();
     }
-    v
+    values
 }

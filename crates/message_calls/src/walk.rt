@@ -1,12 +1,13 @@
 // 01, "Messages": the fields of a message "left to right": one walk over the rows of its layout serves reading, the search and
 // writing. It carries the row, so that no field's is looked for by the field's number.
-ghost use Rattle.std.specs.Prelude.{◌≡◌, true, get_or};
-ghost use Rattle.message.specs.Fields.{no_field};
-ghost use Rattle.message.specs.Layouts.{layout_at, k_fits, rows_at};
-ghost use Rattle.message_calls.specs.Walk.{fields_ahead, Walking, AtPlace};
+ghost use Rattle.std.specs.Prelude.{◌≡◌};
+ghost use Rattle.std.specs.Iterator.{YieldsFirst, item_count};
+ghost use Rattle.message_calls.specs.Shape.{shape_rows};
+ghost use Rattle.message_calls.specs.Walk.{fields_ahead, Walking};
 
 use crate::layout;
-use message::layout::{Field, NO_FIELD};
+use crate::shape::Shape;
+use message::layout::Field;
 
 #[derive(Clone, Copy)]
 pub(crate) struct Walk {
@@ -21,59 +22,42 @@ pub(crate) struct Walk {
 
 impl Walk {
     // From the first field on.
-    pub(crate) fn start(l: usize, k: usize) -> Walk
-        requires { k_fits (layout_at l) k ≡ true }
-        ensures { AtPlace (rows_at l k) 0 result }
+    pub(crate) fn over(shape: Shape) -> Walk
+        ensures { Walking result × (fields_ahead result ≡ shape_rows shape) }
     {
-        let y = layout::layout_at(l);
+        let y = shape.line;
         let first = y.from + y.head;
         let after = first + y.group;
         Walk {
             row: y.from,
-            rounds: k,
+            rounds: shape.k,
             first,
             after,
             end: after + y.tail,
         }
     }
+}
 
-    // The next field; past the last there is none.
-    pub(crate) fn field(self) -> Field
-        requires { Walking self }
-        ensures { result ≡ get_or (fields_ahead self) 0 no_field }
-    {
-        if self.end <= self.row {
-            return NO_FIELD;
-        }
-        layout::field_at(self.row)
-    }
+impl Iterator for Walk {
+    type Item = Field;
+
+    ghost can_next = { Walking };
+
+    ghost next_gives = { YieldsFirst fields_ahead };
+
+    ghost remaining = { item_count fields_ahead };
 
     // On to the field after it: from the last of the repeated rows back to the first, while they come again.
-    pub(crate) fn next(self) -> Walk
-        requires { Walking self }
-        ensures { AtPlace (fields_ahead self) 1 result }
-    {
+    fn next(&mut self) -> Option<Field> {
         if self.end <= self.row {
-            return self;
+            return None;
         }
-        let row = self.row + 1;
-        if row == self.after {
-            if 1 < self.rounds {
-                return Walk {
-                    row: self.first,
-                    rounds: self.rounds - 1,
-                    first: self.first,
-                    after: self.after,
-                    end: self.end,
-                };
-            }
+        let field = layout::field_at(self.row);
+        self.row += 1;
+        if self.row == self.after && 1 < self.rounds {
+            self.row = self.first;
+            self.rounds -= 1;
         }
-        Walk {
-            row,
-            rounds: self.rounds,
-            first: self.first,
-            after: self.after,
-            end: self.end,
-        }
+        Some(field)
     }
 }

@@ -1,89 +1,81 @@
 // 01, "Messages": the writer, straight into the output from `at` on.
-ghost use Rattle.std.specs.Prelude.{◌≡◌, true, ◌+◌, ◌≤◌, length};
+ghost use Rattle.std.specs.Prelude.{◌≡◌, ◌+◌, ◌≤◌, eqb, length};
+ghost use Rattle.std.specs.List.{list_all};
 ghost use Rattle.octets.specs.Put.{Put, Stored};
-ghost use Rattle.octets.specs.Writing.{WriterLeaves, written_as};
+ghost use Rattle.octets.specs.Writing.{WriterLeaves, written_as, written_of};
 ghost use Rattle.message.specs.Fields.{field_octets};
-ghost use Rattle.message.specs.Layouts.{layout_at, k_fits, rows_at};
 ghost use Rattle.message.specs.Values.{size_of, octets_of};
-ghost use Rattle.message.specs.Writer.{info_as, writable_as, write_message};
+ghost use Rattle.message.specs.Writer.{info_as, write_message};
+ghost use Rattle.message_calls.specs.Shape.{shape_rows, WritableAs};
 
 use crate::layout;
+use crate::shape::Shape;
 use crate::walk::Walk;
 use message::{FIELDS_MOST, Message};
-use octets::{Written, refusal};
+use octets::refusal::Refusal;
 
 // The message as INFO. A field out of its range, one too few or too many, or a code that is not listed is refused before
 // the output is looked at.
-pub fn write(m: Message, out: &mut [u8], at: usize) -> Written
-    ensures { WriterLeaves (write_message m at out.old) result out.new }
+pub fn write(m: Message, out: &mut [u8], at: usize) -> Result<usize, Refusal>
+    ensures { WriterLeaves (write_message m at out.old) (written_of result) out.new }
 {
-    let values = m.values;
-    let l = layout::find(m.code);
-    let k = layout::count(l, values);
-    if !writable(l, k, m.fields, values) {
-        return Written {
-            refusal: refusal::FIELD_WRONG,
-            count: 0,
-        };
-    }
-    put_message(m.code, l, k, values, out, at)
+    let Some(shape) = writable(&m) else {
+        return Err(Refusal::FieldWrong);
+    };
+    put_message(m.code, shape, &m.values, out, at)
 }
 
-// Has the message as many fields as its layout, each in its range, and 0 past the last?
-fn writable(l: usize, k: usize, fields: usize, values: [u16; FIELDS_MOST]) -> bool
-    ensures { result ≡ writable_as l k fields values }
+// The layout of the message, if the message has as many fields, each in its range, and 0 past the last.
+fn writable(m: &Message) -> Option<Shape>
+    ensures { WritableAs m.now result }
 {
-    if !layout::known(l) {
-        return false;
+    let line = layout::find(m.code)?;
+    let shape = Shape::of(line, layout::count(line, &m.values))?;
+    if m.fields != shape.fields() {
+        return None;
     }
-    if !layout::k_fits(l, k) {
-        return false;
+    if layout::first_out(shape, &m.values).is_some() {
+        return None;
     }
-    if fields != layout::fields(l, k) {
-        return false;
+    if !clear(&m.values[m.fields..]) {
+        return None;
     }
-    layout::first_out(l, k, FIELDS_MOST, &values) == 0
+    Some(shape)
+}
+
+fn clear(values: &[u16]) -> bool
+    ensures { result ≡ list_all (λ v. eqb v 0) values.now }
+{
+    values.iter().all(|value| *value == 0)
 }
 
 // The code and the fields, where there is room for all of them.
 fn put_message(
     code: u16,
-    l: usize,
-    k: usize,
-    values: [u16; FIELDS_MOST],
+    shape: Shape,
+    values: &[u16; FIELDS_MOST],
     out: &mut [u8],
     at: usize,
-) -> Written
-    requires { k_fits (layout_at l) k ≡ true }
-    ensures { WriterLeaves (written_as (info_as code (rows_at l k) values) at out.old) result out.new }
+) -> Result<usize, Refusal>
+    ensures { WriterLeaves (written_as (info_as code (shape_rows shape) values.now) at out.old) (written_of result) out.new }
 {
-    let n = octets::CODE_LEN + layout::size(l, k);
+    let n = octets::CODE_LEN + shape.size();
     if !octets::room(out.len(), at, n) {
-        return Written {
-            refusal: refusal::OUTPUT_SHORT,
-            count: 0,
-        };
+        return Err(Refusal::OutputShort);
     }
     let p = put_field(code, true, &mut *out, at);
-    put_fields(l, k, values, &mut *out, p);
-    Written {
-        refusal: refusal::NONE,
-        count: n,
-    }
+    put_fields(shape, values, &mut *out, p);
+    Ok(n)
 }
 
 // The fields' octets, left to right.
-fn put_fields(l: usize, k: usize, values: [u16; FIELDS_MOST], out: &mut [u8], at: usize) -> usize
-    requires { (k_fits (layout_at l) k ≡ true) × (at + size_of (rows_at l k) ≤ length out.old) }
-    ensures { Stored (octets_of (rows_at l k) values) at out.old result out.new }
+fn put_fields(shape: Shape, values: &[u16; FIELDS_MOST], out: &mut [u8], at: usize) -> usize
+    requires { at + size_of (shape_rows shape) ≤ length out.old }
+    ensures { Stored (octets_of (shape_rows shape) values.now) at out.old result out.new }
 {
-    let n = layout::fields(l, k);
-    let mut w = Walk::start(l, k);
     let mut p = at;
-    for i in 0..n {
-        let two = layout::two(w.field());
-        p = put_field(values[i], two, &mut *out, p);
-        w = w.next();
+    for (field, value) in Walk::over(shape).zip(values) {
+        p = put_field(*value, layout::two(field), &mut *out, p);
     }
     p
 }

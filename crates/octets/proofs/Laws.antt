@@ -1,17 +1,23 @@
 -- What follows from the definitions of specs/, for every crate above.
 use Prim.Native.Nat.{ℕ, zero, suc, ◌+◌, ◌-◌, ◌≤◌, ◌<◌}
 use mathlib.Core.Path.{◌≡◌, refl, sym, ap, subst, ◌∙◌}
-use mathlib.Core.Bool.{Bool, true, false, not}
+use mathlib.Core.Bool.{Bool, true, false, not, ◌&&◌}
 use mathlib.Core.List.{List, [], ◌∷◌, ◌++◌}
-use native.Mathlib.Decide.{dec_le, dec_lt}
+use native.Mathlib.Decide.{dec_lt}
 use native.Mathlib.Nat.{add-zero, zero-add, add-suc, suc-add}
 use native.Mathlib.Numerals.{add-one}
 use native.Mathlib.Omega.{arith}
-use borrow.Author.Tests.{eq-eqb, ne_eqb, le-leb, lt-leb, eqb-true}
+use borrow.Author.Tests.{eq-eqb, ne_eqb, le-leb, lt-leb, leb-true, eqb-true}
 use lib.Bits.{xor_self, xor_lt}
 use lib.Dec.{T, eqb, leb}
 use lib.ListN.{length, set, take, drop, get_or, replicate, length-append, length-drop, take-append-drop, drop_of_length-le}
-use lib.Seq.{sets, drop-cons, drop-length, get_or-append-add, length-sets, sets-eq, take_all, take_at, drop_at, take-set-le, take-set-lt, drop-set-lt, drop-set-add}
+use lib.Seq.{sets, drop-cons, length-sets, sets-eq, take_all, take_at, drop_at, take-set-le, take-set-lt, drop-set-lt, drop-set-add}
+use borrow.Rule.Slice.PartMut.{put_mid}
+use Rattle.std.specs.Cmp.Lexicographic.{pointwise}
+use Rattle.std.specs.Int.Bits.{bit_xor}
+use Rattle.std.specs.List.{fold}
+use Rattle.std.proofs.lemmas.List.{drop_more}
+use Rattle.std.proofs.lemmas.Slice.{put_mid-paste}
 use Rattle.octets.specs.Choice.{pick, both}
 use Rattle.octets.specs.Octet.{Octets}
 use Rattle.octets.specs.Word.{high_of, low_of, word_of}
@@ -74,6 +80,12 @@ unfolding exclusive_or xor
 exclusive-or-octet a [] h o = h
 exclusive-or-octet a (x ∷ xs) h o = exclusive-or-octet (xor a x) xs (xor_lt 8 a x h o.0) o.1
 
+-- the library's fold, with its exclusive or
+pub exclusive-or-fold : (a : ℕ) (xs : List ℕ) → fold bit_xor a xs ≡ exclusive_or a xs
+unfolding exclusive_or xor
+exclusive-or-fold a [] = refl
+exclusive-or-fold a (x ∷ xs) = exclusive-or-fold (xor a x) xs
+
 -- Octet
 
 pub octets-append : (xs ys : List ℕ) → Octets xs → Octets ys → Octets (xs ++ ys)
@@ -120,10 +132,6 @@ octets-zero (suc n) = (omega arith, octets-zero n)
 pub drop-next : (s : List ℕ) (i : ℕ) → i < length s → drop i s ≡ get_or s i 0 ∷ drop (i + 1) s
 drop-next s i h = rw (add-one, drop-cons s i 0)
 
--- what stands past the end of the first of two lists
-pub get_d_past : {A : Type 0} (xs ys : List A) (d : A) (i : ℕ) → length xs ≤ i → get_or (xs ++ ys) i d ≡ get_or ys (i - length xs) d
-get_d_past xs ys d i h = let e : length xs + (i - length xs) ≡ i = omega arith in rw e at (get_or-append-add xs ys (i - length xs) d)
-
 pub sets-append : (xs ys l : List ℕ) (i : ℕ) → sets l i (xs ++ ys) ≡ sets (sets l i xs) (i + length xs) ys
 sets-append [] ys l i = rw (add-zero i)
 sets-append (x ∷ xs) ys l i = rw (add-suc i (length xs), ← suc-add i (length xs)) (sets-append xs ys (set l i x) (suc i))
@@ -164,10 +172,6 @@ module _ (vs l : List ℕ) (h : length vs ≤ length l) where
 pub part_to_end : (s : List ℕ) (a : ℕ) → take (length s - a) (drop a s) ≡ drop a s
 part_to_end s a = take_all (length s - a) (drop a s) (simp length-drop (omega arith))
 
--- past the end nothing is left
-pub part-past-end : (s : List ℕ) (a : ℕ) → length s ≤ a → drop (length s) s ≡ drop a s
-part-past-end s a h = drop-length s ∙ sym (drop_of_length-le s h)
-
 -- Put
 
 -- one run of octets after another
@@ -196,14 +200,13 @@ module _ {vs l l' : List ℕ} {i r : ℕ} where
 pub put-none : {vs l : List ℕ} {i : ℕ} → length l < i + length vs → Put vs i l i l
 put-none {vs} {l} {i} h = record { place = rw (lt-leb (i + length vs) (length l) h); holds = rw (lt-leb (i + length vs) (length l) h) }
 
--- Writing
+-- a copy in the part that starts at i
+pub copied : {vs l ys : List ℕ} {i k : ℕ} → ys ≡ vs → k ≡ length vs → leb (i + length vs) (length l) ≡ true → Put vs i l (i + length vs) (put_mid i k l ys)
+copied {vs} {l} {ys} {i} {k} e p t =
+    let o : put_mid i k l ys ≡ sets l i vs = put_mid-paste i k l ys vs (length vs) e (sym p) refl ∙ rw (take_all (length vs) vs (omega arith)) (sym (sets-eq vs l i (leb-true (i + length vs) (length l) t))) in
+    record { place = rw t; holds = rw t o }
 
-pub room-left : (n at k : ℕ) → at ≤ n → leb k (n - at) ≡ leb (at + k) n
-room-left n at k h = by (dec_le (at + k) n)
-  where
-    by : Dec (at + k ≤ n) → leb k (n - at) ≡ leb (at + k) n
-    by (yes l) = le-leb k (n - at) (omega arith) ∙ sym (le-leb (at + k) n l)
-    by (no g) = lt-leb k (n - at) (omega arith) ∙ sym (lt-leb (at + k) n (omega arith))
+-- Writing
 
 module _ (vs out : List ℕ) (at : ℕ) where
   pub written-9 : {n : ℕ} → n ≡ length vs → leb (at + n) (length out) ≡ false → written_as vs at out ≡ nothing_written output_short out
@@ -250,11 +253,11 @@ module _ {t : ℕ → Bool} {n : ℕ} where
 module _ (xs ys : List ℕ) (i : ℕ) (hx : i < length xs) (hy : i < length ys) where
   pub same-stops : (get_or xs i 0 ≡ get_or ys i 0 → ⊥) → false ≡ same (drop i xs) (drop i ys)
   unfolding same
-  same-stops n = rw (drop-next xs i hx, drop-next ys i hy, ne_eqb (get_or xs i 0) (get_or ys i 0) n)
+  same-stops n = rw (drop_more xs i 0 hx, drop_more ys i 0 hy, ne_eqb (get_or xs i 0) (get_or ys i 0) n)
 
   pub same-goes : get_or xs i 0 ≡ get_or ys i 0 → same (drop (i + 1) xs) (drop (i + 1) ys) ≡ same (drop i xs) (drop i ys)
   unfolding same
-  same-goes e = rw (drop-next xs i hx, drop-next ys i hy, eq-eqb (get_or xs i 0) (get_or ys i 0) e)
+  same-goes e = rw (drop_more xs i 0 hx, drop_more ys i 0 hy, eq-eqb (get_or xs i 0) (get_or ys i 0) e)
 
 pub same_ends : (xs ys : List ℕ) (i : ℕ) → length xs ≤ i → length ys ≤ i → true ≡ same (drop i xs) (drop i ys)
 unfolding same
@@ -268,6 +271,14 @@ same-is [] (y ∷ ys) h = absurd (clash refl h)
 same-is (x ∷ xs) [] h = absurd (clash refl h)
 same-is (x ∷ xs) (y ∷ ys) h =
     ap (λ (z : ℕ). z ∷ xs) (eqb-true x y (both_left (eqb x y) (same xs ys) h)) ∙ ap (λ (zs : List ℕ). y ∷ zs) (same-is xs ys (both_right (eqb x y) (same xs ys) h))
+
+-- the library's `==` at octets
+pub pointwise-same : (xs ys : List ℕ) → pointwise eqb xs ys ≡ same xs ys
+unfolding same
+pointwise-same [] [] = refl
+pointwise-same [] (y ∷ ys) = refl
+pointwise-same (x ∷ xs) [] = refl
+pointwise-same (x ∷ xs) (y ∷ ys) = rw (pointwise-same xs ys) (elim (eqb x y) as (λ b. (b && same xs ys) ≡ both b (same xs ys)) [ true ↦ refl | false ↦ refl ])
 
 pub is_same : (xs : List ℕ) → same xs xs ≡ true
 unfolding same

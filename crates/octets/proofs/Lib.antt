@@ -1,7 +1,6 @@
 pub mod Laws
 pub mod Search
 pub mod Every
-pub mod Arms
 pub mod Words
 pub mod Relations
 pub mod Only

@@ -10,6 +10,7 @@ use Rattle.octets.proofs.same.Reads as same
 use Rattle.octets.proofs.put.Reads as put
 use Rattle.octets.proofs.room.Reads as room
 use Rattle.octets.proofs.body.Reads as body
+use Rattle.octets.proofs.refusal.Refusal.number.Reads as number
 
 only-high : (κs : _) (a : _) (r s : _) (x y : _) → high.Post κs a r x → high.Post κs a s y → r ≡ s
 only-high κs a r s x y p q = p ∙ sym q
@@ -40,3 +41,6 @@ only-room κs a r s x y p q = p ∙ sym q
 
 only-body : (κs : _) (a : _) (r s : _) (x y : _) → body.Post κs a r x → body.Post κs a s y → (r.ref_ptr ≡ s.ref_ptr) × (r.now ≡ s.now)
 only-body κs a r s x y p q = (p.place ∙ sym q.place, p.octets ∙ sym q.octets)
+
+only-number : (κs : _) (a : _) (r s : _) (x y : _) → number.Post κs a r x → number.Post κs a s y → r ≡ s
+only-number κs a r s x y p q = p ∙ sym q

@@ -1,5 +1,6 @@
 pub mod Choice
 pub mod Refusal
+pub mod Refusals
 pub mod Octet
 pub mod Word
 pub mod ExclusiveOr

@@ -1,16 +1,17 @@
 -- What 01 calls an octet, "high octet first", "exclusive or" and the code, stated from outside; and what the records mean by which
 -- contracts speak.
-use Rattle.std.specs.Prelude.{ℕ, ◌+◌, ◌*◌, ◌/◌, ◌%◌, ◌^◌, ◌≤◌, ◌<◌, min, ◌≡◌, Bool, true, false, List, [], ◌∷◌, ◌++◌, length, get_or, take, drop}
+use Rattle.std.specs.Prelude.{ℕ, ◌+◌, ◌*◌, ◌/◌, ◌%◌, ◌^◌, ◌≤◌, ◌<◌, min, ◌≡◌, Bool, true, false, List, [], ◌∷◌, ◌++◌, Result, Ok, Err, length, get_or, take, drop}
 use Rattle.std.specs.Borrow.{Bor}
 use Rattle.octets.specs.ExclusiveOr.{xor, exclusive_or}
 use Rattle.octets.specs.Octet.{Octets}
-use Rattle.octets.specs.declared.Written.{Written}
 use Rattle.octets.specs.First.{First}
 use Rattle.octets.specs.Part.{code_len, PartOf, PartFrom}
 use Rattle.octets.specs.Put.{Put}
 use Rattle.octets.specs.Same.{same}
 use Rattle.octets.specs.Word.{high_of, low_of, word_of}
-use Rattle.octets.specs.Writing.{Writing, WriterLeaves}
+use Rattle.octets.specs.declared.refusal.Refusal.{Refusal}
+use Rattle.octets.specs.Refusals.{refusal_number}
+use Rattle.octets.specs.Writing.{Writing, Written, WriterLeaves, written_of}
 
 pub record EachOctet : Type 0 where
   -- an octet is a number below 256
@@ -56,3 +57,13 @@ pub record EachRelation : Type 0 where
 
 abbrev pub RelationsAsSaid : Type 0
 RelationsAsSaid = EachRelation
+
+-- A writer's answer in 01's numbers: how many octets it stored, with nothing refused; or the refusal, with "nothing written"
+pub record WritersAnswer : Type 0 where
+  pub stored : (n : ℕ) → ((written_of (Ok n)).refusal ≡ 0) × ((written_of (Ok n)).count ≡ n)
+  pub refused : (r : Refusal) → ((written_of (Err r)).refusal ≡ refusal_number r) × ((written_of (Err r)).count ≡ 0)
+  -- and from the numbers the answer is known
+  pub apart : (r s : Result ℕ Refusal) → written_of r ≡ written_of s → r ≡ s
+
+abbrev pub WritersAnswerSo : Type 0
+WritersAnswerSo = WritersAnswer

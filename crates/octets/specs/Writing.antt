@@ -1,9 +1,20 @@
 -- What a call of a writer answers, and what it leaves in the output.
-use Rattle.std.specs.Prelude.{ℕ, ◌+◌, ◌≡◌, List, leb, length}
+use Rattle.std.specs.Prelude.{ℕ, ◌+◌, ◌≡◌, List, Result, Ok, Err, leb, length}
 use Rattle.std.proofs.lemmas.List.Edits.{sets}
 use Rattle.octets.specs.Choice.{pick}
 use Rattle.octets.specs.Refusal as refusal
-use Rattle.octets.specs.declared.Written.{Written}
+use Rattle.octets.specs.Refusals.{refusal_number}
+use Rattle.octets.specs.declared.refusal.Refusal.{Refusal}
+
+-- the number of the refusal, 0 for none, and how many octets are stored
+pub record Written : Type 0 where
+  pub refusal : ℕ
+  pub count : ℕ
+
+-- what the code answers: how many octets it stored, or the refusal
+abbrev pub written_of : Result ℕ Refusal → Written
+written_of (Ok n) = record { refusal = refusal.none; count = n }
+written_of (Err r) = record { refusal = refusal_number r; count = 0 }
 
 pub record Writing : Type 0 where
   pub answer : Written

@@ -10,13 +10,11 @@ use lib.ListN.{length}
 use Rattle.octets.specs.Octet.{Octets}
 use Rattle.octets.specs.Part.{code_len}
 use Rattle.octets.specs.Refusal as refusal
-use Rattle.message.specs.declared.Read.{Read}
-use Rattle.message.specs.Reader.{code_in, body_in, not_read, read_of}
+use Rattle.message.specs.Reader.{Read, code_in, body_in, not_read, read_of}
 use Rattle.message.proofs.Reading.{read-11}
-use Rattle.plan.specs.declared.setting.NewRecord.{NewRecord}
+use Rattle.plan.specs.Setting.{NewRecord, plan_in, answered, set_front, set_of, times_made, ready_made, set_times_code, set_plan_code, set_times_of, set_plan_of}
 use Rattle.record.specs.Record.{book_len, plans_most}
 use Rattle.plan.specs.Reading.{record_at, read_refusal}
-use Rattle.plan.specs.Setting.{plan_in, answered, set_front, set_of, times_made, ready_made, set_times_code, set_plan_code, set_times_of, set_plan_of}
 use Rattle.plan.specs.Promises.{SetRefused, SetsRefuse, RecordStored, OthersRead, SetsLeaveOthers, WellFormed, BookWellFormed, SetsKeepForm}
 use Rattle.plan.proofs.Sets.{front-book, front-code, front_read, other-code, no_code_lem, front-sound, set_is}
 use Rattle.plan.proofs.Storing.{times-stored-exactly-when}

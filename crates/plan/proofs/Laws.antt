@@ -1,12 +1,12 @@
 -- What follows from the definitions of specs/: one law for each way through.
-use Prim.Native.Nat.{ℕ, ◌+◌, ◌-◌, ◌≤◌, ◌<◌}
-use mathlib.Core.Path.{◌≡◌, refl, sym, ◌∙◌}
+use Prim.Native.Nat.{ℕ, ◌≤◌, ◌<◌}
+use mathlib.Core.Path.{◌≡◌, refl, sym}
 use mathlib.Core.Bool.{Bool, true, false, not, ◌||◌, or-true}
 use mathlib.Core.List.{List}
 use native.Mathlib.Omega.{arith}
 use borrow.Author.Tests.{eq-eqb, ne_eqb, le-leb, lt-leb, eqb-true, leb-true}
 use lib.Dec.{eqb, leb}
-use lib.ListN.{length, take, drop, length-drop}
+use lib.ListN.{length, drop, length-drop}
 use lib.Seq.{length-take-le}
 use Rattle.octets.specs.Choice.{pick, both}
 use Rattle.octets.specs.Refusal as refusal
@@ -39,11 +39,8 @@ unfolding either_built_in
 is-either New = rw (is_same (built_in New))
 is-either Old = rw (is_same (built_in Old)) (or-true (same (built_in Old) (built_in New)))
 
-pub record-from : (book : List ℕ) (at p : ℕ) → at ≡ record_start p → take (at + record_len - at) (drop at book) ≡ record_at book p
-record-from book at p e = let n : at + record_len - at ≡ record_len = omega arith in rw (n, e)
-
-pub record-long : (book : List ℕ) (at : ℕ) → at + record_len ≤ length book → length (take (at + record_len - at) (drop at book)) ≡ record_len
-record-long book at h = length-take-le (at + record_len - at) (drop at book) (simp length-drop (omega arith)) ∙ omega arith
+pub record-long : (book : List ℕ) (p : ℕ) {rec : List ℕ} → rec ≡ record_at book p → length book ≡ book_len → 1 ≤ p → p ≤ plans_most → length rec ≡ record_len
+record-long book p e hb l m = rw e (length-take-le record_len (drop (record_start p) book) (simp length-drop (omega arith)))
 
 module _ (book copy : List ℕ) (p : ℕ) where
   pub refused-book : (length book ≡ book_len → ⊥) → refusal.book_wrong ≡ read_refusal book copy p

@@ -1,6 +1,7 @@
 pub mod Laws
 pub mod Ranges
 pub mod Sets
+pub mod Answers
 pub mod Storing
 pub mod Readying
 pub mod Reports

@@ -11,10 +11,9 @@ use Rattle.octets.specs.First.{first_of}
 use Rattle.octets.specs.Refusal as refusal
 use Rattle.octets.specs.Word.{high_of, low_of}
 use Rattle.octets.proofs.Laws.{word_back}
-use Rattle.message.specs.declared.Read.{Read}
+use Rattle.message.specs.Reader.{Read, no_message, not_read, code_in, body_in, read_of}
 use Rattle.message.specs.Layouts.{layouts, layout_at, number_of, rows_at, layout_rows}
 use Rattle.message.specs.Values.{zeros, values_of}
-use Rattle.message.specs.Reader.{no_message, not_read, code_in, body_in, read_of}
 use Rattle.message.specs.Promises.{fields_of, RightAt, RightLength, out_of_range}
 use Rattle.message.proofs.ReadSo.{parts-read-so}
 use Rattle.record.specs.Record.{empty, ready, octet_at, k_of, Within}

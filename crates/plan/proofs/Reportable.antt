@@ -14,9 +14,8 @@ use Rattle.octets.specs.Refusal as refusal
 use Rattle.octets.proofs.Laws.{word_back}
 use Rattle.message.specs.declared.layout.Field.{Field}
 use Rattle.message.specs.Layouts.{layouts, layout_at, number_of, rows_at, layout_rows, repeated, times, greens, cycle_offset}
-use Rattle.message.specs.declared.Read.{Read}
+use Rattle.message.specs.Reader.{Read, no_message, read_as, part_of, read_of}
 use Rattle.message.specs.Values.{size_of, zeros}
-use Rattle.message.specs.Reader.{no_message, read_as, part_of, read_of}
 use Rattle.message.specs.Writer.{writable}
 use Rattle.message.proofs.Accepted.{accepted-in, is-part, again, read_part}
 use Rattle.message.proofs.WrittenSo.{in-writable}

@@ -14,19 +14,16 @@ use Rattle.octets.specs.Part.{code_len}
 use Rattle.octets.specs.Put.{Put, Stored}
 use Rattle.octets.specs.Refusal as refusal
 use Rattle.octets.proofs.Laws.{clash, put-stored, stored-then, part_to_end}
-use Rattle.message.specs.declared.Read.{Read}
+use Rattle.message.specs.Reader.{Read, code_in, body_in, read_of}
 use Rattle.message.specs.Layouts.{layouts, layout_at, number_of, rows_at, layout_rows}
-use Rattle.message.specs.Reader.{code_in, body_in, read_of}
 use Rattle.message.specs.Names.{plan_at, plan_count_at, maximum_at, red_man_at}
 use Rattle.message.proofs.Accepted.{accepted-in}
 use Rattle.message.proofs.Values.{filled_at, filled-long, filled_is}
-use Rattle.plan.specs.declared.setting.Answered.{Answered}
-use Rattle.plan.specs.declared.setting.NewRecord.{NewRecord}
+use Rattle.plan.specs.Setting.{Answered, NewRecord, plan_in, count_in, Times14, Plan15, times_record, ready_record, made, not_made, times_field, plan_field, times_made, ready_made, SetLeaves, answered, kept_as, set_times_code, set_plan_code, other_code, set_front, set_of}
 use Rattle.record.specs.Record.{record_len, book_len, empty, times_set, ready, octet_at, k_of, times_end, ZeroFrom}
 use Rattle.checks.specs.Standing.{between, times_disagree, plan_disagree, standing_of}
 use Rattle.plan.specs.BuiltIn.{padded}
 use Rattle.plan.specs.Reading.{record_start}
-use Rattle.plan.specs.Setting.{plan_in, count_in, Times14, Plan15, times_record, ready_record, made, not_made, times_field, plan_field, times_made, ready_made, SetLeaves, answered, kept_as, set_times_code, set_plan_code, other_code, set_front, set_of}
 use Rattle.checks.proofs.Stands.{part-long, part_at}
 use Rattle.plan.proofs.Ranges.{InRanges, set-times, set-plan, read-ranges}
 

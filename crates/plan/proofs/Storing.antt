@@ -12,12 +12,11 @@ use Rattle.octets.specs.Refusal as refusal
 use Rattle.message.specs.Layouts.{layouts, layout_at, number_of, rows_at, layout_rows, times}
 use Rattle.message.specs.Names.{plan_at}
 use Rattle.message.specs.Reader.{code_in, body_in, read_of}
-use Rattle.plan.specs.declared.setting.NewRecord.{NewRecord}
+use Rattle.plan.specs.Setting.{NewRecord, plan_in, Setting, answered, made, not_made, times_record, times_field, times_made, kept_as, set_front, set_of, set_times_code, set_times_of}
 use Rattle.record.specs.Record.{record_len, book_len, plans_most, times_set, octet_at, k_of, times_at, times_end, minimum_of, maximum_of, walk_flash_of, red_man_of, TimesFit}
 use Rattle.checks.specs.Standing.{times_fail, times_checks, times_disagree}
 use Rattle.plan.specs.BuiltIn.{padded}
 use Rattle.plan.specs.Reading.{record_start, record_at}
-use Rattle.plan.specs.Setting.{plan_in, Setting, answered, made, not_made, times_record, times_field, times_made, kept_as, set_front, set_of, set_times_code, set_times_of}
 use Rattle.plan.specs.Promises.{Fit14, PhaseAgrees, Disagrees14, maximum, red_man, RecordStored, SameTimes, Holds14, TimesStoredExactlyWhen}
 use Rattle.checks.proofs.Fields.{ranged-same, phase-in, phase-out}
 use Rattle.checks.proofs.Stands.{times-first, check-maximum, check-redman, ordered-by, walk-by, agree-times, ranged-fit, fit-ranged}

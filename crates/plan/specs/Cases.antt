@@ -1,10 +1,9 @@
 -- 01, "Cases": those of the plan book, and some more beside them, computed.
 use Rattle.std.specs.Prelude.{ℕ, ◌-◌, ◌≡◌, List, [], ◌∷◌, ◌++◌, length, replicate}
 use Rattle.message.specs.Reader.{body_in}
-use Rattle.plan.specs.declared.setting.Answered.{Answered}
+use Rattle.plan.specs.Setting.{Answered, times_record, ready_record, set_times_of, set_plan_of}
 use Rattle.record.specs.Record.{empty_book}
 use Rattle.checks.specs.Standing.{standing_of}
-use Rattle.plan.specs.Setting.{times_record, ready_record, set_times_of, set_plan_of}
 
 -- a phase's times: this minimum, maximum 90, yellow 3, all-red 2, walk flash 15, red man 6
 abbrev phase : ℕ → List ℕ

@@ -1,9 +1,11 @@
 -- What 01 demands of the plan book, stated from outside.
-use Rattle.std.specs.Prelude.{ℕ, zero, suc, ◌+◌, ◌*◌, ◌-◌, ◌≤◌, ◌<◌, ◌≡◌, true, ◌⊎◌, List, [], ◌∷◌, ◌++◌, length, take, drop, replicate}
+use Rattle.std.specs.Prelude.{ℕ, zero, suc, ◌+◌, ◌*◌, ◌-◌, ◌≤◌, ◌<◌, ◌≡◌, true, ◌⊎◌, ⊤, Result, Ok, Err, List, [], ◌∷◌, ◌++◌, length, take, drop, replicate}
 use Rattle.std.specs.Borrow.{Bor}
 use Rattle.octets.specs.Octet.{Octets}
+use Rattle.octets.specs.Refusals.{refusal_number}
 use Rattle.octets.specs.Same.{same}
 use Rattle.diagram.specs.Table.{phases_of}
+use Rattle.message.specs.declared.Fault.{Fault}
 use Rattle.message.specs.declared.Message.{Message}
 use Rattle.message.specs.Reader.{code_in, body_in, read_of}
 use Rattle.record.specs.Record.{octet_at, word_at, k_of, minimum_of, maximum_of, yellow_of, all_red_of, walk_flash_of, red_man_of, direct_of, order_of, green_of, cycle_of, offset_of, Within, AllTimesFit, Empty, TimesSet, Ready}
@@ -13,8 +15,7 @@ use Rattle.plan.specs.declared.Which.TheVariants.{New, Old}
 use Rattle.plan.specs.BuiltIn.{built_in}
 use Rattle.plan.specs.Reading.{record_at, read_refusal, PlanRead}
 use Rattle.plan.specs.Reporting.{times_info, plan_info, report_times_of, report_plan_of}
-use Rattle.plan.specs.declared.setting.Answered.{Answered}
-use Rattle.plan.specs.Setting.{plan_in, count_in, Setting, SetLeaves, set_times_of, set_plan_of}
+use Rattle.plan.specs.Setting.{Answered, plan_in, count_in, Setting, SetLeaves, making_of, set_answer, set_times_of, set_plan_of}
 
 -- The checks of a message
 
@@ -144,6 +145,19 @@ pub record Holds15 (old body rec : List ℕ) : Type 0 where
 -- What the contract of a set says: the call answers what is due, and leaves the book that is due.
 abbrev pub SetsLeaveSo : Type 0
 SetsLeaveSo = (w : Setting) (r : Answered) (b : List ℕ) → SetLeaves w r b → (r ≡ w.answer) × (b ≡ w.book)
+
+-- A set's answer in 01's numbers: nothing refused, or the refusal and the field that it names. So is what a message makes: the record, or
+-- none, 80 octets of 0.
+pub record SetAnswers : Type 0 where
+  pub done : set_answer (Ok tt) ≡ record { refusal = 0; field = 0 }
+  pub refused : (e : Fault) → set_answer (Err e) ≡ record { refusal = refusal_number e.refusal; field = e.field }
+  pub made : (rec : List ℕ) → making_of (Ok rec) ≡ record { refusal = 0; field = 0; rec = rec }
+  pub none_made : (e : Fault) → making_of (Err e) ≡ record { refusal = refusal_number e.refusal; field = e.field; rec = replicate 80 0 }
+  -- and from the numbers the answer is known
+  pub apart : (r s : Result ⊤ Fault) → set_answer r ≡ set_answer s → r ≡ s
+
+abbrev pub SetsAnswerSo : Type 0
+SetsAnswerSo = SetAnswers
 
 -- What every set refuses
 

@@ -1,15 +1,15 @@
 -- 01, "Messages" and "Plan book": what is stored.
 --
 -- "An accepted 5F 14 writes state 01 and drops the greens; an accepted 5F 15 makes the plan ready. No other record changes."
-use Rattle.std.specs.Prelude.{ℕ, ◌+◌, ◌*◌, ◌-◌, ◌/◌, ◌%◌, ◌≡◌, Bool, not, List, ◌∷◌, ◌++◌, eqb, leb, length, drop, replicate}
+use Rattle.std.specs.Prelude.{ℕ, ◌+◌, ◌*◌, ◌-◌, ◌/◌, ◌%◌, ◌≡◌, Bool, not, List, ◌∷◌, ◌++◌, Result, Ok, Err, ⊤, eqb, leb, length, drop, replicate}
 use Rattle.std.proofs.lemmas.List.Edits.{sets}
 use Rattle.octets.specs.Choice.{pick, both}
 use Rattle.octets.specs.Part.{code_len}
 use Rattle.octets.specs.Refusal as refusal
+use Rattle.octets.specs.Refusals.{refusal_number}
+use Rattle.message.specs.declared.Fault.{Fault}
 use Rattle.message.specs.Names.{plan_at, maximum_at, red_man_at, plan_count_at}
 use Rattle.message.specs.Reader.{code_in, body_in, read_of}
-use Rattle.plan.specs.declared.setting.Answered.{Answered}
-use Rattle.plan.specs.declared.setting.NewRecord.{NewRecord}
 use Rattle.record.specs.Record.{record_len, book_len, plans_most, empty, times_set, ready, octet_at, k_of, times_end, Within}
 use Rattle.checks.specs.Standing.{between, times_disagree, plan_disagree, standing_of}
 use Rattle.plan.specs.BuiltIn.{padded}
@@ -46,13 +46,22 @@ times_record body = padded (times_set ∷ drop 1 body)
 unfoldable pub ready_record : List ℕ → List ℕ → List ℕ
 ready_record rec body = padded ((ready ∷ between 1 (times_end rec) rec) ++ (between 1 3 body ++ drop 4 body))
 
--- What a message makes: a record, or the refusal and the field that it names
+-- What a message makes: the record, or the refusal and the number of the field that it names.
+pub record NewRecord : Type 0 where
+  pub refusal : ℕ
+  pub field : ℕ
+  pub rec : List ℕ
 
 abbrev pub made : List ℕ → NewRecord
 made rec = record { refusal = refusal.none; field = 0; rec = rec }
 
 unfoldable pub not_made : ℕ → ℕ → NewRecord
 not_made n field = record { refusal = n; field = field; rec = replicate record_len 0 }
+
+-- what the code makes: the record, or why there is none
+abbrev pub making_of : Result (List ℕ) Fault → NewRecord
+making_of (Ok rec) = made rec
+making_of (Err e) = not_made (refusal_number e.refusal) e.field
 
 -- the field that the check of this number, from 1, names: "(names maximum)", "(names red man)"
 unfoldable pub times_field : ℕ → ℕ
@@ -77,6 +86,11 @@ ready_made rec body =
 
 -- The calls
 
+-- What a set answers: the refusal, and the number of the field that it names.
+pub record Answered : Type 0 where
+  pub refusal : ℕ
+  pub field : ℕ
+
 pub record Setting : Type 0 where
   pub answer : Answered
   pub book : List ℕ
@@ -88,6 +102,11 @@ pub record SetLeaves (w : Setting) (r : Answered) (b : List ℕ) : Type 0 where
 
 abbrev pub answered : ℕ → ℕ → Answered
 answered n field = record { refusal = n; field = field }
+
+-- what the code answers: done, or why it is refused
+abbrev pub set_answer : Result ⊤ Fault → Answered
+set_answer (Ok d) = answered refusal.none 0
+set_answer (Err e) = answered (refusal_number e.refusal) e.field
 
 -- what is made is the record of plan p, and the rest of the book stays; where nothing is made, all of it stays
 unfoldable pub kept_as : ℕ → NewRecord → List ℕ → Setting

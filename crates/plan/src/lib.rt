@@ -4,8 +4,6 @@
 
 #![tactic(auto)]
 
-pub mod setting;
-
 // 02, E1: which built-in plan is plan 0.
 #[derive(Clone, Copy)]
 pub enum Which {

@@ -9,8 +9,10 @@ use denote.Ref.{Bor}
 use Rattle.octets.specs.Choice.{pick, both}
 use Rattle.octets.specs.Part.{PartOf}
 use Rattle.octets.specs.Refusal as refusal
+use Rattle.octets.proofs.Refusals.{told-apart}
 use Rattle.record.specs.Record.{record_len, book_len, plans_most}
 use Rattle.plan.specs.Reading.{record_start, read_refusal}
+use Rattle.plan.proofs.Answers.{sets-answer-so}
 use Rattle.plan_calls.proofs.book.built_in.Reads as built_in
 use Rattle.plan_calls.proofs.book.is_built_in.Reads as is-built-in
 use Rattle.plan_calls.proofs.setting.set_times.Reads as set-times
@@ -25,10 +27,10 @@ only-is_built_in : (κs : _) (a : _) (r s : _) (x y : _) → is-built-in.Post κ
 only-is_built_in κs a r s x y p q = p ∙ sym q
 
 only-set_times : (κs : _) (a : _) (r s : _) (x y : _) → set-times.Post κs a r x → set-times.Post κs a s y → (r ≡ s) × (x.0.now ≡ y.0.now)
-only-set_times κs a r s x y p q = (p.answer ∙ sym q.answer, p.book ∙ sym q.book)
+only-set_times κs a r s x y p q = (sets-answer-so.apart r s (p.answer ∙ sym q.answer), p.book ∙ sym q.book)
 
 only-set_plan : (κs : _) (a : _) (r s : _) (x y : _) → set-plan.Post κs a r x → set-plan.Post κs a s y → (r ≡ s) × (x.0.now ≡ y.0.now)
-only-set_plan κs a r s x y p q = (p.answer ∙ sym q.answer, p.book ∙ sym q.book)
+only-set_plan κs a r s x y p q = (sets-answer-so.apart r s (p.answer ∙ sym q.answer), p.book ∙ sym q.book)
 
 -- whichever part it is, there is one
 one-part : (t u : Bool) (x y z : Bor (List ℕ)) (i n j m k l : ℕ) (r s : Bor (List ℕ)) → pick t (pick u (PartOf x i n r) (PartOf y j m r)) (PartOf z k l r)
@@ -37,15 +39,15 @@ one-part true true x y z i n j m k l r s p q = (p.place ∙ sym q.place, p.octet
 one-part true false x y z i n j m k l r s p q = (p.place ∙ sym q.place, p.octets ∙ sym q.octets)
 one-part false u x y z i n j m k l r s p q = (p.place ∙ sym q.place, p.octets ∙ sym q.octets)
 
-only-read_plan : (κs : _) (a : _) (r s : _) (x y : _) → read-plan.Post κs a r x → read-plan.Post κs a s y
-    → (r.ref_ptr ≡ s.ref_ptr) × (r.now ≡ s.now) × (x.1.1.1.0.now ≡ y.1.1.1.0.now)
+only-read_plan : (κs : _) (a : _) (r s : _) (x y : _) → read-plan.Post κs a r x → read-plan.Post κs a s y → r ≡ s
 only-read_plan κs a r s x y p q =
     let book = a.0 in
     let copy = a.1.0 in
     let plan = a.1.1.0 in
     let e =
-    one-part (eqb (read_refusal book.now copy.now plan) refusal.none) (eqb plan 0) copy book copy 0 record_len (record_start plan) record_len 0 0 r s p.part q.part in
-    (e.0, e.1, p.refusal ∙ sym q.refusal)
+    one-part (eqb (read_refusal book.now copy.now plan) refusal.none) (eqb plan 0) copy book copy 0 record_len (record_start plan) record_len 0 0 r.0 s.0 p.part q.part in
+    let n = told-apart r.1 s.1 (p.refusal ∙ sym q.refusal) in
+    λ i. (record { ref_ptr = e.0 i; now = e.1 i }, n i)
 
 only-plan_part : (κs : _) (a : _) (r s : _) (x y : _) → plan-part.Post κs a r x → plan-part.Post κs a s y → (r.ref_ptr ≡ s.ref_ptr) × (r.now ≡ s.now)
 only-plan_part κs a r s x y p q =

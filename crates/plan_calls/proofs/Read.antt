@@ -4,27 +4,30 @@ use mathlib.Core.Path.{◌≡◌, refl, sym, ap, subst, ◌∙◌}
 use mathlib.Core.Bool.{Bool, true, false, not}
 use mathlib.Core.List.{List}
 use native.Mathlib.Omega.{arith}
+use Rattle.std.specs.Prelude.{Some, None, Err}
 use lib.Dec.{eqb}
 use lib.ListN.{length, get_or}
 use Rattle.octets.specs.Choice.{pick}
+use Rattle.octets.specs.declared.refusal.Refusal.{Refusal}
 use Rattle.octets.specs.Refusal as refusal
+use Rattle.octets.specs.Refusals.{refusal_number}
+use Rattle.octets.proofs.Refusals.{told-apart}
 use Rattle.octets.specs.Word.{low_of}
-use Rattle.message.specs.declared.Read.{Read}
+use Rattle.message.specs.Reader.{Read, not_read, read_as, reading_of, k_in, code_in, body_in, read_of}
+use Rattle.message.specs.declared.Message.{Message}
+use Rattle.message.specs.declared.Fault.{Fault}
 use Rattle.message.specs.declared.layout.Field.{Field}
 use Rattle.message.specs.declared.layout.Field.TheVariants.{Octet}
 use Rattle.message.specs.Layouts.{layout_at, number_of}
-use Rattle.message.specs.Reader.{not_read, k_in, code_in, body_in, read_of}
 use Rattle.message.specs.Values.{values_of}
 use Rattle.message.specs.Writer.{k_of_message}
 use Rattle.message.specs.Promises.{FieldStands, OnePlan, fields_of, value_there, InRange}
 use Rattle.message.proofs.Numbers.{field-numbers}
 use Rattle.message.proofs.Accepted.{accepted-in}
 use Rattle.message.proofs.Places.{values-taken, values-stand}
-use Rattle.record.specs.Record.{record_len, plans_most, book_len, octet_at}
-use Rattle.plan.specs.declared.setting.Answered.{Answered}
-use Rattle.plan.specs.declared.setting.NewRecord.{NewRecord}
+use Rattle.record.specs.Record.{plans_most, book_len, octet_at}
+use Rattle.plan.specs.Setting.{Answered, NewRecord, Times14, Plan15, plan_in, count_in, answered, set_answer, other_code, times_made, ready_made, SetLeaves, kept_as, set_front, set_of, set_times_code, set_plan_code}
 use Rattle.plan.specs.Reading.{record_at}
-use Rattle.plan.specs.Setting.{Times14, Plan15, plan_in, count_in, answered, other_code, times_made, ready_made, SetLeaves, kept_as, set_front, set_of, set_times_code, set_plan_code}
 use Rattle.plan.proofs.Sets.{front-sound, read-times, read-plan, times-body, plan-body, set_is, set-goes}
 use Rattle.plan_calls.specs.Setting.{set_read}
 
@@ -65,6 +68,10 @@ plan-asked info em z ec one ep =
     let r = octet-read info (ap (λ (r : Read). r.refusal) (sym em) ∙ z) ec 0 (λ k. (one k).planned) (omega arith) e in
     (r.0, r.2)
 
+-- each refusal has a number
+pub refused-some : (r : Refusal) → refusal_number r ≡ refusal.none → ⊥
+refused-some r e = let z = told-apart (Some r) None e in cc
+
 module _ (n code : ℕ) (info : List ℕ) where
   by-setting : (P : Read → Answered → Type 0) → P (not_read refusal.book_wrong 0) (answered refusal.book_wrong 0)
       → P (not_read refusal.code_not_handled 0) (answered refusal.code_not_handled 0)
@@ -86,42 +93,39 @@ module _ (n code : ℕ) (info : List ℕ) where
   unfolding not_read
   read_is = by-setting (λ r a. r.refusal ≡ refusal.none → r ≡ read_of info) (λ e. absurd (omega arith)) (λ e. absurd (omega arith)) (λ e. refl)
 
-module _ (book info : List ℕ) (code : ℕ) {r : Read} (er : r ≡ set_read (length book) code info) where
-  told : {a : Answered} → a ≡ answered r.refusal r.field → a ≡ set_front (length book) code info
-  told ea = ea ∙ rw er (front-is (length book) code info)
+module _ (book info : List ℕ) (code : ℕ) where
+  told : {r : Read} → r ≡ set_read (length book) code info → answered r.refusal r.field ≡ set_front (length book) code info
+  told er = ap (λ (r : Read). answered r.refusal r.field) er ∙ front-is (length book) code info
 
-  pub set-refused : (m : NewRecord) → (r.refusal ≡ refusal.none → ⊥) → {a : Answered} → a ≡ answered r.refusal r.field → SetLeaves (set_of code m book info) a book
-  set-refused m n ea = rw (set_is code m book info (told ea) (λ e. n (sym (ap (λ (x : Answered). x.refusal) ea) ∙ e))) (record { answer = refl; book = refl })
+  pub set-refused : (m : NewRecord) (e : Fault) → reading_of (Err e) ≡ set_read (length book) code info → SetLeaves (set_of code m book info) (set_answer (Err e)) book
+  unfolding not_read
+  set-refused m e er = rw (set_is code m book info (told er) (refused-some e.refusal)) (record { answer = refl; book = refl })
 
-  module _ (h : r.refusal ≡ refusal.none) where
+  module _ {m : Message} (er : read_as m ≡ set_read (length book) code info) where
     sound : (length book ≡ book_len) × ((read_of info).refusal ≡ refusal.none) × (code_in info ≡ code)
-    sound = front-sound (length book) code info (ap (λ (a : Answered). a.refusal) (sym (told refl)) ∙ h)
+    sound = front-sound (length book) code info (ap (λ (a : Answered). a.refusal) (sym (told er)))
 
-    field_is : (j : ℕ) {s l g : ℕ} → ((k : ℕ) → FieldStands (fields_of code k) (j + 1) (Octet l g) s) → g < 256 → {v : ℕ} → v ≡ low_of (get_or r.message.values j 0)
+    field_is : (j : ℕ) {s l g : ℕ} → ((k : ℕ) → FieldStands (fields_of code k) (j + 1) (Octet l g) s) → g < 256 → {v : ℕ} → v ≡ low_of (get_or m.values j 0)
         → (v ≡ octet_at (body_in info) s) × (l ≤ v) × (v ≤ g)
     field_is j st b ev =
-        let e = er ∙ read_is (length book) code info (ap (λ (x : Read). x.refusal) (sym er) ∙ h) in
+        let e = er ∙ read_is (length book) code info (ap (λ (x : Read). x.refusal) (sym er)) in
         octet-read info sound.1 sound.2 j st b (ev ∙ ap (λ (x : Read). low_of (get_or x.message.values j 0)) e)
 
-    set_on : (m : NewRecord) → set_of code m book info ≡ kept_as (plan_in (body_in info)) m book
-    set_on m = set-goes code m book info (told refl) h
+    set_on : (w : NewRecord) → set_of code w book info ≡ kept_as (plan_in (body_in info)) w book
+    set_on w = set-goes code w book info (told er) refl
 
     pub book-long : length book ≡ book_len
     book-long = sound.0
 
-    -- the book has the record of a plan
-    pub book-holds : {at : ℕ} → at ≤ 3760 → at + record_len ≤ length book
-    book-holds l = omega (arith, book-long)
-
 -- the plan and the count that the sets read, and what they keep
-module _ (book info : List ℕ) {r : Read} (h : r.refusal ≡ refusal.none) where
-  module _ (er : r ≡ set_read (length book) set_times_code info) where
+module _ (book info : List ℕ) {m : Message} where
+  module _ (er : read_as m ≡ set_read (length book) set_times_code info) where
     pub times-read : {os : List ℕ} → os ≡ body_in info → Times14 os
-    times-read eo = let s = sound book info set_times_code er h in rw eo (times-body (body_in info) (read-times info s.1 s.2))
+    times-read eo = let s = sound book info set_times_code er in rw eo (times-body (body_in info) (read-times info s.1 s.2))
 
-    module _ {p : ℕ} (ep : p ≡ low_of (get_or r.message.values 0 0)) where
+    module _ {p : ℕ} (ep : p ≡ low_of (get_or m.values 0 0)) where
       times-plan : (p ≡ plan_in (body_in info)) × (1 ≤ p) × (p ≤ plans_most)
-      times-plan = field_is book info set_times_code er h 0 (λ k. (field-numbers.set_times k).planned) (omega arith) ep
+      times-plan = field_is book info set_times_code er 0 (λ k. (field-numbers.set_times k).planned) (omega arith) ep
 
       pub times-least : 1 ≤ p
       times-least = times-plan.1
@@ -129,20 +133,20 @@ module _ (book info : List ℕ) {r : Read} (h : r.refusal ≡ refusal.none) wher
       pub times-most : p ≤ plans_most
       times-most = times-plan.2
 
-      pub times-kept : {os : List ℕ} → os ≡ body_in info → {m : NewRecord} → m ≡ times_made os → {a : Answered} {l : List ℕ} → SetLeaves (kept_as p m book) a l
+      pub times-kept : {os : List ℕ} → os ≡ body_in info → {w : NewRecord} → w ≡ times_made os → {a : Answered} {l : List ℕ} → SetLeaves (kept_as p w book) a l
           → SetLeaves (set_of set_times_code (times_made (body_in info)) book info) a l
-      times-kept eo em d = rw (set_on book info set_times_code er h (times_made (body_in info))) (rw (times-plan.0, em, eo) at d)
+      times-kept eo ew d = rw (set_on book info set_times_code er (times_made (body_in info))) (rw (times-plan.0, ew, eo) at d)
 
-  module _ (er : r ≡ set_read (length book) set_plan_code info) where
+  module _ (er : read_as m ≡ set_read (length book) set_plan_code info) where
     pub plan-read : {os : List ℕ} → os ≡ body_in info → Plan15 os
-    plan-read eo = let s = sound book info set_plan_code er h in rw eo (plan-body (body_in info) (read-plan info s.1 s.2))
+    plan-read eo = let s = sound book info set_plan_code er in rw eo (plan-body (body_in info) (read-plan info s.1 s.2))
 
-    pub plan-count : {os : List ℕ} → os ≡ body_in info → {k : ℕ} → k ≡ low_of (get_or r.message.values 3 0) → k ≡ count_in os
-    plan-count eo e = rw eo (field_is book info set_plan_code er h 3 (λ k. (field-numbers.set_plan k).count) (omega arith) e).0
+    pub plan-count : {os : List ℕ} → os ≡ body_in info → {k : ℕ} → k ≡ low_of (get_or m.values 3 0) → k ≡ count_in os
+    plan-count eo e = rw eo (field_is book info set_plan_code er 3 (λ k. (field-numbers.set_plan k).count) (omega arith) e).0
 
-    module _ {p : ℕ} (ep : p ≡ low_of (get_or r.message.values 0 0)) where
+    module _ {p : ℕ} (ep : p ≡ low_of (get_or m.values 0 0)) where
       plan-plan : (p ≡ plan_in (body_in info)) × (1 ≤ p) × (p ≤ plans_most)
-      plan-plan = field_is book info set_plan_code er h 0 (λ k. (field-numbers.set_plan k).planned) (omega arith) ep
+      plan-plan = field_is book info set_plan_code er 0 (λ k. (field-numbers.set_plan k).planned) (omega arith) ep
 
       pub plan-least : 1 ≤ p
       plan-least = plan-plan.1
@@ -150,8 +154,8 @@ module _ (book info : List ℕ) {r : Read} (h : r.refusal ≡ refusal.none) wher
       pub plan-most : p ≤ plans_most
       plan-most = plan-plan.2
 
-      pub plan-kept : {os old : List ℕ} → os ≡ body_in info → old ≡ record_at book p → {m : NewRecord} → m ≡ ready_made old os
-          → {a : Answered} {l : List ℕ} → SetLeaves (kept_as p m book) a l
+      pub plan-kept : {os old : List ℕ} → os ≡ body_in info → old ≡ record_at book p → {w : NewRecord} → w ≡ ready_made old os
+          → {a : Answered} {l : List ℕ} → SetLeaves (kept_as p w book) a l
           → SetLeaves (set_of set_plan_code (ready_made (record_at book (plan_in (body_in info))) (body_in info)) book info) a l
-      plan-kept eo eq em d =
-          rw (set_on book info set_plan_code er h (ready_made (record_at book (plan_in (body_in info))) (body_in info))) (rw (em, eq, plan-plan.0, eo) at d)
+      plan-kept eo eq ew d =
+          rw (set_on book info set_plan_code er (ready_made (record_at book (plan_in (body_in info))) (body_in info))) (rw (ew, eq, plan-plan.0, eo) at d)

@@ -2,8 +2,7 @@
 use Rattle.std.specs.Prelude.{ℕ, not, List, eqb}
 use Rattle.octets.specs.Choice.{pick}
 use Rattle.octets.specs.Refusal as refusal
-use Rattle.message.specs.declared.Read.{Read}
-use Rattle.message.specs.Reader.{not_read, read_of}
+use Rattle.message.specs.Reader.{Read, not_read, read_of}
 use Rattle.record.specs.Record.{book_len}
 use Rattle.plan.specs.Setting.{other_code}
 

@@ -2,13 +2,14 @@
 ghost use Rattle.std.specs.Prelude.{◌≡◌, ◌≤◌, eqb, leb, length};
 ghost use Rattle.octets.specs.Choice.{pick, both};
 ghost use Rattle.octets.specs.Part.{PartOf};
+ghost use Rattle.octets.specs.Refusals.{told_number};
 ghost use Rattle.octets.specs.Same.{same};
 ghost use Rattle.record.specs.Record.{record_len, book_len, plans_most};
 ghost use Rattle.plan.specs.BuiltIn.{built_in_green, built_in_cycle, built_in};
-ghost use Rattle.plan.specs.Reading.{record_start, record_at, either_built_in, read_refusal, PartRead, PlanRead};
+ghost use Rattle.plan.specs.Reading.{record_start, record_at, either_built_in, read_refusal, PlanRead};
 ghost use Rattle.checks.specs.Standing.{standing_of};
 
-use octets::refusal;
+use octets::refusal::Refusal;
 use plan::Which;
 use record::{BOOK_LEN, PLANS_MOST, RECORD_LEN};
 
@@ -30,8 +31,7 @@ const OLD_CYCLE: u8 = 60;
 pub fn built_in(which: Which) -> [u8; RECORD_LEN]
     ensures { result ≡ built_in which }
 {
-    let green = built_in_green(which);
-    let cycle = built_in_cycle(which);
+    let (green, cycle) = green_and_cycle(which);
     let mut rec = [0u8; RECORD_LEN];
     rec[record::STATE] = record::READY;
     rec[record::COUNT] = BUILT_IN_K;
@@ -42,21 +42,12 @@ pub fn built_in(which: Which) -> [u8; RECORD_LEN]
     rec
 }
 
-fn built_in_green(which: Which) -> u8
-    ensures { result ≡ built_in_green which }
+fn green_and_cycle(which: Which) -> (u8, u8)
+    ensures { (result.0 ≡ built_in_green which) × (result.1 ≡ built_in_cycle which) }
 {
     match which {
-        Which::New => NEW_GREEN,
-        Which::Old => OLD_GREEN,
-    }
-}
-
-fn built_in_cycle(which: Which) -> u8
-    ensures { result ≡ built_in_cycle which }
-{
-    match which {
-        Which::New => NEW_CYCLE,
-        Which::Old => OLD_CYCLE,
+        Which::New => (NEW_GREEN, NEW_CYCLE),
+        Which::Old => (OLD_GREEN, OLD_CYCLE),
     }
 }
 
@@ -68,24 +59,24 @@ pub(crate) fn start(plan: u8) -> usize
     RECORD_LEN * (plan as usize - 1)
 }
 
-// The record of a plan: all of the copy of a built-in record for plan 0, the plan's part of the book for any other. Where that
-// is refused, `why` says it and the part is empty.
-pub fn read_plan<'a>(book: &'a [u8], copy: &'a [u8], plan: u8, why: &mut u8) -> &'a [u8]
-    ensures { PlanRead book.entry copy.entry plan result why.new }
+// The record of a plan in the book.
+pub(crate) fn record_in<'a>(book: &'a [u8], plan: u8) -> &'a [u8]
+    requires { (length book.now ≡ book_len) × (1 ≤ plan) × (plan ≤ plans_most) }
+    ensures { PartOf book.entry (record_start plan) record_len result }
 {
-    let n = read_refusal(book, copy, plan);
-    *why = n;
-    part_read(book, copy, plan, n)
+    let at = start(plan);
+    &book[at..at + RECORD_LEN]
 }
 
-fn part_read<'a>(book: &'a [u8], copy: &'a [u8], plan: u8, n: u8) -> &'a [u8]
-    requires { n ≡ read_refusal book.now copy.now plan }
-    ensures { PartRead book.entry copy.entry plan result }
+// The record of a plan: all of the copy of a built-in record for plan 0, the plan's part of the book for any other. Where that
+// is refused, the refusal stands beside it and the part is empty.
+pub fn read_plan<'a>(book: &'a [u8], copy: &'a [u8], plan: u8) -> (&'a [u8], Option<Refusal>)
+    ensures { PlanRead book.entry copy.entry plan result.0 (told_number result.1) }
 {
-    if n != refusal::NONE {
-        return &copy[0..0];
+    match read_refusal(book, copy, plan) {
+        None => (plan_part(book, copy, plan), None),
+        why => (&copy[..0], why),
     }
-    plan_part(book, copy, plan)
 }
 
 // The octets that a plan's record has, whatever they are: all of the copy for plan 0, the plan's part of the book for any other, and
@@ -93,53 +84,36 @@ fn part_read<'a>(book: &'a [u8], copy: &'a [u8], plan: u8, n: u8) -> &'a [u8]
 pub fn plan_part<'a>(book: &'a [u8], copy: &'a [u8], plan: u8) -> &'a [u8]
     ensures { pick (both (eqb (length book.now) book_len) (leb plan plans_most)) (pick (eqb plan 0) (PartOf copy.entry 0 (length copy.now) result) (PartOf book.entry (record_start plan) record_len result)) (PartOf copy.entry 0 0 result) }
 {
-    if book.len() != BOOK_LEN {
-        return &copy[0..0];
-    }
-    if PLANS_MOST < plan {
-        return &copy[0..0];
+    if book.len() != BOOK_LEN || PLANS_MOST < plan {
+        return &copy[..0];
     }
     if plan == 0 {
         return copy;
     }
-    let at = start(plan);
-    let end = at + RECORD_LEN;
-    &book[at..end]
+    record_in(book, plan)
 }
 
+// Why a plan is not read, if it is not.
 #[tactic(auto, unfolding(plan::specs::Reading::read_refusal))]
-fn read_refusal(book: &[u8], copy: &[u8], plan: u8) -> u8
-    ensures { result ≡ read_refusal book.now copy.now plan }
+fn read_refusal(book: &[u8], copy: &[u8], plan: u8) -> Option<Refusal>
+    ensures { told_number result ≡ read_refusal book.now copy.now plan }
 {
-    if book.len() != BOOK_LEN {
-        return refusal::BOOK_WRONG;
-    }
-    if copy.len() != RECORD_LEN {
-        return refusal::BOOK_WRONG;
+    if book.len() != BOOK_LEN || copy.len() != RECORD_LEN {
+        return Some(Refusal::BookWrong);
     }
     if PLANS_MOST < plan {
-        return refusal::OUT_OF_RANGE;
+        return Some(Refusal::OutOfRange);
     }
-    if plan == 0 {
-        if either_built_in(copy) {
-            return refusal::NONE;
-        }
-        return refusal::NOT_READY;
+    let stands = if plan == 0 {
+        either_built_in(copy)
+    } else {
+        checks::standing(record_in(book, plan)) != record::EMPTY
+    };
+    if stands {
+        None
+    } else {
+        Some(Refusal::NotReady)
     }
-    if standing_of(book, plan) == record::EMPTY {
-        return refusal::NOT_READY;
-    }
-    refusal::NONE
-}
-
-// How the record of a plan of the book stands.
-pub(crate) fn standing_of(book: &[u8], plan: u8) -> u8
-    requires { (length book.now ≡ book_len) × (1 ≤ plan) × (plan ≤ plans_most) }
-    ensures { result ≡ standing_of (record_at book.now plan) }
-{
-    let at = start(plan);
-    let end = at + RECORD_LEN;
-    checks::standing(&book[at..end])
 }
 
 // "reading a plan takes a copy of either".
@@ -154,23 +128,8 @@ fn either_built_in(copy: &[u8]) -> bool
 pub fn is_built_in(rec: &[u8], which: Which) -> bool
     ensures { result ≡ same rec.now (built_in which) }
 {
-    if rec.len() != RECORD_LEN {
-        return false;
+    match <&[u8; RECORD_LEN]>::try_from(rec) {
+        Ok(rec) => *rec == built_in(which),
+        Err(_) => false,
     }
-    matches(rec, which)
-}
-
-// Every octet is compared, also past the first that differs: so the compiler compares many at once.
-fn matches(copy: &[u8], which: Which) -> bool
-    requires { length copy.now ≡ record_len }
-    ensures { result ≡ same copy.now (built_in which) }
-{
-    let rec = built_in(which);
-    let mut alike = true;
-    for i in 0..RECORD_LEN {
-        if copy[i] != rec[i] {
-            alike = false;
-        }
-    }
-    alike
 }

@@ -3,6 +3,7 @@ use Prim.Native.Nat.{ℕ, ◌+◌, ◌*◌, ◌%◌, ◌^◌, ◌≤◌, ◌<◌
 use mathlib.Core.Path.{◌≡◌, refl, ap}
 use mathlib.Core.List.{List, [], ◌∷◌, ◌++◌, append_assoc}
 use native.Mathlib.Omega.{arith}
+use Rattle.std.specs.Prelude.{Some, None}
 use lib.Dec.{leb}
 use lib.ListN.{length, take, drop, length-append, length-take}
 use lib.Seq.{sets-eq, take_at}
@@ -32,10 +33,19 @@ pub stored-taken : {vs l l' : List ℕ} {r : ℕ} → Stored vs 0 l r l' → tak
 stored-taken {vs} {l} {l'} {r} p =
     rw (p.holds, sets-eq vs l 0 (omega (arith, p.place, p.fits))) (take_at vs (drop (0 + length vs) l) r (omega (arith, p.place)))
 
+-- texts that fit are stored one behind another
+pub two-stored : {xs ys l m n : List ℕ} {i p r : ℕ} → Put xs i l p m → Put ys p m r n → i + length xs + length ys ≤ length l → Stored (xs ++ ys) i l r n
+two-stored a b h = let p = put-stored a (omega arith) in stored-then p (put-stored b (omega (arith, p.place, p.long)))
+
+pub three-stored : {xs ys zs l m n o : List ℕ} {i p q r : ℕ} → Put xs i l p m → Put ys p m q n → Put zs q n r o
+    → i + length xs + length ys + length zs ≤ length l → Stored (xs ++ ys ++ zs) i l r o
+three-stored {xs} {ys} a b c h =
+    let t = two-stored a b (omega arith) in stored-then t (put-stored c (omega (arith, t.place, t.long, length-append xs ys)))
+
 -- a second's line and the word behind it fit where there is room for the longest
 pub both_stored : {line word l m n : List ℕ} {p r : ℕ} → length line ≤ line_most → length word ≡ 6 → length l ≡ head_most → Put line 0 l p m → Put word p m r n
     → Stored (line ++ word) 0 l r n
-both_stored h w g a b = let p = put-stored a (omega arith) in stored-then p (put-stored b (omega (arith, p.place, p.long)))
+both_stored h w g a b = two-stored a b (omega arith)
 
 -- nothing is put anywhere
 pub put-nothing : (l : List ℕ) (i : ℕ) → Put [] i l i l
@@ -149,20 +159,20 @@ module _ (run : Run) (lent b o t : List ℕ) where
   abbrev state : State
   state = joined run.state lent
 
-  pub listed_more : Listed (line_made found.More state run.seconds b o) lent run.used t run lent b o t
+  pub listed_more : Listed (line_made None state run.seconds b o) lent run.used t run lent b o t
   unfolding line_made
   listed_more = record { said = record { state = refl; seconds = refl; text = put-nothing t run.used; short = omega arith }; beyond = refl; book = refl; out = refl }
 
   pub listed-second : {r : Run} {o' t' : List ℕ} → Listed (second_made state run.seconds b o) lent run.used t r lent b o' t'
-      → Listed (line_made found.Second state run.seconds b o) lent run.used t r lent b o' t'
+      → Listed (line_made (Some found.Second) state run.seconds b o) lent run.used t r lent b o' t'
   unfolding line_made
   listed-second l = l
 
   pub listed-octet : (x : ℕ) {r : Run} {k b' o' t' : List ℕ} → Listed (octet_made state run.seconds b o x) lent run.used t r k b' o' t'
-      → Listed (line_made (found.Octet x) state run.seconds b o) lent run.used t r k b' o' t'
+      → Listed (line_made (Some (found.Octet x)) state run.seconds b o) lent run.used t r k b' o' t'
   unfolding line_made
   listed-octet x l = l
 
-  pub listed-bad : (n : ℕ) {r : Run} {t' : List ℕ} → BadWith run n t r t' → Listed (line_made (found.Bad n) state run.seconds b o) lent run.used t r lent b o t'
+  pub listed-bad : (n : ℕ) {r : Run} {t' : List ℕ} → BadWith run n t r t' → Listed (line_made (Some (found.Bad n)) state run.seconds b o) lent run.used t r lent b o t'
   unfolding line_made
   listed-bad n s = record { said = s lent; beyond = refl; book = refl; out = refl }

@@ -6,6 +6,7 @@ use mathlib.Core.Bool.{Bool, true, false, not}
 use mathlib.Core.List.{List, [], ◌∷◌, append_assoc}
 use native.Mathlib.Decide.{dec_lt, ℕ_discrete}
 use native.Mathlib.Omega.{arith}
+use Rattle.std.specs.Prelude.{Some, None}
 use borrow.Author.Tests.{eq-eqb, ne_eqb, eqb-true}
 use lib.Dec.{eqb, leb}
 use lib.ListN.{length, take}
@@ -46,7 +47,6 @@ use Rattle.text.proofs.Means.{hex-means}
 use Rattle.line.specs.Line as line
 use Rattle.line.specs.Promises.{founds, line_after, found_in}
 use Rattle.printout.specs.Listing.{header, field, word_text, numbers, second_line, octets_line, reply_line, again_line, octet_line, bad_line}
-use Rattle.printout.specs.declared.Asked.TheVariants.{Start, Unknown}
 use Rattle.printout.specs.Run.{is_old, start_asked, run_start, second_made, bad_said, octet_made, line_made, listing_from, listing_of}
 use Rattle.printout.specs.Promises.{WordWhole, WordsWhole, SecondPrinted, ReplyPrinted, none, some, AgainPrinted, nothing, again, WrittenPrinted, LinesPrint, StartsAsked, ListingBegins, TwoSeconds, ReplyAndBad, SentAgain}
 
@@ -163,7 +163,7 @@ starts-asked =
     }
   where
     by : (words : ℕ) (word : List ℕ) → (words ≡ 1 → word ≡ 0x6F ∷ 0x6C ∷ 0x64 ∷ [] → ⊥) → Dec (words ≡ 1) → (t : Bool) → is_old word ≡ t
-        → pick (both (eqb words 1) (is_old word)) (Start Old) Unknown ≡ Unknown
+        → pick (both (eqb words 1) (is_old word)) (Some Old) None ≡ None
     by words word o (no m) t h = rw (ne_eqb words 1 m)
     by words word o (yes e) true h = absurd (o e (old-is word h))
     by words word o (yes e) false h = rw (eq-eqb words 1 e, h)

@@ -1,7 +1,7 @@
 -- 01, "Cases", and 02, E2: what each line of the input does and prints; the lamp words are printed whole; two T lines print what 01
 -- shows, its words with sixteen digits, and P1's octets their reply; 02, E1: which start the program's words ask for, and both starts' cases;
 -- 02, E5: a reply line's third field; E6: a resend's line.
-use Rattle.std.specs.Prelude.{ℕ, ◌+◌, ◌%◌, ◌^◌, ◌≡◌, List, [], ◌∷◌, ◌++◌, take, replicate}
+use Rattle.std.specs.Prelude.{ℕ, ◌+◌, ◌%◌, ◌^◌, ◌≡◌, List, [], ◌∷◌, ◌++◌, take, replicate, Some, None}
 use Rattle.text.specs.Text.{ascii, decimal, octets_hex}
 use Rattle.text.specs.Promises.{Means}
 use Rattle.line.specs.declared.LineFound.{LineFound}
@@ -17,7 +17,6 @@ use Rattle.controller.specs.State.{State, joined, fresh_of}
 use Rattle.controller.specs.Replies.{octet_of}
 use Rattle.controller.specs.Seconds.{second_of}
 use Rattle.printout.specs.Listing.{word_text}
-use Rattle.printout.specs.declared.Asked.TheVariants.{Start, Unknown}
 use Rattle.printout.specs.Run.{Making, start_asked, run_start, line_made, listing_from, listing_of}
 
 -- The lamp words
@@ -100,10 +99,10 @@ pub record OnlyPrints (s : State) (n : ℕ) (b o text : List ℕ) (m : Making) :
 
 -- "for a bad line `bad`, tab, its number from 1"; where no line has ended, nothing is done
 pub record LinesMake (s : State) (n : ℕ) (b o : List ℕ) : Type 0 where
-  pub second : SecondMakes s n b o (line_made found.Second s n b o)
-  pub octet : (x : ℕ) → OctetMakes s n b o x (line_made (found.Octet x) s n b o)
-  pub bad : (k : ℕ) → OnlyPrints s n b o (ascii "bad\t" ++ decimal k ++ 0x0A ∷ []) (line_made (found.Bad k) s n b o)
-  pub more : OnlyPrints s n b o [] (line_made found.More s n b o)
+  pub second : SecondMakes s n b o (line_made (Some found.Second) s n b o)
+  pub octet : (x : ℕ) → OctetMakes s n b o x (line_made (Some (found.Octet x)) s n b o)
+  pub bad : (k : ℕ) → OnlyPrints s n b o (ascii "bad\t" ++ decimal k ++ 0x0A ∷ []) (line_made (Some (found.Bad k)) s n b o)
+  pub more : OnlyPrints s n b o [] (line_made None s n b o)
 
 -- Whatever the state, the seconds so far, the book and the output.
 abbrev pub LinesPrint : Type 0
@@ -114,9 +113,9 @@ LinesPrint = (s : State) (n : ℕ) (b o : List ℕ) → LinesMake s n b o
 -- without a word the plain start is asked for, with the one word `old`, 6F 6C 64, the other; whatever else it is given, the program does
 -- not know it
 pub record WordsAsk : Type 0 where
-  pub plain : (word : List ℕ) → start_asked 0 word ≡ Start New
-  pub old : start_asked 1 (0x6F ∷ 0x6C ∷ 0x64 ∷ []) ≡ Start Old
-  pub other : (words : ℕ) (word : List ℕ) → (words ≡ 0 → ⊥) → (words ≡ 1 → word ≡ 0x6F ∷ 0x6C ∷ 0x64 ∷ [] → ⊥) → start_asked words word ≡ Unknown
+  pub plain : (word : List ℕ) → start_asked 0 word ≡ Some New
+  pub old : start_asked 1 (0x6F ∷ 0x6C ∷ 0x64 ∷ []) ≡ Some Old
+  pub other : (words : ℕ) (word : List ℕ) → (words ≡ 0 → ⊥) → (words ≡ 1 → word ≡ 0x6F ∷ 0x6C ∷ 0x64 ∷ [] → ⊥) → start_asked words word ≡ None
 
 abbrev pub StartsAsked : Type 0
 StartsAsked = WordsAsk
@@ -132,8 +131,8 @@ pub record ListingStarts (which : Which) : Type 0 where
       ++ listing_from (fresh_of which 0x0001 10 (replicate 768 0x00)) 0 (replicate 3840 0x00) (replicate 544 0x00) (found_in first_line input)
   pub ended : (s : State) (n : ℕ) (b o : List ℕ) → listing_from s n b o [] ≡ []
   pub next : (s : State) (n : ℕ) (b o : List ℕ) (f : LineFound) (fs : List LineFound) → listing_from s n b o (f ∷ fs)
-      ≡ (line_made f s n b o).said.text
-      ++ listing_from (line_made f s n b o).said.state (line_made f s n b o).said.seconds (line_made f s n b o).book (line_made f s n b o).out fs
+      ≡ (line_made (Some f) s n b o).said.text
+      ++ listing_from (line_made (Some f) s n b o).said.state (line_made (Some f) s n b o).said.seconds (line_made (Some f) s n b o).book (line_made (Some f) s n b o).out fs
 
 abbrev pub ListingBegins : Type 0
 ListingBegins = (which : Which) → ListingStarts which

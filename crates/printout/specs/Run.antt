@@ -1,5 +1,5 @@
 -- 01, "Cases": the listing: which call each line of the input makes, and the text that it adds.
-use Rattle.std.specs.Prelude.{ℕ, ◌+◌, ◌%◌, ◌^◌, ◌≤◌, ◌≡◌, Bool, List, [], ◌∷◌, ◌++◌, eqb, length, get_or, take, drop, replicate}
+use Rattle.std.specs.Prelude.{ℕ, ◌+◌, ◌%◌, ◌^◌, ◌≤◌, ◌≡◌, Bool, List, [], ◌∷◌, ◌++◌, eqb, length, get_or, take, drop, replicate, Option, Some, None}
 use Rattle.octets.specs.Choice.{pick, both}
 use Rattle.octets.specs.Put.{Put}
 use Rattle.frame.specs.Dropped.{fresh_receiver}
@@ -17,8 +17,6 @@ use Rattle.line.specs.declared.LineFound.TheVariants as found
 use Rattle.line.specs.Line.{first_line}
 use Rattle.line.specs.Promises.{found_in}
 use Rattle.printout.specs.declared.Run.{Run}
-use Rattle.printout.specs.declared.Asked.{Asked}
-use Rattle.printout.specs.declared.Asked.TheVariants.{Start, Unknown}
 use Rattle.printout.specs.Listing.{header, second_line, again_line, octet_line, bad_line}
 
 -- "starts fresh at address 0001"
@@ -42,9 +40,9 @@ unfoldable pub is_old : List ℕ → Bool
 is_old word = both (eqb (length word) 3) (both (eqb (get_or word 0 0) 0x6F) (both (eqb (get_or word 1 0) 0x6C) (eqb (get_or word 2 0) 0x64)))
 
 -- 02, E1: "A start call that names the old built-in plan stays for those lessons; the plain start takes the new one.": `words` is how many
--- words stand after the program's name, and `word` is the first of them
-unfoldable pub start_asked : ℕ → List ℕ → Asked
-start_asked words word = pick (eqb words 0) (Start New) (pick (both (eqb words 1) (is_old word)) (Start Old) Unknown)
+-- words stand after the program's name, and `word` is the first of them; None where the program does not know them
+unfoldable pub start_asked : ℕ → List ℕ → Option Which
+start_asked words word = pick (eqb words 0) (Some New) (pick (both (eqb words 1) (is_old word)) (Some Old) None)
 
 -- no line of the input adds more: 118 places of a second's line, and behind it six and three for each of the 544 octets that a resend can have; a
 -- reply, with a tab, five digits and no second's line before it, has fewer
@@ -107,19 +105,19 @@ octet_made s n book out b =
       out = w.out;
     }
 
--- by what the line was
-unfoldable pub line_made : LineFound → State → ℕ → List ℕ → List ℕ → Making
-line_made found.More s n book out = record { said = record { state = s; seconds = n; text = [] }; book = book; out = out }
-line_made found.Second s n book out = second_made s n book out
-line_made (found.Octet b) s n book out = octet_made s n book out b
-line_made (found.Bad k) s n book out = record { said = bad_said s n k; book = book; out = out }
+-- by what the line was; None where no line has ended
+unfoldable pub line_made : Option LineFound → State → ℕ → List ℕ → List ℕ → Making
+line_made None s n book out = record { said = record { state = s; seconds = n; text = [] }; book = book; out = out }
+line_made (Some found.Second) s n book out = second_made s n book out
+line_made (Some (found.Octet b)) s n book out = octet_made s n book out b
+line_made (Some (found.Bad k)) s n book out = record { said = bad_said s n k; book = book; out = out }
 
 -- The listing of a whole input
 
 unfoldable pub listing_from : State → ℕ → List ℕ → List ℕ → List LineFound → List ℕ
 listing_from s n book out [] = []
 listing_from s n book out (f ∷ fs) =
-    let m = line_made f s n book out in
+    let m = line_made (Some f) s n book out in
     m.said.text ++ listing_from m.said.state m.said.seconds m.book m.out fs
 
 -- "starts fresh at address 0001 with an empty book"; the octets that are lent are 0 at first

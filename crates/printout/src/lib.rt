@@ -5,7 +5,6 @@
 #![tactic(auto)]
 
 use controller::Held;
-use plan::Which;
 
 // The controller's state but for the octets of INFO, the "seconds so far", and how much of the text is filled. The line under way is
 // no part of it, so that an octet within a line moves none of this.
@@ -14,11 +13,4 @@ pub struct Run {
     pub state: Held,
     pub seconds: u64,
     pub used: usize,
-}
-
-// The start that the program's words ask for, or words that it does not know.
-#[derive(Clone, Copy)]
-pub enum Asked {
-    Start(Which),
-    Unknown,
 }

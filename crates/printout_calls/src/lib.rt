@@ -8,7 +8,7 @@ pub mod run;
 ghost use Rattle.std.specs.Prelude.{◌≡◌, ◌+◌, ◌≤◌, [], ◌∷◌, ◌++◌, length};
 ghost use Rattle.octets.specs.Put.{Put, Stored};
 ghost use Rattle.text.specs.Text.{octets_hex};
-ghost use Rattle.printout.specs.Listing.{line_most, field_most, word_most, tail_most, header, field, numbers, word_text, second_line, octets_line, reply_tail, reply_line, again_line, bad_line};
+ghost use Rattle.printout.specs.Listing.{line_most, field_most, word_most, header, field, numbers, word_text, second_line, octets_line, reply_tail, reply_line, again_line, bad_line};
 
 use lamps::Row;
 
@@ -70,7 +70,7 @@ fn put_with_again(line: &[u8], again: &[u8], out: &mut [u8], at: usize) -> usize
     requires { length line.now ≤ line_most }
     ensures { Put (line.now ++ again_line again.now) at out.old result out.new }
 {
-    if again.len() == 0 {
+    if again.is_empty() {
         return octets::put(line, out, at);
     }
     let mut head = [0u8; HEAD_MOST];
@@ -83,42 +83,31 @@ fn put_with_again(line: &[u8], again: &[u8], out: &mut [u8], at: usize) -> usize
 fn put_line(head: &[u8], s: &[u8], tail: &[u8], out: &mut [u8], at: usize) -> usize
     ensures { Put (octets_line head.now s.now tail.now) at out.old result out.new }
 {
-    if s.len() == 0 {
+    if s.is_empty() {
         return at;
     }
-    if out.len() < at {
-        return at;
-    }
-    let room = out.len() - at;
-    if room < head.len() {
-        return at;
-    }
-    if room - head.len() < tail.len() {
-        return at;
-    }
-    // Three places for each octet but the last, which has no blank after it.
-    if (room - head.len() - tail.len() + 1) / 3 < s.len() {
+    // Three places for each octet but the last, which has no blank after it. In 128 bits no sum of lengths wraps.
+    let end = at as u128 + head.len() as u128 + 3 * s.len() as u128 - 1 + tail.len() as u128;
+    if (out.len() as u128) < end {
         return at;
     }
     store_line(head, s, tail, out, at)
 }
 
-fn store_second(n: u64, plan: u8, row: Row, line: &mut [u8]) -> usize
-    requires { length line.old ≡ line_most }
+fn store_second(n: u64, plan: u8, row: Row, line: &mut [u8; LINE_MOST]) -> usize
     ensures { Stored (second_line n plan row) 0 line.old result line.new }
 {
-    let p = store_numbers(n, plan, row, &mut *line);
-    let q = store_word(row.steady, b'\t', &mut *line, p);
+    let p = store_numbers(n, plan, row, line);
+    let q = store_word(row.steady, b'\t', line, p);
     store_word(row.flashing, b'\n', line, q)
 }
 
-fn store_numbers(n: u64, plan: u8, row: Row, line: &mut [u8]) -> usize
-    requires { length line.old ≡ line_most }
+fn store_numbers(n: u64, plan: u8, row: Row, line: &mut [u8; LINE_MOST]) -> usize
     ensures { Stored (numbers n plan row) 0 line.old result line.new × (result ≤ 84) }
 {
-    let p = store_field(n, &mut *line, 0);
-    let q = store_field(plan as u64, &mut *line, p);
-    let t = store_field(row.step as u64, &mut *line, q);
+    let p = store_field(n, line, 0);
+    let q = store_field(plan as u64, line, p);
+    let t = store_field(row.step as u64, line, q);
     store_field(row.left as u64, line, t)
 }
 
@@ -127,7 +116,7 @@ fn store_field(n: u64, line: &mut [u8], at: usize) -> usize
     requires { at + field_most ≤ length line.old }
     ensures { Stored (field n) at line.old result line.new × (result ≤ at + field_most) }
 {
-    let p = text::put_decimal(n, &mut *line, at);
+    let p = text::put_decimal(n, line, at);
     octets::put(b"\t", line, p)
 }
 
@@ -136,17 +125,16 @@ fn store_word(x: u64, mark: u8, line: &mut [u8], at: usize) -> usize
     requires { at + word_most ≤ length line.old }
     ensures { Stored (word_text x ++ mark ∷ []) at line.old result line.new × (result ≤ at + word_most) }
 {
-    let p = text::put_hex16(x, &mut *line, at);
+    let p = text::put_hex16(x, line, at);
     octets::put(&[mark], line, p)
 }
 
 // The third field, with the tab before it, and the end of the line.
-fn store_tail(n: u16, tail: &mut [u8]) -> usize
-    requires { length tail.old ≡ tail_most }
+fn store_tail(n: u16, tail: &mut [u8; TAIL_MOST]) -> usize
     ensures { Stored (reply_tail n) 0 tail.old result tail.new }
 {
-    let p = octets::put(b"\t", &mut *tail, 0);
-    let q = text::put_decimal(n as u64, &mut *tail, p);
+    let p = octets::put(b"\t", tail, 0);
+    let q = text::put_decimal(n as u64, tail, p);
     octets::put(b"\n", tail, q)
 }
 
@@ -154,16 +142,15 @@ fn store_line(head: &[u8], s: &[u8], tail: &[u8], out: &mut [u8], at: usize) -> 
     requires { at + length (head.now ++ octets_hex s.now ++ tail.now) ≤ length out.old }
     ensures { Stored (head.now ++ octets_hex s.now ++ tail.now) at out.old result out.new }
 {
-    let p = octets::put(head, &mut *out, at);
-    let q = text::put_octets(s, &mut *out, p);
+    let p = octets::put(head, out, at);
+    let q = text::put_octets(s, out, p);
     octets::put(tail, out, q)
 }
 
-fn store_bad(n: u64, line: &mut [u8]) -> usize
-    requires { length line.old ≡ line_most }
+fn store_bad(n: u64, line: &mut [u8; LINE_MOST]) -> usize
     ensures { Stored (bad_line n) 0 line.old result line.new }
 {
-    let p = octets::put(b"bad\t", &mut *line, 0);
-    let q = text::put_decimal(n, &mut *line, p);
+    let p = octets::put(b"bad\t", line, 0);
+    let q = text::put_decimal(n, line, p);
     octets::put(b"\n", line, q)
 }

@@ -4,12 +4,12 @@ ghost use Rattle.controller.specs.State.{joined};
 ghost use Rattle.controller.specs.Seconds.{started_of, StartsWith};
 ghost use Rattle.octets.specs.Put.{Put};
 ghost use Rattle.printout.specs.Listing.{octet_line};
-ghost use Rattle.printout.specs.Run.{own, listing_wait, Listed, is_old, start_asked, run_start, second_made, BadWith, octet_made, line_made};
+ghost use Rattle.printout.specs.Run.{own, listing_wait, Listed, start_asked, run_start, second_made, BadWith, octet_made, line_made};
 
 use controller::{HeldAnswer, Link};
 use line::LineFound;
 use plan::Which;
-use printout::{Asked, Run};
+use printout::Run;
 
 // "The listing program starts fresh at address 0001".
 const OWN: u16 = 0x0001;
@@ -21,47 +21,24 @@ const WAIT: u8 = 10;
 pub const WORD_LEN: usize = 3;
 
 // 02, E1: "the plain start takes the new one"; the word `old` asks for the other. `words` is how many words stand after the
-// program's name, and `word` is the first of them.
-#[tactic(auto, unfolding(printout::specs::Run::start_asked))]
-pub fn start_asked(words: usize, word: &[u8]) -> Asked
+// program's name, and `word` is the first of them. `None`: the program does not know them.
+#[tactic(auto, unfolding(printout::specs::Run::start_asked, printout::specs::Run::is_old))]
+pub fn start_asked(words: usize, word: &[u8]) -> Option<Which>
     ensures { result ≡ start_asked words word.now }
 {
-    if words == 0 {
-        return Asked::Start(Which::New);
+    match (words, word) {
+        (0, _) => Some(Which::New),
+        (1, b"old") => Some(Which::Old),
+        _ => None,
     }
-    if words != 1 {
-        return Asked::Unknown;
-    }
-    if is_old(word) {
-        return Asked::Start(Which::Old);
-    }
-    Asked::Unknown
-}
-
-#[tactic(auto, unfolding(printout::specs::Run::is_old))]
-fn is_old(word: &[u8]) -> bool
-    ensures { result ≡ is_old word.now }
-{
-    if word.len() != WORD_LEN {
-        return false;
-    }
-    if word[0] != b'o' {
-        return false;
-    }
-    if word[1] != b'l' {
-        return false;
-    }
-    word[2] == b'd'
 }
 
 // A fresh start, with nothing in the text.
 pub fn run_start(which: Which) -> Run
     ensures { result ≡ run_start which }
 {
-    let s = started(which);
-    let state = s.state;
     Run {
-        state,
+        state: started(which).state,
         seconds: 0,
         used: 0,
     }
@@ -76,10 +53,10 @@ fn started(which: Which) -> HeldAnswer
     }
 }
 
-// What a line does; its text is put where there is room for it.
+// What the line that has ended does, if one has; its text is put where there is room for it.
 pub fn on_line(
     run: Run,
-    f: LineFound,
+    f: Option<LineFound>,
     kept: &mut [u8],
     book: &mut [u8],
     out: &mut [u8],
@@ -88,10 +65,10 @@ pub fn on_line(
     ensures { Listed (line_made f (joined run.state kept.old) run.seconds book.old out.old) kept.old run.used text.old result kept.new book.new out.new text.new }
 {
     match f {
-        LineFound::More => run,
-        LineFound::Second => on_second(run, &*kept, &*book, out, text),
-        LineFound::Octet(b) => on_octet(run, b, kept, book, out, text),
-        LineFound::Bad(n) => on_bad(run, n, text),
+        None => run,
+        Some(LineFound::Second) => on_second(run, kept, book, out, text),
+        Some(LineFound::Octet(b)) => on_octet(run, b, kept, book, out, text),
+        Some(LineFound::Bad(n)) => on_bad(run, n, text),
     }
 }
 
@@ -100,15 +77,12 @@ fn on_second(run: Run, kept: &[u8], book: &[u8], out: &mut [u8], text: &mut [u8]
     ensures { Listed (second_made (joined run.state kept.now) run.seconds book.now out.old) kept.now run.used text.old result kept.now book.now out.new text.new }
 {
     let n = run.seconds;
-    let at = run.used;
-    let t = controller_calls::second(run.state, kept, book, &mut *out);
-    let state = t.state;
-    let row = t.row;
-    let count = t.told.count;
+    let t = controller_calls::second(run.state, kept, book, out);
+    let sent = &out[..t.told.count];
     Run {
-        state,
-        seconds: std::num::wrapping_add_u64(n, 1),
-        used: crate::put_second(n, t.plan, row, &out[..count], text, at),
+        state: t.state,
+        seconds: n.wrapping_add(1),
+        used: crate::put_second(n, t.plan, t.row, sent, text, run.used),
     }
 }
 
@@ -123,15 +97,12 @@ fn on_octet(
 ) -> Run
     ensures { Listed (octet_made (joined run.state kept.old) run.seconds book.old out.old b) kept.old run.used text.old result kept.new book.new out.new text.new }
 {
-    let at = run.used;
-    let a = controller_calls::octet(run.state, kept, book, &mut *out, b);
-    let state = a.state;
+    let a = controller_calls::octet(run.state, kept, book, out, b);
     let told = a.told;
-    let link = told.link;
-    let n = told.count;
+    let written = &out[..told.count];
     Run {
-        state,
-        used: put_written(link, &out[..n], told.dropped, text, at),
+        state: a.state,
+        used: put_written(told.link, written, told.dropped, text, run.used),
         ..run
     }
 }
@@ -151,9 +122,8 @@ fn put_written(link: Link, s: &[u8], n: u16, out: &mut [u8], at: usize) -> usize
 fn on_bad(run: Run, n: u64, text: &mut [u8]) -> Run
     ensures { BadWith run n text.old result text.new }
 {
-    let at = run.used;
     Run {
-        used: crate::put_bad(n, text, at),
+        used: crate::put_bad(n, text, run.used),
         ..run
     }
 }

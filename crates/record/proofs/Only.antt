@@ -2,6 +2,7 @@
 use mathlib.Core.Path.{◌≡◌, sym, ◌∙◌}
 use Rattle.record.proofs.state.Reads as state
 use Rattle.record.proofs.count.Reads as count
+use Rattle.record.proofs.times_at.Reads as times-at
 use Rattle.record.proofs.minimum.Reads as minimum
 use Rattle.record.proofs.maximum.Reads as maximum
 use Rattle.record.proofs.yellow.Reads as yellow
@@ -22,6 +23,9 @@ only-state κs a r s x y p q = p ∙ sym q
 
 only-count : (κs : _) (a : _) (r s : _) (x y : _) → count.Post κs a r x → count.Post κs a s y → r ≡ s
 only-count κs a r s x y p q = p ∙ sym q
+
+only-times_at : (κs : _) (a : _) (r s : _) (x y : _) → times-at.Post κs a r x → times-at.Post κs a s y → r ≡ s
+only-times_at κs a r s x y p q = p ∙ sym q
 
 only-minimum : (κs : _) (a : _) (r s : _) (x y : _) → minimum.Post κs a r x → minimum.Post κs a s y → r ≡ s
 only-minimum κs a r s x y p q = p ∙ sym q

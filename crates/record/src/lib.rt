@@ -2,8 +2,8 @@
 
 #![tactic(auto)]
 
-ghost use Rattle.std.specs.Prelude.{◌≡◌};
-ghost use Rattle.record.specs.Record.{state_of, k_of, yellow_of, all_red_of, walk_flash_of, red_man_of, minimum_of, maximum_of, direct_of, order_of, green_of, cycle_of, offset_of, times_end, greens_at, ready_end};
+ghost use Rattle.std.specs.Prelude.{◌≡◌, ◌+◌, ◌*◌, ◌<◌};
+ghost use Rattle.record.specs.Record.{state_of, k_of, yellow_of, all_red_of, walk_flash_of, red_man_of, minimum_of, maximum_of, direct_of, order_of, green_of, cycle_of, offset_of, octet_at, times_at, times_end, greens_at, ready_end};
 
 pub const RECORD_LEN: usize = 80;
 
@@ -44,6 +44,8 @@ pub fn count(rec: &[u8]) -> u8
 }
 
 // Where each of a phase's times stands among them.
+pub const MINIMUM: usize = 0;
+
 pub const MAXIMUM: usize = 1;
 
 pub const YELLOW: usize = 3;
@@ -63,111 +65,117 @@ pub const CYCLE_LEN: usize = 2;
 
 const OFFSET_LEN: usize = 2;
 
-// The times of a phase, phases counted from 0.
+// Where the times of a phase stand, phases counted from 0.
+pub fn times_at(i: u8) -> usize
+    ensures { result ≡ 2 + 7 * i }
+{
+    HEAD_LEN + TIMES_LEN * usize::from(i)
+}
+
+// An octet of a phase's times.
+fn phase_octet<const AT: usize>(rec: &[u8], i: u8) -> u8
+    requires { AT < 7 }
+    ensures { result ≡ octet_at rec.now (times_at i + AT) }
+{
+    octets::octet_at(rec, times_at(i) + AT)
+}
+
+// The times of a phase.
 pub fn minimum(rec: &[u8], i: u8) -> u8
     ensures { result ≡ minimum_of rec.now i }
 {
-    octets::octet_at(rec, HEAD_LEN + TIMES_LEN * i as usize)
+    phase_octet::<MINIMUM>(rec, i)
 }
 
 pub fn maximum(rec: &[u8], i: u8) -> u16
     ensures { result ≡ maximum_of rec.now i }
 {
-    octets::word_at(rec, HEAD_LEN + TIMES_LEN * i as usize + MAXIMUM)
+    octets::word_at(rec, times_at(i) + MAXIMUM)
 }
 
 pub fn yellow(rec: &[u8], i: u8) -> u8
     ensures { result ≡ yellow_of rec.now i }
 {
-    octets::octet_at(rec, HEAD_LEN + TIMES_LEN * i as usize + YELLOW)
+    phase_octet::<YELLOW>(rec, i)
 }
 
 pub fn all_red(rec: &[u8], i: u8) -> u8
     ensures { result ≡ all_red_of rec.now i }
 {
-    octets::octet_at(rec, HEAD_LEN + TIMES_LEN * i as usize + ALL_RED)
+    phase_octet::<ALL_RED>(rec, i)
 }
 
 pub fn walk_flash(rec: &[u8], i: u8) -> u8
     ensures { result ≡ walk_flash_of rec.now i }
 {
-    octets::octet_at(rec, HEAD_LEN + TIMES_LEN * i as usize + WALK_FLASH)
+    phase_octet::<WALK_FLASH>(rec, i)
 }
 
 pub fn red_man(rec: &[u8], i: u8) -> u8
     ensures { result ≡ red_man_of rec.now i }
 {
-    octets::octet_at(rec, HEAD_LEN + TIMES_LEN * i as usize + RED_MAN)
+    phase_octet::<RED_MAN>(rec, i)
+}
+
+// Where the green of a phase stands; behind the last the cycle does, and then the offset.
+fn green_at(rec: &[u8], i: u8) -> usize
+    ensures { (result ≡ greens_at rec.now + 2 * i) × (result < 4096) }
+{
+    times_at(count(rec)) + DIRECT_ORDER_LEN + GREEN_LEN * usize::from(i)
+}
+
+fn cycle_at(rec: &[u8]) -> usize
+    ensures { (result ≡ greens_at rec.now + 2 * k_of rec.now) × (result < 4096) }
+{
+    green_at(rec, count(rec))
 }
 
 // What follows the times of all k phases.
 pub fn direct(rec: &[u8]) -> u8
     ensures { result ≡ direct_of rec.now }
 {
-    let k = count(rec);
-    octets::octet_at(rec, HEAD_LEN + TIMES_LEN * k as usize)
+    octets::octet_at(rec, times_at(count(rec)))
 }
 
 pub fn order(rec: &[u8]) -> u8
     ensures { result ≡ order_of rec.now }
 {
-    let k = count(rec);
-    octets::octet_at(rec, HEAD_LEN + TIMES_LEN * k as usize + ORDER)
+    octets::octet_at(rec, times_at(count(rec)) + ORDER)
 }
 
 pub fn green(rec: &[u8], i: u8) -> u16
     ensures { result ≡ green_of rec.now i }
 {
-    let k = count(rec);
-    octets::word_at(
-        rec,
-        HEAD_LEN + TIMES_LEN * k as usize + DIRECT_ORDER_LEN + GREEN_LEN * i as usize,
-    )
+    octets::word_at(rec, green_at(rec, i))
 }
 
 pub fn cycle(rec: &[u8]) -> u16
     ensures { result ≡ cycle_of rec.now }
 {
-    let k = count(rec);
-    octets::word_at(
-        rec,
-        HEAD_LEN + TIMES_LEN * k as usize + DIRECT_ORDER_LEN + GREEN_LEN * k as usize,
-    )
+    octets::word_at(rec, cycle_at(rec))
 }
 
 pub fn offset(rec: &[u8]) -> u16
     ensures { result ≡ offset_of rec.now }
 {
-    let k = count(rec);
-    octets::word_at(
-        rec,
-        HEAD_LEN + TIMES_LEN * k as usize + DIRECT_ORDER_LEN + GREEN_LEN * k as usize + CYCLE_LEN,
-    )
+    octets::word_at(rec, cycle_at(rec) + CYCLE_LEN)
 }
 
 // Where the times end, where the greens begin, and where the offset ends.
 pub fn times_end(rec: &[u8]) -> usize
     ensures { result ≡ times_end rec.now }
 {
-    let k = count(rec);
-    HEAD_LEN + TIMES_LEN * k as usize
+    times_at(count(rec))
 }
 
 pub fn greens_at(rec: &[u8]) -> usize
     ensures { result ≡ greens_at rec.now }
 {
-    let k = count(rec);
-    HEAD_LEN + TIMES_LEN * k as usize + DIRECT_ORDER_LEN
+    green_at(rec, 0)
 }
 
 pub fn ready_end(rec: &[u8]) -> usize
     ensures { result ≡ ready_end rec.now }
 {
-    let k = count(rec);
-    HEAD_LEN
-        + TIMES_LEN * k as usize
-        + DIRECT_ORDER_LEN
-        + GREEN_LEN * k as usize
-        + CYCLE_LEN
-        + OFFSET_LEN
+    cycle_at(rec) + CYCLE_LEN + OFFSET_LEN
 }

@@ -8,7 +8,7 @@ use native.Mathlib.Omega.{arith}
 use borrow.Author.Tests.{lt-ltb, le-ltb}
 use lib.ListN.{length, set, take, drop, get_or, length-append}
 use lib.Seq.{sets, set_comm, sets-eq, take_at}
-use Rattle.octets.proofs.Laws.{drop-next}
+use Rattle.std.proofs.lemmas.List.{drop_more}
 use Rattle.text.specs.Text.{digit, digits, hex2, hex16, places_within, places, digits_most, decimal, blank_hex2, spaced, octets_hex}
 
 -- Digits
@@ -120,17 +120,12 @@ spaced-length (x ∷ xs) = omega (arith, length-append (blank_hex2 x) (spaced xs
 
 pub spaced-at : (xs : List ℕ) (i : ℕ) → i < length xs → spaced (drop i xs) ≡ blank_hex2 (get_or xs i 0) ++ spaced (drop (i + 1) xs)
 unfolding spaced
-spaced-at xs i h = rw (drop-next xs i h)
+spaced-at xs i h = rw (drop_more xs i 0 h)
 
 pub octets-none : (xs : List ℕ) → length xs ≡ 0 → octets_hex xs ≡ []
 unfolding octets_hex
 octets-none [] h = refl
 octets-none (x ∷ xs) h = absurd (omega arith)
-
-pub octets-some : (xs : List ℕ) → 0 < length xs → octets_hex xs ≡ hex2 (get_or xs 0 0) ++ spaced (drop 1 xs)
-unfolding octets_hex
-octets-some [] h = absurd (omega arith)
-octets-some (x ∷ xs) h = refl
 
 pub octets-length : (xs : List ℕ) → length (octets_hex xs) ≡ 3 * length xs - 1
 unfolding octets_hex

@@ -9,7 +9,7 @@ use native.Mathlib.Omega.{arith}
 use borrow.Author.Tests.{lt-ltb, le-ltb}
 use lib.ListN.{length, take, drop, get_or, get_or-append}
 use lib.Seq.{drop-nil, drop-drop, get_or-drop}
-use Rattle.octets.proofs.Laws.{drop-next}
+use Rattle.std.proofs.lemmas.List.{drop_more}
 use Rattle.text.specs.Text.{digit, digits, hex2, places, decimal, blank_hex2, spaced, octets_hex}
 use Rattle.text.specs.Promises.{worth, IsDigit, AllDigits, read_from, Means, HexMeans, HexAsPrinted, DecimalMeans, OctetsParted, AsciiAsSaid}
 use Rattle.text.proofs.Laws.{digits-length, places-one, places-more, places-some, decimal-digits, decimal-one, decimal-more, decimal-length, octets-length}
@@ -111,11 +111,11 @@ octets-drop xs i =
 module _ (xs : List ℕ) (i : ℕ) where
   digits-at : i < length xs → take 2 (drop (3 * i) (octets_hex xs)) ≡ hex2 (get_or xs i 0)
   unfolding digits octets_hex
-  digits-at h = rw (octets-drop xs i, drop-next xs i h)
+  digits-at h = rw (octets-drop xs i, drop_more xs i 0 h)
 
   blank-at : i + 1 < length xs → get_or (octets_hex xs) (3 * i + 2) 0 ≡ 0x20
   unfolding digits blank_hex2 spaced octets_hex
-  blank-at h = rw (← get_or-drop (3 * i) (octets_hex xs) 2 0, octets-drop xs i, drop-next xs i (omega arith), drop-next xs (i + 1) h)
+  blank-at h = rw (← get_or-drop (3 * i) (octets_hex xs) 2 0, octets-drop xs i, drop_more xs i 0 (omega arith), drop_more xs (i + 1) 0 h)
 
 pub octets-parted : OctetsParted
 octets-parted xs = (octets-length xs, λ i h. record { digits = digits-at xs i h; means = λ l. rw (digits-at xs i h) (hex-means 2 (get_or xs i 0) (omega arith)); blank = blank-at xs i })

@@ -14,7 +14,7 @@ const DIGITS_MOST: usize = 20;
 pub fn put_hex2(b: u8, out: &mut [u8], at: usize) -> usize
     ensures { Put (hex2 b) at out.old result out.new }
 {
-    put_digits(b as u64, 16, 2, out, at)
+    put_digits(u64::from(b), 16, 2, out, at)
 }
 
 // A word of 64 bits as sixteen hexadecimal digits.
@@ -61,22 +61,19 @@ fn store_digits(n: u64, base: u64, count: usize, text: &mut [u8])
     ensures { take count text.new ≡ digits base count n }
 {
     let mut rest = n;
-    let mut left = count;
-    while left > 0 {
-        left -= 1;
-        text[left] = digit(rest % base);
-        rest = rest / base;
+    for i in (0..count).rev() {
+        text[i] = digit((rest % base) as u8);
+        rest /= base;
     }
 }
 
-fn digit(d: u64) -> u8
+fn digit(d: u8) -> u8
     requires { d < 16 }
     ensures { result ≡ digit d }
 {
-    if d < 10 {
-        b'0' + d as u8
-    } else {
-        b'A' + (d - 10) as u8
+    match d {
+        0..=9 => b'0' + d,
+        _ => b'A' + (d - 10),
     }
 }
 
@@ -87,7 +84,7 @@ fn places(n: u64) -> usize
     let mut rest = n;
     let mut count: usize = 1;
     while rest >= 10 {
-        rest = rest / 10;
+        rest /= 10;
         count += 1;
     }
     count
@@ -97,11 +94,13 @@ fn store_octets(s: &[u8], out: &mut [u8], at: usize) -> usize
     requires { at + length (octets_hex s.now) ≤ length out.old }
     ensures { Stored (octets_hex s.now) at out.old result out.new }
 {
-    if s.len() == 0 {
-        return at;
+    match s.split_first() {
+        None => at,
+        Some((first, rest)) => {
+            let p = put_hex2(*first, &mut *out, at);
+            store_spaced(rest, out, p)
+        }
     }
-    let p = put_hex2(s[0], &mut *out, at);
-    store_spaced(&s[1..], out, p)
 }
 
 // Each octet with a blank before it.
@@ -110,9 +109,8 @@ fn store_spaced(s: &[u8], out: &mut [u8], at: usize) -> usize
     ensures { Stored (spaced s.now) at out.old result out.new }
 {
     let mut p = at;
-    for i in 0..s.len() {
-        let b = s[i];
-        p = store_blank_hex2(b, &mut *out, p);
+    for b in s {
+        p = store_blank_hex2(*b, &mut *out, p);
     }
     p
 }

@@ -1,5 +1,5 @@
 -- `controller_calls::octet`: one law for each way.
-use Rattle.std.proofs.Common.{sym, ◌∙◌, arith, rules}
+use Rattle.std.proofs.Common.{◌≡◌, sym, ◌∙◌, arith, rules}
 use Rattle.controller.specs.State.{joined}
 use Rattle.controller.proofs.Laws.{octet-7, octet-8, octet-9, octet-counted}
 use Rattle.controller_calls.proofs.Held.{sound-joined, lent-enough, leaves_quiet, leaves-dropped, kept-room, leaves_kept}
@@ -12,26 +12,30 @@ returns-then-not-stands c =
     rw (octet-7 (joined a.s k) a.book.now a.out.now a.b (sym (sound-joined a.s k) ∙ sym c.if-not-stands.ensures))
     (leaves_quiet a.s k a.book.now a.out.now 7 c.quiet.ensures)
 
-pub returns-then-book-ne-BOOK_LEN : goal.returns-then-book-ne-BOOK_LEN
-returns-then-book-ne-BOOK_LEN c =
+pub returns-in_default : goal.returns-in_default
+returns-in_default c =
     let a = c.args in
     let k = a.kept.now in
-    rw (octet-8 (joined a.s k) a.book.now a.out.now a.b (sym (sound-joined a.s k) ∙ sym c.if-not-stands.ensures) c.if-book-ne-BOOK_LEN.true)
-    (leaves_quiet a.s k a.book.now a.out.now 8 c.quiet-then-book-ne-BOOK_LEN.ensures)
+    rw (octet-8 (joined a.s k) a.book.now a.out.now a.b (sym (sound-joined a.s k) ∙ sym c.if-not-stands.ensures) (search rules))
+    (leaves_quiet a.s k a.book.now a.out.now 8 c.quiet-in_default.ensures)
 
 pub returns-then-out-lt-OUTPUT_LEN : goal.returns-then-out-lt-OUTPUT_LEN
 returns-then-out-lt-OUTPUT_LEN c =
     let a = c.args in
     let k = a.kept.now in
-    rw (octet-9 (joined a.s k) a.book.now a.out.now a.b (sym (sound-joined a.s k) ∙ sym c.if-not-stands.ensures) c.if-book-ne-BOOK_LEN.false c.if-out-lt-OUTPUT_LEN.true)
-    (leaves_quiet a.s k a.book.now a.out.now 9 c.quiet-then-out-lt-OUTPUT_LEN.ensures)
+    let eb : c.in-Some.book.now ≡ a.book.now = search rules in
+    rw eb
+    (rw (octet-9 (joined a.s k) a.book.now a.out.now a.b (sym (sound-joined a.s k) ∙ sym c.if-not-stands.ensures) (search rules) c.if-out-lt-OUTPUT_LEN.true)
+    (leaves_quiet a.s k a.book.now a.out.now 9 c.quiet-then-out-lt-OUTPUT_LEN.ensures))
 
 pub returns-then-idle_drops : goal.returns-then-idle_drops
 returns-then-idle_drops c =
     let a = c.args in
     let k = a.kept.now in
-    rw (octet-counted (joined a.s k) a.book.now a.out.now a.b (sym (sound-joined a.s k) ∙ sym c.if-not-stands.ensures) c.if-book-ne-BOOK_LEN.false c.if-out-lt-OUTPUT_LEN.false)
-    (leaves-dropped a.s k a.book.now a.out.now a.b (sym c.if-idle_drops.ensures) (rw (c.tells_dropped.ensures, c.one_dropped-receiver.ensures)))
+    let eb : c.in-Some.book.now ≡ a.book.now = search rules in
+    rw eb
+    (rw (octet-counted (joined a.s k) a.book.now a.out.now a.b (sym (sound-joined a.s k) ∙ sym c.if-not-stands.ensures) (search rules) c.if-out-lt-OUTPUT_LEN.false)
+    (leaves-dropped a.s k a.book.now a.out.now a.b (sym c.if-idle_drops.ensures) (rw (c.tells_dropped.ensures, c.one_dropped-receiver.ensures))))
 
 pub info_kept-receiver-requires : goal.info_kept-receiver-requires
 info_kept-receiver-requires c =
@@ -45,18 +49,21 @@ returns-then-info_goes_on c =
     let a = c.args in
     let k = a.kept.now in
     let h = sym (sound-joined a.s k) ∙ sym c.if-not-stands.ensures in
-    rw (octet-counted (joined a.s k) a.book.now a.out.now a.b h c.if-book-ne-BOOK_LEN.false c.if-out-lt-OUTPUT_LEN.false)
+    let eb : c.in-Some.book.now ≡ a.book.now = search rules in
+    rw eb
+    (rw (octet-counted (joined a.s k) a.book.now a.out.now a.b h (search rules) c.if-out-lt-OUTPUT_LEN.false)
     (leaves_kept a.s k a.b h (sym c.if-info_goes_on.ensures) (search rules) (search (rules, c.well_formed)) a.book.now a.out.now
-    (rw (c.tells_dropped-then-info_goes_on.ensures, c.info_kept-receiver.ensures.0)) c.info_kept-receiver.ensures.1)
+    (rw (c.tells_dropped-then-info_goes_on.ensures, c.info_kept-receiver.ensures.0)) c.info_kept-receiver.ensures.1))
 
 pub taken-requires : goal.taken-requires
 taken-requires c =
     let a = c.args in
-    (sym (sound-joined a.s a.kept.now) ∙ sym c.if-not-stands.ensures, c.if-book-ne-BOOK_LEN.false, c.if-out-lt-OUTPUT_LEN.false)
+    (sym (sound-joined a.s a.kept.now) ∙ sym c.if-not-stands.ensures, c.if-out-lt-OUTPUT_LEN.false)
 
 pub returns : goal.returns
 returns c =
     let a = c.args in
     let k = a.kept.now in
-    rw (octet-counted (joined a.s k) a.book.now a.out.now a.b (sym (sound-joined a.s k) ∙ sym c.if-not-stands.ensures) c.if-book-ne-BOOK_LEN.false c.if-out-lt-OUTPUT_LEN.false)
-    c.taken.ensures
+    let eb : c.in-Some.book.now ≡ a.book.now = search rules in
+    rw (octet-counted (joined a.s k) a.book.now a.out.now a.b (sym (sound-joined a.s k) ∙ sym c.if-not-stands.ensures) (search rules) c.if-out-lt-OUTPUT_LEN.false)
+    (rw eb at c.taken.ensures)

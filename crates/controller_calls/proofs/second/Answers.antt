@@ -1,5 +1,5 @@
 -- `controller_calls::second`: one law for each way; a sound position is within a cycle of at most 900.
-use Rattle.std.proofs.Common.{refl, sym, ◌∙◌}
+use Rattle.std.proofs.Common.{◌≡◌, refl, sym, ◌∙◌, rules}
 use Rattle.controller.specs.State.{joined}
 use Rattle.controller.specs.Seconds.{no_second}
 use Rattle.controller.proofs.Judging.{parts_out, sound-parts}
@@ -15,19 +15,19 @@ returns-then-not-stands c =
     let h = sym (sound-joined a.s a.kept.now) ∙ sym c.if-not-stands.ensures in
     rw c.dark.ensures (sym (second-7 (joined a.s a.kept.now) a.book.now a.out.now h))
 
-pub returns-then-book-ne-BOOK_LEN : goal.returns-then-book-ne-BOOK_LEN
+pub returns-in_default : goal.returns-in_default
 unfolding no_second
-returns-then-book-ne-BOOK_LEN c =
+returns-in_default c =
     let a = c.args in
     let h = sym (sound-joined a.s a.kept.now) ∙ sym c.if-not-stands.ensures in
-    rw c.dark-then-book-ne-BOOK_LEN.ensures (sym (second-8 (joined a.s a.kept.now) a.book.now a.out.now h c.if-book-ne-BOOK_LEN.true))
+    rw c.dark-in_default.ensures (sym (second-8 (joined a.s a.kept.now) a.book.now a.out.now h (search rules)))
 
 pub returns-then-out-lt-OUTPUT_LEN : goal.returns-then-out-lt-OUTPUT_LEN
 unfolding no_second
 returns-then-out-lt-OUTPUT_LEN c =
     let a = c.args in
     let h = sym (sound-joined a.s a.kept.now) ∙ sym c.if-not-stands.ensures in
-    rw c.dark-then-out-lt-OUTPUT_LEN.ensures (sym (second-9 (joined a.s a.kept.now) a.book.now a.out.now h c.if-book-ne-BOOK_LEN.false c.if-out-lt-OUTPUT_LEN.true))
+    rw c.dark-then-out-lt-OUTPUT_LEN.ensures (sym (second-9 (joined a.s a.kept.now) a.book.now a.out.now h (search rules) c.if-out-lt-OUTPUT_LEN.true))
 
 pub passed-turn-requires : goal.passed-turn-requires
 passed-turn-requires c =
@@ -46,11 +46,12 @@ pub shown-requires : goal.shown-requires
 shown-requires c =
     let a = c.args in
     let h = sym (sound-joined a.s a.kept.now) ∙ sym c.if-not-stands.ensures in
-    (c.if-book-ne-BOOK_LEN.false, sound-position a.s a.kept.now h)
+    sound-position a.s a.kept.now h
 
 pub returns : goal.returns
 returns c =
     let a = c.args in
     let h = sym (sound-joined a.s a.kept.now) ∙ sym c.if-not-stands.ensures in
-    rw c.shown.ensures
-    (second-shown a.s a.kept.now a.book.now a.out.now h c.if-book-ne-BOOK_LEN.false c.if-out-lt-OUTPUT_LEN.false c.passed-turn.ensures refl refl c.resend-count.ensures)
+    let eb : c.in-Some.book.now ≡ a.book.now = search rules in
+    rw (c.shown.ensures, eb)
+    (second-shown a.s a.kept.now a.book.now a.out.now h (search rules) c.if-out-lt-OUTPUT_LEN.false c.passed-turn.ensures refl refl c.resend-count.ensures)

@@ -1,52 +1,27 @@
--- `diagram_calls::phases`: the directory has the phases that are due, and the tests are those of what is due.
-use Rattle.std.proofs.Common.{sym, ◌∙◌}
-use borrow.Author.Tests.{eq-eqb, ne_eqb}
-use Rattle.diagram.proofs.Known.{phases_due, phases-due}
+-- `diagram_calls::phases`: each arm is of the codes that the directory supports with so many phases, and of the others there are none.
+use Rattle.std.proofs.Common.{inl, inr, sym, arith}
+use Rattle.diagram.proofs.Known.{supported-codes}
 use Rattle.diagram_calls.proofs.phases.Goals as goal
 
-pub returns-then-order-eq0 : goal.returns-then-order-eq0
-unfolding phases_due
-returns-then-order-eq0 c = rw (phases-due c.args.order, eq-eqb _ _ c.if-order-eq0.true)
+pub returns-in-0 : goal.returns-in-0
+returns-in-0 c = sym ((supported-codes c.args.order).at00 c.in-0.is)
 
-pub returns-then-order-eq32 : goal.returns-then-order-eq32
-unfolding phases_due
-returns-then-order-eq32 c = rw (phases-due c.args.order, ne_eqb _ _ c.if-order-eq0.false, eq-eqb _ _ c.if-order-eq32.true)
+pub returns-in-32 : goal.returns-in-32
+returns-in-32 c =
+    let o = supported-codes c.args.order in
+    elim c.in-32.is [ inl e ↦ sym (o.at20 e) | inr e ↦ sym (o.at38 e) ]
 
-pub returns-then-order-eq56 : goal.returns-then-order-eq56
-unfolding phases_due
-returns-then-order-eq56 c = rw (phases-due c.args.order, ne_eqb _ _ c.if-order-eq0.false, ne_eqb _ _ c.if-order-eq32.false, eq-eqb _ _ c.if-order-eq56.true)
+pub returns-in-80-to-87 : goal.returns-in-80-to-87
+returns-in-80-to-87 c = sym ((supported-codes c.args.order).from50 (omega arith) (omega arith))
 
-pub returns-then-in_range : goal.returns-then-in_range
-unfolding phases_due
-returns-then-in_range c =
-    rw (
-      phases-due c.args.order,
-      ne_eqb _ _ c.if-order-eq0.false,
-      ne_eqb _ _ c.if-order-eq32.false,
-      ne_eqb _ _ c.if-order-eq56.false,
-      sym c.in_range.ensures ∙ c.if-in_range.true,
-    )
+pub returns-in-80-to-87-2 : goal.returns-in-80-to-87-2
+returns-in-80-to-87-2 c = sym ((supported-codes c.args.order).from60 (omega arith) (omega arith))
 
-pub returns-then-in_range-2 : goal.returns-then-in_range-2
-unfolding phases_due
-returns-then-in_range-2 c =
-    rw (
-      phases-due c.args.order,
-      ne_eqb _ _ c.if-order-eq0.false,
-      ne_eqb _ _ c.if-order-eq32.false,
-      ne_eqb _ _ c.if-order-eq56.false,
-      sym c.in_range.ensures ∙ c.if-in_range.false,
-      sym c.in_range-2.ensures ∙ c.if-in_range-2.true,
-    )
+pub returns-in_default : goal.returns-in_default
+returns-in_default c = sym ((supported-codes c.args.order).others (λ e. omega arith) (λ e. grind arith) (λ e. grind arith) (λ l m. omega arith) (λ l m. omega arith))
 
-pub returns : goal.returns
-unfolding phases_due
-returns c =
-    rw (
-      phases-due c.args.order,
-      ne_eqb _ _ c.if-order-eq0.false,
-      ne_eqb _ _ c.if-order-eq32.false,
-      ne_eqb _ _ c.if-order-eq56.false,
-      sym c.in_range.ensures ∙ c.if-in_range.false,
-      sym c.in_range-2.ensures ∙ c.if-in_range-2.false,
-    )
+pub returns-in_default-2 : goal.returns-in_default-2
+returns-in_default-2 c = sym ((supported-codes c.args.order).others (λ e. omega arith) (λ e. omega arith) (λ e. omega arith) (λ l m. omega arith) (λ l m. omega arith))
+
+pub returns-in_default-3 : goal.returns-in_default-3
+returns-in_default-3 c = sym ((supported-codes c.args.order).others (λ e. omega arith) (λ e. omega arith) (λ e. omega arith) (λ l m. omega arith) (λ l m. omega arith))

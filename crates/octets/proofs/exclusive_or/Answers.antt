@@ -1,20 +1,12 @@
-use Rattle.std.proofs.Common.{◌≡◌, ◌<◌, length, arith, rules}
-use lib.Seq.{drop-length}
-use Rattle.octets.specs.ExclusiveOr.{exclusive_or, xor}
-use Rattle.octets.proofs.Laws.{drop-next}
+-- `octets::exclusive_or`: the library's fold over the octets is the one that is meant.
+use Rattle.std.proofs.Common.{◌≡◌, ◌∙◌, rules}
+use Rattle.std.specs.Int.Bits.{bit_xor}
+use Rattle.std.specs.List.{fold}
+use Rattle.octets.proofs.Laws.{exclusive-or-fold}
 use Rattle.octets.proofs.exclusive_or.Goals as goal
 
-pub loop-i-preserved : goal.loop-i-preserved
-unfolding xor exclusive_or
-loop-i-preserved c =
-    let s = c.args.s.now in
-    let i = c.loop-i.i in
-    let h : i < length s = search rules in
-    (search rules, rw (drop-next s i h) at c.loop-i.invariant.1)
-
 pub returns : goal.returns
-unfolding exclusive_or
 returns c =
-    let s = c.args.s.now in
-    let e : length s ≡ c.loop-i.i = omega arith in
-    rw (← e, drop-length) at c.loop-i.invariant.1
+    let a = c.args in
+    let e : c.fold.result ≡ fold bit_xor a.start a.s.now = search rules in
+    e ∙ exclusive-or-fold a.start a.s.now

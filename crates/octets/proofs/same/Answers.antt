@@ -1,6 +1,7 @@
--- `octets::same`: octets of two lengths are not the same.
-use Rattle.octets.proofs.Laws.{same_not}
+-- `octets::same`: the library's `==` compares octet by octet.
+use Rattle.std.proofs.Common.{◌∙◌}
+use Rattle.octets.proofs.Laws.{pointwise-same}
 use Rattle.octets.proofs.same.Goals as goal
 
-pub returns-then-a-b : goal.returns-then-a-b
-returns-then-a-b c = same_not _ _ c.if-a-b.true
+pub returns : goal.returns
+returns c = c.eq.ensures ∙ pointwise-same c.args.a.now c.args.b.now

@@ -4,9 +4,9 @@ use Rattle.printout.specs.Listing.{again_line}
 use Rattle.printout.proofs.Laws.{stored-taken, both_stored, line-none, line-behind}
 use Rattle.printout_calls.proofs.put_with_again.Goals as goal
 
-pub returns-then-again-eq0 : goal.returns-then-again-eq0
+pub returns-then-is_empty : goal.returns-then-is_empty
 unfolding again_line
-returns-then-again-eq0 c = rw (line-none _ c.args.again.now _ c.if-again-eq0.true, append-nil c.args.line.now) c.put.ensures
+returns-then-is_empty c = rw (line-none _ c.args.again.now _ (search rules), append-nil c.args.line.now) c.put.ensures
 
 pub returns : goal.returns
 unfolding again_line

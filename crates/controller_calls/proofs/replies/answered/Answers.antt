@@ -8,4 +8,5 @@ returns-then-addr-s c =
 
 pub returns : goal.returns
 returns c =
-    answered-ours c.args.s c.args.addr c.args.event c.args.t c.args.kept.now c.args.out.now c.if-addr-s.false c.resend-count.ensures
+    rw c.unchanged-2.ensures
+    (answered-ours c.args.s c.args.addr c.args.event c.args.t c.args.kept.now c.args.out.now c.if-addr-s.false c.resend-count.ensures)

@@ -8,12 +8,12 @@ use Rattle.controller_calls.proofs.replies.by_found.Goals as goal
 pub answered-requires : goal.answered-requires
 answered-requires c =
     let s = c.args.s in
-    (rw c.acked-t.ensures (ack-sends s.wait s.out c.requires.2 s.seq c.in-Ack.seq), c.requires.3, c.requires.7)
+    (rw c.acked-t.ensures (ack-sends s.wait s.out c.requires.2 s.seq c.in-Ack.seq), c.requires.3, c.requires.5)
 
 pub answered-requires-in-Nak : goal.answered-requires-in-Nak
 answered-requires-in-Nak c =
     let s = c.args.s in
-    (rw c.naked-t.ensures (nak-sends s.wait s.out c.requires.2 s.seq c.in-Nak.seq), c.requires.3, c.requires.7)
+    (rw c.naked-t.ensures (nak-sends s.wait s.out c.requires.2 s.seq c.in-Nak.seq), c.requires.3, c.requires.5)
 
 pub returns-in-Nothing : goal.returns-in-Nothing
 returns-in-Nothing c came e =

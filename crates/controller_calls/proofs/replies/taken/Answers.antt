@@ -15,9 +15,7 @@ by_found-w-requires c =
       parts_out a.s.wait a.s.out p.out,
       left-enough a.s a.kept.now a.b r.0 c.octet-t.ensures,
       p.running.checks,
-      p.running.plan,
       r.1,
-      r.2,
     )
 
 pub returns : goal.returns

@@ -6,7 +6,7 @@ use Rattle.frame_calls.proofs.decoder.cks.Goals as goal
 pub returns-in-Message : goal.returns-in-Message
 unfolding front_in
 returns-in-Message c =
-    rw (c.exclusive_or.ensures, c.info_cks-y.ensures, c.exclusive_or-x.ensures, c.front-f.ensures, cks-message c.args.h c.args.info.now c.in-Message.is)
+    rw (c.exclusive_or.ensures, c.exclusive_or-y.ensures, c.first.ensures, c.exclusive_or-x.ensures, c.front-f.ensures, cks-message c.args.h c.args.info.now c.in-Message.is)
 
 pub returns-in-Ack : goal.returns-in-Ack
 unfolding front_in

@@ -4,7 +4,7 @@ use Rattle.frame.specs.Dropped.{open_in}
 use Rattle.frame.proofs.Counting.{number-stays}
 use Rattle.frame_calls.proofs.receiver.counted.Goals as goal
 
-pub returns-else-waits : goal.returns-else-waits
-returns-else-waits c =
+pub returns-in-Nothing : goal.returns-in-Nothing
+returns-in-Nothing c =
     let a = c.args in
-    rw (c.received-in-Nothing.ensures, c.in-Nothing.is, number-stays a.r.dropped (open_in a.r.head a.info.now) (search (rules, c.well_formed)) (c.requires.1.on c.in-Nothing.is (sym c.if-waits.ensures)))
+    rw (c.received.ensures, c.in-Nothing.is, number-stays a.r.dropped (open_in a.r.head a.info.now) (search (rules, c.well_formed)) (c.requires.on c.in-Nothing.is (sym c.if-not-waits.ensures)))

@@ -3,16 +3,17 @@ use Rattle.std.proofs.Common.{sym, ◌∙◌}
 use Rattle.frame.proofs.Lent.{idle-short, idle-7, idle-done}
 use Rattle.frame_calls.proofs.receiver.line_idle.Goals as goal
 
-pub returns-then-kept-lt-INFO_MOST : goal.returns-then-kept-lt-INFO_MOST
-returns-then-kept-lt-INFO_MOST c = let a = c.args in rw c.unsound.ensures (idle-short a.r a.kept.now c.if-kept-lt-INFO_MOST.true)
+pub returns-in_default : goal.returns-in_default
+returns-in_default c = let a = c.args in rw c.unsound.ensures (idle-short a.r a.kept.now c.in_default.ensures.cases)
 
 pub returns-then-not-possible : goal.returns-then-not-possible
 returns-then-not-possible c =
     let a = c.args in
-    rw c.unsound-then-not-possible.ensures (idle-7 a.r a.kept.now c.if-kept-lt-INFO_MOST.false (sym c.if-not-possible.ensures))
+    rw c.unsound-then-not-possible.ensures (idle-7 a.r a.kept.now c.in-Some.ensures.cases.enough (sym c.if-not-possible.ensures))
 
 pub returns : goal.returns
 returns c =
     let a = c.args in
-    rw (c.received.ensures, c.placed.ensures)
-    (idle-done a.r a.kept.now c.if-kept-lt-INFO_MOST.false (sym c.if-not-possible.ensures) (c.stopped-n.ensures ∙ rw c.still_open.ensures.0))
+    let k = c.in-Some.ensures.cases in
+    rw (c.received.ensures, c.placed-idle.ensures)
+    (idle-done a.r a.kept.now k.enough (sym c.if-not-possible.ensures) (c.stopped-n.ensures ∙ rw (c.still_open.ensures.0, k.same, c.from.ensures)))

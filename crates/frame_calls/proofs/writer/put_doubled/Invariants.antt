@@ -4,8 +4,8 @@ use Rattle.std.proofs.lemmas.List.Edits.{sets}
 use Rattle.frame.specs.Frame.{doubled}
 use Rattle.frame_calls.proofs.writer.put_doubled.Given as goal
 
-abbrev pub invariant-loop-i : goal.invariant-loop-i
-invariant-loop-i l =
-    (l.p + length (doubled (drop l.i l.info)) ≡ l.at + length (doubled l.info))
+abbrev pub invariant-loop-b : goal.invariant-loop-b
+invariant-loop-b l =
+    (l.p + length (doubled (drop l.b-index l.info)) ≡ l.at + length (doubled l.info))
     × (length l.out ≡ length l.initial.out)
-    × (sets l.out l.p (doubled (drop l.i l.info)) ≡ sets l.initial.out l.at (doubled l.info))
+    × (sets l.out l.p (doubled (drop l.b-index l.info)) ≡ sets l.initial.out l.at (doubled l.info))

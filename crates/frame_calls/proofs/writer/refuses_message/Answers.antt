@@ -19,9 +19,9 @@ returns-then-not-info_fits c seq addr = rw (sym (rw no-more at c.if-not-info_fit
 pub returns-then-not-room : goal.returns-then-not-room
 unfolding write_frame written_as
 returns-then-not-room c seq addr =
-    rw (sym (rw no-more at c.if-not-info_fits.ensures), written-long seq addr c.args.info.now, ← c.doubled_len.ensures.0, sym c.if-not-room.ensures)
+    rw (sym (rw no-more at c.if-not-info_fits.ensures), written-long seq addr c.args.info.now, ← c.doubled_len.ensures.0, sym (rw c.from.ensures at c.if-not-room.ensures))
 
 pub returns : goal.returns
 unfolding write_frame written_as
 returns c seq addr =
-    rw (sym (rw no-more at c.if-not-info_fits.ensures), written-long seq addr c.args.info.now, ← c.doubled_len.ensures.0, sym c.if-not-room.ensures)
+    rw (sym (rw no-more at c.if-not-info_fits.ensures), written-long seq addr c.args.info.now, ← c.doubled_len.ensures.0, sym (rw c.from.ensures at c.if-not-room.ensures))

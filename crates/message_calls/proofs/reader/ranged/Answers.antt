@@ -1,27 +1,32 @@
 -- `message_calls::reader::ranged`: the search is the definition's, over the values read.
-use Rattle.std.proofs.Common.{◌∙◌, arith, rules}
-use borrow.Author.Tests.{eq-eqb, ne_eqb}
-use Rattle.message.specs.Layouts.{rows_at}
-use Rattle.message.specs.Reader.{part_of, ranged_of}
+use Rattle.std.proofs.Common.{◌≡◌, ◌+◌, arith}
+use borrow.Author.Tests.{ne_eqb}
+use Rattle.message.specs.Reader.{part_of, ranged_of, read_as}
+use Rattle.message.specs.Values.{first_out}
 use Rattle.message.proofs.Layouts.{kept-code}
-use Rattle.message.proofs.Reading.{first-out-most, none-past}
+use Rattle.message.proofs.Reading.{none-past}
+use Rattle.message_calls.specs.Shape.{shape_rows}
+use Rattle.message_calls.proofs.Shapes.{rows-most, rows-by, first-whole}
 use Rattle.message_calls.proofs.reader.ranged.Goals as goal
 
-pub first_out-field-requires : goal.first_out-field-requires
-first_out-field-requires c =
-    let n = c.fields-fields.ensures in
-    let past = none-past (rows_at c.args.l c.args.k) c.args.part.now in
-    (c.requires, search rules, record { most = n.1; none = λ j l m. rw c.values-values.ensures (past j (omega (arith, n.0))) })
+pub overflow_add-result : goal.overflow_add-result
+overflow_add-result c = let w = c.in-Some.ensures.within in omega (arith, rows-most c.args.shape)
 
-pub overflow_cast-field : goal.overflow_cast-field
-overflow_cast-field c = omega (arith, c.first_out-field.ensures, first-out-most (rows_at c.args.l c.args.k) c.values-values.result)
+pub overflow_cast-result : goal.overflow_cast-result
+overflow_cast-result c = let w = c.in-Some.ensures.within in omega (arith, rows-most c.args.shape)
 
-pub returns-then-field-ne0 : goal.returns-then-field-ne0
+pub returns-in-Some : goal.returns-in-Some
 unfolding ranged_of part_of
-returns-then-field-ne0 c = c.refused.ensures ∙ rw (← c.values-values.ensures, ← c.first_out-field.ensures, ne_eqb _ _ c.if-field-ne0.true)
+returns-in-Some c =
+    let s = c.args.shape in
+    let n : c.in-Some.place + 1 ≡ 0 → ⊥ = λ z. omega (arith, z) in
+    let e : c.in-Some.place + 1 ≡ first_out (shape_rows s) c.values-values.result = first-whole (shape_rows s) c.values-values.result c.in-Some.ensures (rows-most s) (λ z. absurd (n z)) in
+    λ l h. rw (← rows-by s h, ← c.values-values.ensures, ← e, ne_eqb _ _ n)
 
 pub returns : goal.returns
 unfolding ranged_of part_of
 returns c =
-    rw (← c.values-values.ensures, ← c.first_out-field.ensures, eq-eqb _ _ c.if-field-ne0.false)
-    (rw (kept-code c.layout_at-code.ensures, c.fields-fields.ensures.0))
+    let s = c.args.shape in
+    let e : 0 ≡ first_out (shape_rows s) c.values-values.result =
+    first-whole (shape_rows s) c.values-values.result c.in_default.ensures (rows-most s) (λ _ j a b. rw c.values-values.ensures (none-past (shape_rows s) c.args.part.now j a)) in
+    λ l h. rw (← rows-by s h, ← c.values-values.ensures, ← e) (λ i. read_as (record { code = kept-code h i; fields = c.fields.ensures.0 i; values = c.values-values.result }))

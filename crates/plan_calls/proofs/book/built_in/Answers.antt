@@ -10,4 +10,5 @@ returns c =
     let s1 = put-stored c.put-p.ensures (omega arith) in
     let s2 = put-stored c.put-q.ensures (omega (arith, s1.place, s1.long)) in
     let s3 = put-stored c.put.ensures (omega (arith, s2.place, s2.long, s1.place, s1.long)) in
-    (stored-then s1 (stored-then s2 s3)).holds ∙ rw (← c.built_in_green-green.ensures, ← c.built_in_cycle-cycle.ensures)
+    let e = c.green_and_cycle-green.ensures in
+    (stored-then s1 (stored-then s2 s3)).holds ∙ rw (← e.0, ← e.1)

@@ -8,10 +8,10 @@ use Rattle.plan.proofs.Sets.{ready-k, ready-unset, ready-count, ready-not, ready
 use Rattle.plan_calls.proofs.setting.made_ready.Goals as goal
 
 pub returns-then-standing-eq-EMPTY : goal.returns-then-standing-eq-EMPTY
-returns-then-standing-eq-EMPTY c = c.not_made.ensures ∙ search ready-unset
+returns-then-standing-eq-EMPTY c = search ready-unset
 
 pub returns-then-count : goal.returns-then-count
-returns-then-count c = c.not_made-then-count.ensures ∙ search ready-count
+returns-then-count c = rw c.disagree.ensures (search ready-count)
 
 -- the record has the stored count, so it has at most eleven checks
 few : (c : goal.Then-n-ne0) → c.plan_disagree-n.result ≤ 11
@@ -30,7 +30,7 @@ overflow_add-n c = record { fits = omega (arith, few c) }
 
 pub returns-then-n-ne0 : goal.returns-then-n-ne0
 returns-then-n-ne0 c =
-    let n = c.plan_disagree-n.result in let f : n + plan_count_at - 1 ≡ plan_field n = omega arith in c.not_made-then-n-ne0.ensures ∙ search ready-not
+    let n = c.plan_disagree-n.result in let f : n + plan_count_at - 1 ≡ plan_field n = omega arith in rw c.disagree-then-n-ne0.ensures (search ready-not)
 
 pub returns : goal.returns
 returns c = search ready-is

@@ -1,22 +1,20 @@
 -- `plan_calls::setting::set_plan`: what is read is a 5F 15, and what it makes is kept under the plan that was read.
-use Rattle.plan.proofs.Laws.{record-from, record-long}
-use Rattle.plan_calls.proofs.Read.{set-refused, book-long, book-holds, plan-read, plan-count, plan-least, plan-most, plan-kept}
+use Rattle.std.proofs.lemmas.Result.{err_from_is_err_and}
+use Rattle.plan.proofs.Laws.{record-long}
+use Rattle.plan_calls.proofs.Read.{set-refused, book-long, plan-read, plan-count, plan-least, plan-most, plan-kept}
 use Rattle.plan_calls.proofs.setting.set_plan.Goals as goal
 
-pub returns-then-r-ne-NONE : goal.returns-then-r-ne-NONE
-returns-then-r-ne-NONE c = search set-refused
+pub returns-in_err-m : goal.returns-in_err-m
+returns-in_err-m c = let p = err_from_is_err_and c.from_residual.result c.from_residual.ensures.1 in rw (p.1, p.2) (search (set-refused, c.in_err-m.ensures))
 
-pub start-at-requires : goal.start-at-requires
-start-at-requires c = search (plan-least, plan-most)
+pub record_in-requires : goal.record_in-requires
+record_in-requires c = search (book-long, plan-least, plan-most, c.in_ok-m.ensures)
 
-pub slice_bounds-made_ready-end : goal.slice_bounds-made_ready-end
-slice_bounds-made_ready-end c = search book-holds
-
-pub made_ready-m-requires : goal.made_ready-m-requires
-made_ready-m-requires c = search (record-long, book-holds, plan-read, plan-count)
+pub made_ready-made-requires : goal.made_ready-made-requires
+made_ready-made-requires c = search (record-long, book-long, plan-least, plan-most, plan-read, plan-count, c.in_ok-m.ensures)
 
 pub keep-requires : goal.keep-requires
-keep-requires c = search (book-long, plan-least, plan-most)
+keep-requires c = search (book-long, plan-least, plan-most, c.in_ok-m.ensures)
 
 pub returns : goal.returns
-returns c = search (plan-kept, record-from)
+returns c = search (plan-kept, c.in_ok-m.ensures)

@@ -3,11 +3,11 @@ use Rattle.std.proofs.Common.{sym, arith, length-take-le}
 use Rattle.printout.proofs.Laws.{count_fits, octet-listed}
 use Rattle.printout_calls.proofs.run.on_octet.Goals as goal
 
-pub slice_bounds-put_written-end : goal.slice_bounds-put_written-end
-slice_bounds-put_written-end c = let a = c.args in count_fits a.run.state a.kept.now a.book.now a.out.now a.b c.octet-a.ensures
+pub slice_bounds-written-end : goal.slice_bounds-written-end
+slice_bounds-written-end c = let a = c.args in count_fits a.run.state a.kept.now a.book.now a.out.now a.b c.octet-a.ensures
 
-pub slice_bounds-put_written-end-2 : goal.slice_bounds-put_written-end-2
-slice_bounds-put_written-end-2 c = let a = c.args in sym (length-take-le _ _ (count_fits a.run.state a.kept.now a.book.now a.out.now a.b c.octet-a.ensures))
+pub slice_bounds-written-end-2 : goal.slice_bounds-written-end-2
+slice_bounds-written-end-2 c = let a = c.args in sym (length-take-le _ _ (count_fits a.run.state a.kept.now a.book.now a.out.now a.b c.octet-a.ensures))
 
 pub returns : goal.returns
 returns c =

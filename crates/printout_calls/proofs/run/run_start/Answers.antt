@@ -15,4 +15,4 @@ run_of a = record { state = held a.state; seconds = 0; used = 0 }
 
 pub returns : goal.returns
 unfolding fresh_receiver run_start started_of fresh_of
-returns c = ap run_of (c.started-s.ensures [])
+returns c = ap run_of (c.started.ensures [])

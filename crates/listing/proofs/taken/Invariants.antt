@@ -1,6 +1,0 @@
--- `listing::taken`: each line that ended leaves room for the next.
-use Rattle.listing.specs.Room.{Room}
-use Rattle.listing.proofs.taken.Given as goal
-
-abbrev pub invariant-loop-i : goal.invariant-loop-i
-invariant-loop-i g l = Room l.p.run l.text
