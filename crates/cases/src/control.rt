@@ -6,7 +6,6 @@ use crate::script;
 use crate::words::CallWord;
 use controller::{Held, HeldShown, KEPT_LEN, Link, OUTPUT_LEN, Told};
 use frame_calls::writer;
-use octets::refusal;
 use plan::Which;
 use record::BOOK_LEN;
 use std::io;
@@ -190,7 +189,7 @@ impl Post {
         self.state = a.state;
         let told = a.told;
         print!(rt; "\toffer {}{}", HexOctets(o), RefusedCall(told.refusal))?;
-        if told.refusal == refusal::NONE {
+        if told.refusal.is_none() {
             print!(rt; "\tsent {}", HexOctets(script::first(out, told.count)))?;
         }
         Ok(())

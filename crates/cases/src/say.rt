@@ -3,7 +3,7 @@ use crate::script;
 use controller::{Event, HeldShown, Link};
 use frame::Kind;
 use frame::decoder::{Found, Place};
-use octets::refusal;
+use octets::refusal::Refusal;
 use std::fmt;
 
 // So many of one octet in a row are counted.
@@ -99,7 +99,8 @@ impl fmt::Display for Brought<'_> {
         let n = self.number;
         match self.found {
             Found::Nothing => Ok(()),
-            Found::Refused(r, kind, seq, addr) => {
+            Found::Refused(why, kind, seq, addr) => {
+                let r = why.number();
                 let head = FrameHead(kind, seq, addr);
                 write!(f, "\toctet {n}: refusal {r}, {head}")
             }
@@ -132,13 +133,13 @@ impl fmt::Display for Dropped {
 
 // The refusal of a call, if it is refused.
 #[derive(Clone, Copy)]
-pub(crate) struct RefusedCall(pub(crate) u8);
+pub(crate) struct RefusedCall(pub(crate) Option<Refusal>);
 
 impl fmt::Display for RefusedCall {
     fn fmt<W: fmt::Write>(&self, f: &mut fmt::Formatter<W>) -> fmt::Result {
         match self.0 {
-            refusal::NONE => Ok(()),
-            n => write!(f, "\tcall refused {n}"),
+            None => Ok(()),
+            Some(why) => write!(f, "\tcall refused {}", why.number()),
         }
     }
 }
@@ -147,18 +148,20 @@ impl fmt::Display for RefusedCall {
 #[derive(Clone, Copy)]
 pub(crate) struct RefusedAtOctet {
     pub(crate) number: usize,
-    pub(crate) refusal: u8,
+    pub(crate) refusal: Option<Refusal>,
     pub(crate) parameter: u8,
 }
 
 impl fmt::Display for RefusedAtOctet {
     fn fmt<W: fmt::Write>(&self, f: &mut fmt::Formatter<W>) -> fmt::Result {
         let n = self.number;
-        let r = self.refusal;
-        match (r, self.parameter) {
-            (refusal::NONE, _) => Ok(()),
-            (_, 0) => write!(f, "\toctet {n}: refusal {r}"),
-            (_, parameter) => write!(f, "\toctet {n}: refusal {r}, parameter {parameter}"),
+        let Some(why) = self.refusal else {
+            return Ok(());
+        };
+        let r = why.number();
+        match self.parameter {
+            0 => write!(f, "\toctet {n}: refusal {r}"),
+            parameter => write!(f, "\toctet {n}: refusal {r}, parameter {parameter}"),
         }
     }
 }
@@ -200,9 +203,9 @@ impl fmt::Display for SecondShown {
     fn fmt<W: fmt::Write>(&self, f: &mut fmt::Formatter<W>) -> fmt::Result {
         let plan = self.0.plan;
         let row = self.0.row;
-        let r = self.0.told.refusal;
-        if r != refusal::NONE {
-            return write!(f, "{}", RefusedCall(r));
+        let refusal = self.0.told.refusal;
+        if refusal.is_some() {
+            return write!(f, "{}", RefusedCall(refusal));
         }
         write!(
             f,

@@ -70,7 +70,7 @@ fn say_written(
             Ok(count)
         }
         Err(r) => {
-            print!(rt; "{}", RefusedCall(r.number()))?;
+            print!(rt; "{}", RefusedCall(Some(r)))?;
             Ok(0)
         }
     }

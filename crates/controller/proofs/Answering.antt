@@ -12,6 +12,8 @@ use lib.ListN.{length, take, drop, length-take, length-drop, take-append-drop}
 use lib.Seq.{sets, length-sets, drop-drop}
 use Rattle.octets.specs.Choice.{pick}
 use Rattle.octets.specs.Refusal as refusal
+use Rattle.octets.specs.Refusals.{refusal_number}
+use Rattle.octets.proofs.Refusals.{told-apart}
 use Rattle.octets.proofs.Laws.{drop-sets, pick-by, clash}
 use Rattle.frame.specs.declared.Kind.{Kind}
 use Rattle.frame.specs.declared.Kind.TheVariants.{Message, Ack, Nak}
@@ -37,9 +39,11 @@ use Rattle.plan.specs.Setting.{Setting, set_times_code, set_plan_code, plan_in, 
 use Rattle.checks.proofs.Stands.{stands-as-it-is}
 use Rattle.controller.specs.declared.Event.{Event}
 use Rattle.controller.specs.declared.Event.TheVariants as event
-use Rattle.controller.specs.declared.Handled.{Handled}
+use Rattle.controller.specs.Reply.{HandledInNumbers}
 use Rattle.controller.specs.declared.Held.{Held}
 use Rattle.controller.specs.declared.HeldAnswer.{HeldAnswer}
+use Rattle.controller.specs.declared.Told as declared
+use Rattle.controller.specs.Told.{told_of}
 use Rattle.controller.specs.declared.HeldShown.{HeldShown}
 use Rattle.controller.specs.declared.Link.{Link}
 use Rattle.controller.specs.declared.Link.TheVariants as link
@@ -283,17 +287,17 @@ module _ (s : State) (book info : List ℕ) where
 
   as-in-done : (a : Answered) → InDone a.refusal → InDone (set_as code s.requested a).refusal
   unfolding set_as
-  as-in-done a h = pick-by (λ (h : Handled). InDone h.refusal) (eqb a.refusal refusal.none) (λ _. inl (omega arith)) (λ _. h)
+  as-in-done a h = pick-by (λ (h : HandledInNumbers). InDone h.refusal) (eqb a.refusal refusal.none) (λ _. inl (omega arith)) (λ _. h)
 
   as-leaves : (a : Answered) → ((set_as code s.requested a).refusal ≡ refusal.none → ⊥) → a.refusal ≡ refusal.none → ⊥
   unfolding set_as
   as-leaves a n e = n (rw (eq-eqb a.refusal refusal.none e))
 
-  read-or-done : (h : Handled) → InDone h.refusal → InDone (unless_unread code s.requested info h).refusal
-  read-or-done h d = pick-by (λ (h : Handled). InDone h.refusal) (eqb (read_of info).refusal refusal.none) (λ _. d) (λ _. read-in-done info)
+  read-or-done : (h : HandledInNumbers) → InDone h.refusal → InDone (unless_unread code s.requested info h).refusal
+  read-or-done h d = pick-by (λ (h : HandledInNumbers). InDone h.refusal) (eqb (read_of info).refusal refusal.none) (λ _. d) (λ _. read-in-done info)
 
   -- of what holds or is refused 13
-  or-not-ready : (t : Bool) (h : Handled) → InDone h.refusal → InDone (pick t h (handling.refused_with code s.requested refusal.not_ready plan_at)).refusal
+  or-not-ready : (t : Bool) (h : HandledInNumbers) → InDone h.refusal → InDone (pick t h (handling.refused_with code s.requested refusal.not_ready plan_at)).refusal
   or-not-ready true h d = d
   or-not-ready false h d = inr (omega arith, omega arith)
 
@@ -305,7 +309,7 @@ module _ (s : State) (book info : List ℕ) where
       (λ _. as-in-done (set_plan_of book info).answer (set-in-done set_plan_code (ready_made (record_at book p) (body_in info)) book info refl hb (ready-in-done (record_at book p) (body_in info))))
       (read-or-done _ (or-not-ready (ready_in s.running.which book p) _ (inl (omega arith))))
       (read-or-done _
-      (pick-by (λ (h : Handled). InDone h.refusal) (eqb (standing_of (plan_record s.running.which book p)) empty) (λ _. inr (omega arith, omega arith)) (λ _. inl (omega arith))))
+      (pick-by (λ (h : HandledInNumbers). InDone h.refusal) (eqb (standing_of (plan_record s.running.which book p)) empty) (λ _. inr (omega arith, omega arith)) (λ _. inl (omega arith))))
       (read-or-done _ (or-not-ready (ready_in s.running.which book p) _ (inl (omega arith))))
       (read-or-done _ (inl (omega arith)))
       (inr (omega arith, omega arith))
@@ -381,7 +385,7 @@ module _ (s : State) (book : List ℕ) where
 
     brought-right : (f : Found) (kept : List ℕ) → CanFind f → Right book (brought_of (found_means f kept) s book)
     brought-right found.Nothing kept c = unchanged-right refusal.none event.Nothing [] (omega arith) none-fit
-    brought-right (found.Refused n k seq addr) kept c = unchanged-right n event.Nothing (naks k s.own n seq addr) c (naks-fit k s.own n seq addr)
+    brought-right (found.Refused r k seq addr) kept c = let n = refusal_number r in unchanged-right n event.Nothing (naks k s.own n seq addr) c (naks-fit k s.own n seq addr)
     brought-right (found.Message seq addr n) kept c = message-right seq addr (take n kept)
     brought-right (found.Ack seq addr) kept c = answered-right addr (event.Ack seq) _ (resent-fits s q (ack_turn s.seq s.sender.out seq).link)
     brought-right (found.Nak seq addr err) kept c = answered-right addr (event.Nak seq err) _ (resent-fits s q (nak_turn s.seq s.sender.out seq).link)
@@ -481,6 +485,7 @@ joined-so =
     record {
       state = λ s kept. refl;
       answer = λ r kept. refl;
+      told = λ t. refl;
       start = λ w r f kept. (ap (λ (a : Answer). a.state) (f kept), ap (λ (a : Answer). a.told) (f kept));
       second = λ r kept out w e.
           (ap (λ (a : Shown). a.state) e, ap (λ (a : Shown). a.told) e, ap (λ (a : Shown). a.plan) e, ap (λ (a : Shown). a.row) e, ap (λ (a : Shown). a.out) e);
@@ -545,11 +550,17 @@ pub one-to-one : (s t : Held) (k l : List ℕ) → joined s k ≡ joined t l →
 one-to-one s t k l e d =
     (ap held e, octets-back (joined s k) (joined t l) k l e (record { decoder = refl; memory = refl; sender = refl }) (record { decoder = refl; memory = refl; sender = refl }) d)
 
+-- from 01's numbers the answer is known
+told-one : (t u : declared.Told) → told_of t ≡ told_of u → t ≡ u
+told-one t u e i =
+    let w = e i in
+    record { refusal = told-apart t.refusal u.refusal (λ j. (e j).refusal) i; parameter = w.parameter; event = w.event; count = w.count; dropped = w.dropped; link = w.link }
+
 pub answer-one-to-one : (r q : HeldAnswer) (k l : List ℕ) → answer_with r k ≡ answer_with q l → drop kept_len k ≡ drop kept_len l → (r ≡ q) × (k ≡ l)
-answer-one-to-one r q k l e d = ((λ i. record { state = held (e i).state; told = (e i).told }), (one-to-one r.state q.state k l (ap (λ (a : Answer). a.state) e) d).1)
+answer-one-to-one r q k l e d = ((λ i. record { state = held (e i).state; told = told-one r.told q.told (λ j. (e j).told) i }), (one-to-one r.state q.state k l (ap (λ (a : Answer). a.state) e) d).1)
 
 pub shown-one : (r q : HeldShown) (k o p : List ℕ) → shown_with r k o ≡ shown_with q k p → (r ≡ q) × (o ≡ p)
-shown-one r q k o p e = ((λ i. record { state = held (e i).state; told = (e i).told; plan = (e i).plan; row = (e i).row }), ap (λ (w : Shown). w.out) e)
+shown-one r q k o p e = ((λ i. record { state = held (e i).state; told = told-one r.told q.told (λ j. (e j).told) i; plan = (e i).plan; row = (e i).row }), ap (λ (w : Shown). w.out) e)
 
 pub refused-as-came : RefusedAsCame
 refused-as-came s lent book out b n x r k b' o l =

@@ -40,7 +40,7 @@ use Rattle.plan.proofs.Storing.{times-stored-exactly-when}
 use Rattle.plan.proofs.Readying.{stands-has, has-stands, plan-stored-exactly-when}
 use Rattle.plan.proofs.Reportable.{reports-read}
 use Rattle.plan.proofs.Reports.{times-most, plan-most}
-use Rattle.controller.specs.declared.Handled.{Handled}
+use Rattle.controller.specs.Reply.{HandledInNumbers}
 use Rattle.controller.specs.State.{State, plan_record, ready_in}
 use Rattle.controller.specs.Handling.{reply_info, set_as, unless_unread, run_as, query_times_as, query_plan_as, handling_of}
 use Rattle.controller.specs.Demand1.{InDone}
@@ -120,14 +120,14 @@ module _ (s : State) (book info : List ℕ) (hb : length book ≡ book_len) (ob 
   abbrev named : List ℕ
   named = plan_record s.running.which book p
 
-  abbrev Named : Handled → Type 0
+  abbrev Named : HandledInNumbers → Type 0
   Named h = (h.refusal < 256) × (h.parameter < 256)
 
   set-named : (a : Answered) → ((a.refusal ≡ refusal.none → ⊥) → (a.refusal < 256) × (a.field < 256)) → Named (set_as code s.requested a)
   unfolding set_as
   set-named a f = pick-by Named (eqb a.refusal refusal.none) (λ _. (omega arith, omega arith)) (λ e. f (eqb-false a.refusal refusal.none e))
 
-  read_named : (h : Handled) → Named h → Named (unless_unread code s.requested info h)
+  read_named : (h : HandledInNumbers) → Named h → Named (unless_unread code s.requested info h)
   read_named h w = pick-by Named (eqb (read_of info).refusal refusal.none) (λ _. w) (λ _. (read-octet info, read-field info))
 
   handled-named : Named (handling_of s book info).handled

@@ -32,7 +32,7 @@ use Rattle.checks.proofs.Stands.{plan-fits, ready-plan}
 use Rattle.plan.proofs.Cases.{built-in-stands}
 use Rattle.plan.proofs.Reportable.{standing-past}
 use Rattle.controller.specs.declared.Running.{Running}
-use Rattle.controller.specs.declared.Handled.{Handled}
+use Rattle.controller.specs.Reply.{HandledInNumbers}
 use Rattle.controller.specs.Memory.{Memory, is_repeat}
 use Rattle.controller.specs.declared.Event.{Event}
 use Rattle.controller.specs.declared.Event.TheVariants as event
@@ -73,7 +73,7 @@ module _ (s : State) (book info : List ℕ) where
   abbrev runs : Bool
   runs = both (eqb code run_code) (both (eqb (read_of info).refusal refusal.none) (ready_in s.running.which book asked))
 
-  abbrev Leaves : Handled → Type 0
+  abbrev Leaves : HandledInNumbers → Type 0
   Leaves h = h.requested ≡ pick runs asked s.requested
 
   other-leaves : {p : ℕ} → p ≡ s.requested → (code ≡ run_code → ⊥) → p ≡ pick runs asked s.requested
@@ -84,7 +84,7 @@ module _ (s : State) (book info : List ℕ) where
 
   set-leaves : (a : Answered) → (set_as code s.requested a).requested ≡ s.requested
   unfolding set_as
-  set-leaves a = pick-by (λ (h : Handled). h.requested ≡ s.requested) (eqb a.refusal refusal.none) (λ _. refl) (λ _. refl)
+  set-leaves a = pick-by (λ (h : HandledInNumbers). h.requested ≡ s.requested) (eqb a.refusal refusal.none) (λ _. refl) (λ _. refl)
 
   run-leaves : eqb code run_code ≡ true → Leaves (unless_unread code s.requested info (run_as s.running.which code s.requested book asked))
   unfolding run_as
@@ -93,16 +93,16 @@ module _ (s : State) (book info : List ℕ) where
       (λ r. pick-by Leaves (ready_in s.running.which book asked) (λ q. rw (t, r, q)) (λ q. rw (t, r, q)))
       (λ r. rw (t, r))
 
-  read-leaves : (h : Handled) → h.requested ≡ s.requested → (unless_unread code s.requested info h).requested ≡ s.requested
-  read-leaves h e = pick-by (λ (h : Handled). h.requested ≡ s.requested) (eqb (read_of info).refusal refusal.none) (λ _. e) (λ _. refl)
+  read-leaves : (h : HandledInNumbers) → h.requested ≡ s.requested → (unless_unread code s.requested info h).requested ≡ s.requested
+  read-leaves h e = pick-by (λ (h : HandledInNumbers). h.requested ≡ s.requested) (eqb (read_of info).refusal refusal.none) (λ _. e) (λ _. refl)
 
   times-leaves : (unless_unread code s.requested info (query_times_as s.running.which code s.requested book asked)).requested ≡ s.requested
   unfolding query_times_as
-  times-leaves = read-leaves _ (pick-by (λ (h : Handled). h.requested ≡ s.requested) (eqb (standing_of (plan_record s.running.which book asked)) empty) (λ _. refl) (λ _. refl))
+  times-leaves = read-leaves _ (pick-by (λ (h : HandledInNumbers). h.requested ≡ s.requested) (eqb (standing_of (plan_record s.running.which book asked)) empty) (λ _. refl) (λ _. refl))
 
   plan-leaves : (unless_unread code s.requested info (query_plan_as s.running.which code s.requested book asked)).requested ≡ s.requested
   unfolding query_plan_as
-  plan-leaves = read-leaves _ (pick-by (λ (h : Handled). h.requested ≡ s.requested) (ready_in s.running.which book asked) (λ _. refl) (λ _. refl))
+  plan-leaves = read-leaves _ (pick-by (λ (h : HandledInNumbers). h.requested ≡ s.requested) (ready_in s.running.which book asked) (λ _. refl) (λ _. refl))
 
   running-leaves : (unless_unread code s.requested info (query_running_as s.requested)).requested ≡ s.requested
   running-leaves = read-leaves _ refl

@@ -11,6 +11,7 @@ use lib.ListN.{length, take, replicate, length-replicate}
 use lib.Seq.{sets, length-take-le}
 use Rattle.octets.specs.Choice.{pick}
 use Rattle.octets.specs.Octet.{Octets}
+use Rattle.octets.specs.Refusals.{refusal_number}
 use Rattle.octets.proofs.Laws.{pick-by, octets-take, octets-part, octets-sets, take-sets}
 use Rattle.frame.specs.declared.Kind.{Kind}
 use Rattle.frame.specs.declared.Kind.TheVariants.{Message, Ack, Nak}
@@ -204,7 +205,7 @@ module _ (n : ℕ) (s : State) (hw : s.own < 65535) (e : s.seq ≡ n % 256) wher
 
       brought-sent : (f : Found) (kept : List ℕ) → CanFind f → OutcomeOctets (found_means f kept) → Sent (brought_of (found_means f kept) s book)
       brought-sent found.Nothing kept c o = over-sent
-      brought-sent (found.Refused m k seq addr) kept c o = (nak-sent k m seq addr c o, oi)
+      brought-sent (found.Refused r k seq addr) kept c o = (nak-sent k (refusal_number r) seq addr c o, oi)
       brought-sent (found.Message seq addr m) kept c o = message-sent seq addr (take m kept) o.0 o.1
       brought-sent (found.Ack seq addr) kept c o = answered-sent addr (event.Ack seq) (ack_turn s.seq s.sender.out seq) (ack-turn-sent seq)
       brought-sent (found.Nak seq addr err) kept c o = answered-sent addr (event.Nak seq err) (nak_turn s.seq s.sender.out seq) (nak-turn-sent seq)

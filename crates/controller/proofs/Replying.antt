@@ -23,9 +23,9 @@ use Rattle.plan.specs.Setting.{Setting, set_times_code, set_plan_code, set_times
 use Rattle.plan.specs.Reporting.{report_plan_code, report_running_code, times_info, plan_info}
 use Rattle.plan.proofs.Reports.{times-most, plan-most}
 use Rattle.plan.proofs.Reportable.{standing-past}
-use Rattle.controller.specs.declared.Handled.{Handled}
-use Rattle.controller.specs.declared.Reply.{Reply}
-use Rattle.controller.specs.declared.Reply.TheVariants as reply
+use Rattle.controller.specs.Reply.{HandledInNumbers}
+use Rattle.controller.specs.Reply.{ReplyInNumbers}
+use Rattle.controller.specs.Reply as reply
 use Rattle.controller.specs.State.{State, output_len, plan_record, ready_in}
 use Rattle.controller.specs.Handling.{Handling, reply_info, accepted, reads, asks, set_handled, run_code, query_times_code, query_plan_code, query_running_code, refused_with, set_as, unless_unread, run_as, query_times_as, query_plan_as, query_running_as, handling_of}
 use Rattle.controller.specs.Replies.{sent, replies_of, CanFind}
@@ -86,10 +86,10 @@ module _ (s : State) (book info : List ℕ) where
   abbrev named : List ℕ
   named = plan_record s.running.which book p
 
-  module _ (P : Handled → Type 0) (carried : (q : ℕ) → P (accepted q (reply.CarriedOut code))) (refused : (n m : ℕ) → P (refused_with code s.requested n m))
+  module _ (P : HandledInNumbers → Type 0) (carried : (q : ℕ) → P (accepted q (reply.CarriedOut code))) (refused : (n m : ℕ) → P (refused_with code s.requested n m))
       (times : (standing_of named ≡ empty → ⊥) → P (accepted s.requested (reply.Times p))) (plan : standing_of named ≡ ready → P (accepted s.requested (reply.Plan p)))
       (running : P (accepted s.requested reply.Running)) where
-    by_read : (h : Handled) → P h → P (unless_unread code s.requested info h)
+    by_read : (h : HandledInNumbers) → P h → P (unless_unread code s.requested info h)
     by_read h w = pick-by P (eqb (read_of info).refusal refusal.none) (λ _. w) (λ _. refused (read_of info).refusal (read_of info).field)
 
     by-set : (a : Answered) → P (set_as code s.requested a)
@@ -129,11 +129,11 @@ module _ (s : State) (book info : List ℕ) where
 
   -- A report is of the book as it came, since a message that has one leaves the book: what holds of the reply and that book, and of every 0F 80
   -- and 0F 81 and any book, holds of the reply and the book that is left
-  module _ (P : List ℕ → Reply → Type 0) (carried : (b : List ℕ) → P b (reply.CarriedOut code)) (refused : (b : List ℕ) (n m : ℕ) → P b (reply.Refused code n m)) where
+  module _ (P : List ℕ → ReplyInNumbers → Type 0) (carried : (b : List ℕ) → P b (reply.CarriedOut code)) (refused : (b : List ℕ) (n m : ℕ) → P b (reply.Refused code n m)) where
     set-left : (w : Setting) → P w.book (set_as code s.requested w.answer).reply
     unfolding set_as
     set-left w =
-        pick-by (λ (h : Handled). P w.book h.reply) (eqb w.answer.refusal refusal.none) (λ _. carried w.book)
+        pick-by (λ (h : HandledInNumbers). P w.book h.reply) (eqb w.answer.refusal refusal.none) (λ _. carried w.book)
         (λ _. refused w.book w.answer.refusal w.answer.field)
 
     pub by_left : P book (handling_of s book info).handled.reply → P (handling_of s book info).book (handling_of s book info).handled.reply

@@ -33,8 +33,8 @@ use Rattle.plan.proofs.Readying.{stands-has, has-stands, plan-stored-exactly-whe
 use Rattle.lamps.proofs.Second.{lamps-of-step}
 use Rattle.lamps.proofs.Cycle.{cycle-long}
 use Rattle.controller.specs.declared.Event.TheVariants as event
-use Rattle.controller.specs.declared.Reply.{Reply}
-use Rattle.controller.specs.declared.Reply.TheVariants as reply
+use Rattle.controller.specs.Reply.{ReplyInNumbers}
+use Rattle.controller.specs.Reply as reply
 use Rattle.controller.specs.declared.Link.{Link}
 use Rattle.controller.specs.declared.Link.TheVariants as link
 use Rattle.controller.specs.declared.Out.{Out}
@@ -544,7 +544,7 @@ module _ (s : State) (seq addr : ℕ) (book info : List ℕ) (w : Call) where
   unfolding reply_info
   carried-out v = record { answers = answers v; book = v.book; requested = v.requested }
 
-  reported : {r : Reply} → By (handling.reads (handling.accepted s.requested r) book) → Reported s seq addr book (reply_info s book r) w
+  reported : {r : ReplyInNumbers} → By (handling.reads (handling.accepted s.requested r) book) → Reported s seq addr book (reply_info s book r) w
   reported v = record { answers = answers v; book = v.book; requested = v.requested }
 
   refused_as : {n m : ℕ} {l : List ℕ} → By (declined s book info n m l) → l ≡ book → Refused s seq addr n m book info w

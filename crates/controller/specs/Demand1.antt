@@ -3,6 +3,7 @@
 -- message alters no plan."
 use Rattle.std.specs.Prelude.{ℕ, ◌≤◌, ◌<◌, ◌≡◌, true, false, ◌⊎◌, List, ◌++◌, length, take, drop}
 use Rattle.octets.specs.Octet.{Octets}
+use Rattle.octets.specs.Refusals.{told_number}
 use Rattle.frame.specs.declared.Kind.TheVariants.{Message}
 use Rattle.frame.specs.declared.decoder.Place.TheVariants.{Idle}
 use Rattle.frame.specs.Decoder.{possible_of}
@@ -18,6 +19,8 @@ use Rattle.controller.specs.declared.HeldShown.{HeldShown}
 use Rattle.controller.specs.declared.Event.TheVariants as event
 use Rattle.controller.specs.declared.Link.TheVariants as link
 use Rattle.controller.specs.declared.Out.{Out}
+use Rattle.controller.specs.declared.Told as code
+use Rattle.controller.specs.Told.{told_of}
 use Rattle.controller.specs.State.{State, joined, kept_len, all, output_len, fresh_of, sound_of}
 use Rattle.controller.specs.Sender.{out_start, wait_least, wait_most, sends_most}
 use Rattle.controller.specs.Offers.{Offer, OfferLeaves, offer_of}
@@ -280,13 +283,22 @@ pub record ByParts : Type 0 where
     sender = record { out = s.out; info = take 256 (drop 512 kept) };
     running = s.running;
   }
-  pub answer : (r : HeldAnswer) (kept : List ℕ) → answer_with r kept ≡ record { state = joined r.state kept; told = r.told }
+  -- what is told, in 01's numbers
+  pub told : (t : code.Told) → told_of t ≡ record {
+    refusal = told_number t.refusal;
+    parameter = t.parameter;
+    event = t.event;
+    count = t.count;
+    dropped = t.dropped;
+    link = t.link;
+  }
+  pub answer : (r : HeldAnswer) (kept : List ℕ) → answer_with r kept ≡ record { state = joined r.state kept; told = told_of r.told }
   -- what the contract of a start says: whatever octets are kept, it answers what is due, and these stay
   pub start : (w : List ℕ → Answer) (r : HeldAnswer) → StartsWith w r → (kept : List ℕ)
-      → (joined r.state kept ≡ (w kept).state) × (r.told ≡ (w kept).told)
+      → (joined r.state kept ≡ (w kept).state) × (told_of r.told ≡ (w kept).told)
   -- and that of a second
   pub second : (r : HeldShown) (kept out : List ℕ) (w : Shown) → shown_with r kept out ≡ w
-      → (joined r.state kept ≡ w.state) × (r.told ≡ w.told) × (r.plan ≡ w.plan) × (r.row ≡ w.row) × (out ≡ w.out)
+      → (joined r.state kept ≡ w.state) × (told_of r.told ≡ w.told) × (r.plan ≡ w.plan) × (r.row ≡ w.row) × (out ≡ w.out)
 
 abbrev pub JoinedSo : Type 0
 JoinedSo = ByParts
@@ -303,7 +315,7 @@ pub record AnswersSo (a : Answer) (lent : List ℕ) (r : HeldAnswer) (k : List �
   pub last : r.state.last ≡ a.state.memory.last
   pub out : r.state.out ≡ a.state.sender.out
   pub running : r.state.running ≡ a.state.running
-  pub told : r.told ≡ a.told
+  pub told : told_of r.told ≡ a.told
   pub info : k ≡ a.state.decoder.info ++ (a.state.memory.info ++ (a.state.sender.info ++ drop 768 lent))
 
 abbrev pub CallsLeaveSo : Type 0

@@ -14,9 +14,9 @@ use Rattle.record.specs.Record.{empty}
 use Rattle.checks.specs.Standing.{standing_of}
 use Rattle.plan.specs.Setting.{Setting, set_times_code, set_plan_code, set_times_of, set_plan_of, plan_in}
 use Rattle.plan.specs.Reporting.{report_plan_code, report_running_code, times_info, plan_info}
-use Rattle.controller.specs.declared.Reply.{Reply}
-use Rattle.controller.specs.declared.Reply.TheVariants as reply
-use Rattle.controller.specs.declared.Handled.{Handled}
+use Rattle.controller.specs.Reply.{ReplyInNumbers}
+use Rattle.controller.specs.Reply as reply
+use Rattle.controller.specs.Reply.{HandledInNumbers}
 use Rattle.controller.specs.State.{State, plan_record, ready_in}
 
 abbrev pub carried_out_code : ℕ
@@ -42,7 +42,7 @@ abbrev pub answer_info : ℕ → ℕ → List ℕ → List ℕ
 answer_info answer code numbers = high_of answer ∷ low_of answer ∷ high_of code ∷ low_of code ∷ numbers
 
 -- The INFO octets that each reply stands for. A report is of its plan's record in the book as it came, and 5F C8 of the copy that runs.
-unfoldable pub reply_info : State → List ℕ → Reply → List ℕ
+unfoldable pub reply_info : State → List ℕ → ReplyInNumbers → List ℕ
 reply_info s book (reply.CarriedOut code) = answer_info carried_out_code code []
 reply_info s book (reply.Refused code n parameter) = answer_info refused_code code (n ∷ parameter ∷ [])
 reply_info s book (reply.Times p) = times_info (plan_record s.running.which book p) p
@@ -52,54 +52,54 @@ reply_info s book reply.Running = plan_info s.running.copy s.running.plan report
 -- What a message brings: the refusal and its parameter, the plan then requested, which reply, and the book
 
 pub record Handling : Type 0 where
-  pub handled : Handled
+  pub handled : HandledInNumbers
   pub book : List ℕ
 
-abbrev pub accepted : ℕ → Reply → Handled
+abbrev pub accepted : ℕ → ReplyInNumbers → HandledInNumbers
 accepted requested reply = record { refusal = refusal.none; parameter = 0; requested = requested; reply = reply }
 
-abbrev pub refused_with : ℕ → ℕ → ℕ → ℕ → Handled
+abbrev pub refused_with : ℕ → ℕ → ℕ → ℕ → HandledInNumbers
 refused_with code requested n parameter = record { refusal = n; parameter = parameter; requested = requested; reply = reply.Refused code n parameter }
 
 -- 5F 14 and 5F 15: what the set answered
-unfoldable pub set_as : ℕ → ℕ → Answered → Handled
+unfoldable pub set_as : ℕ → ℕ → Answered → HandledInNumbers
 set_as code requested a =
     pick (eqb a.refusal refusal.none) (accepted requested (reply.CarriedOut code))
     (refused_with code requested a.refusal a.field)
 
 -- what the message reader refuses is refused so; else h
-abbrev pub unless_unread : ℕ → ℕ → List ℕ → Handled → Handled
+abbrev pub unless_unread : ℕ → ℕ → List ℕ → HandledInNumbers → HandledInNumbers
 unless_unread code requested info h =
     pick (eqb (read_of info).refusal refusal.none) h
     (refused_with code requested (read_of info).refusal (read_of info).field)
 
 -- "5F 18 notes the requested plan. Refused 13: .. 5F 18 of one not ready."
-unfoldable pub run_as : Which → ℕ → ℕ → List ℕ → ℕ → Handled
+unfoldable pub run_as : Which → ℕ → ℕ → List ℕ → ℕ → HandledInNumbers
 run_as which code requested book p =
     pick (ready_in which book p) (accepted p (reply.CarriedOut code))
     (refused_with code requested refusal.not_ready plan_at)
 
 -- "Refused 13: 5F 44 of an empty plan"
-unfoldable pub query_times_as : Which → ℕ → ℕ → List ℕ → ℕ → Handled
+unfoldable pub query_times_as : Which → ℕ → ℕ → List ℕ → ℕ → HandledInNumbers
 query_times_as which code requested book p =
     pick (eqb (standing_of (plan_record which book p)) empty) (refused_with code requested refusal.not_ready plan_at)
     (accepted requested (reply.Times p))
 
 -- "5F 45 .. of one not ready"
-unfoldable pub query_plan_as : Which → ℕ → ℕ → List ℕ → ℕ → Handled
+unfoldable pub query_plan_as : Which → ℕ → ℕ → List ℕ → ℕ → HandledInNumbers
 query_plan_as which code requested book p =
     pick (ready_in which book p) (accepted requested (reply.Plan p))
     (refused_with code requested refusal.not_ready plan_at)
 
 -- "5F 48 query running plan": the copy that runs
-abbrev pub query_running_as : ℕ → Handled
+abbrev pub query_running_as : ℕ → HandledInNumbers
 query_running_as requested = accepted requested reply.Running
 
 -- a message that leaves the book, one of these that is read first, and a set
-abbrev pub reads : Handled → List ℕ → Handling
+abbrev pub reads : HandledInNumbers → List ℕ → Handling
 reads h book = record { handled = h; book = book }
 
-abbrev pub asks : ℕ → ℕ → List ℕ → List ℕ → Handled → Handling
+abbrev pub asks : ℕ → ℕ → List ℕ → List ℕ → HandledInNumbers → Handling
 asks code requested book info h = reads (unless_unread code requested info h) book
 
 abbrev pub set_handled : ℕ → ℕ → Setting → Handling

@@ -2,6 +2,8 @@ pub mod Memory
 pub mod Sender
 pub mod State
 pub mod Handling
+pub mod Told
+pub mod Reply
 pub mod Replies
 pub mod Offers
 pub mod Seconds

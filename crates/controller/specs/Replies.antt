@@ -4,6 +4,7 @@ use Rattle.std.proofs.lemmas.List.Edits.{sets}
 use Rattle.octets.specs.Choice.{pick, both}
 use Rattle.octets.specs.Part.{code_len}
 use Rattle.octets.specs.Refusal as refusal
+use Rattle.octets.specs.Refusals.{refusal_number}
 use Rattle.frame.specs.declared.Kind.{Kind}
 use Rattle.frame.specs.declared.Kind.TheVariants.{Message, Ack, Nak}
 use Rattle.frame.specs.declared.decoder.Found.{Found}
@@ -15,9 +16,9 @@ use Rattle.message.specs.Reader.{code_in}
 use Rattle.record.specs.Record.{book_len}
 use Rattle.controller.specs.declared.Event.{Event}
 use Rattle.controller.specs.declared.Event.TheVariants as event
-use Rattle.controller.specs.declared.Told.{Told}
+use Rattle.controller.specs.Told.{ToldInNumbers, told_of}
 use Rattle.controller.specs.declared.HeldAnswer.{HeldAnswer}
-use Rattle.controller.specs.declared.Handled.{Handled}
+use Rattle.controller.specs.Reply.{HandledInNumbers}
 use Rattle.controller.specs.declared.Link.{Link}
 use Rattle.controller.specs.declared.Link.TheVariants as link
 use Rattle.controller.specs.declared.Turn.{Turn}
@@ -31,7 +32,7 @@ use Rattle.controller.specs.Handling.{Handling, carried_out_code, refused_code, 
 -- what a call answers: the state, and what it tells
 pub record Answer : Type 0 where
   pub state : State
-  pub told : Told
+  pub told : ToldInNumbers
 
 -- what a call leaves: its answer, the book and the output
 pub record Call : Type 0 where
@@ -41,7 +42,7 @@ pub record Call : Type 0 where
 
 -- the answer of the code, with the octets that are then kept
 abbrev pub answer_with : HeldAnswer → List ℕ → Answer
-answer_with r kept = record { state = joined r.state kept; told = r.told }
+answer_with r kept = record { state = joined r.state kept; told = told_of r.told }
 
 -- the call answered r and left k of the octets lent, b in the book and o in the output, as it should; of more octets than are
 -- wanted those beyond stay
@@ -101,7 +102,7 @@ replies_of seq ours own info = ack seq own ∷ message ours own info ∷ []
 -- what the decoder can find: a frame is refused 1 to 3, and a message frame has INFO of 2 to 256 octets
 abbrev pub CanFind : Found → Type 0
 CanFind found.Nothing = Unit
-CanFind (found.Refused n k seq addr) = n ≤ refusal.len_wrong
+CanFind (found.Refused r k seq addr) = refusal_number r ≤ refusal.len_wrong
 CanFind (found.Message seq addr n) = (code_len ≤ n) × (n ≤ info_most)
 CanFind (found.Ack seq addr) = Unit
 CanFind (found.Nak seq addr err) = Unit
@@ -132,7 +133,7 @@ leaves book w = record { result = w; book = book }
 
 -- "Our SEQ .. grows by one per message frame written, and after 255 comes 0."; 02, E6: "The octet call hands its reply to this sender, which writes it
 -- in that call"
-unfoldable pub replied_of : State → List ℕ → ℕ → ℕ → Handled → Result
+unfoldable pub replied_of : State → List ℕ → ℕ → ℕ → HandledInNumbers → Result
 replied_of s book seq addr h =
     record {
       refusal = h.refusal;

@@ -11,7 +11,7 @@ use Rattle.lamps.specs.Rows.{row_at, no_row}
 use Rattle.controller.specs.declared.Running.{Running}
 use Rattle.controller.specs.declared.Event.TheVariants as event
 use Rattle.controller.specs.declared.Link.TheVariants as link
-use Rattle.controller.specs.declared.Told.{Told}
+use Rattle.controller.specs.Told.{ToldInNumbers, told_of}
 use Rattle.controller.specs.declared.HeldAnswer.{HeldAnswer}
 use Rattle.controller.specs.declared.HeldShown.{HeldShown}
 use Rattle.controller.specs.Replies.{Answer, answer_with, sent, resent}
@@ -22,7 +22,7 @@ use Rattle.controller.specs.State.{State, joined, output_len, all, fresh_of, sou
 -- outside 1 to 60), at the start only, after 6; the state holds that T and is unsound"
 
 -- a call that tells its refusal alone
-abbrev pub tells : ℕ → Told
+abbrev pub tells : ℕ → ToldInNumbers
 tells n = record { refusal = n; parameter = 0; event = event.Nothing; count = 0; dropped = 0; link = link.Still }
 
 unfoldable pub started_of : Which → ℕ → ℕ → List ℕ → Answer
@@ -48,7 +48,7 @@ StartsWith w r = (kept : List ℕ) → answer_with r kept ≡ w kept
 -- what it answers: the state, what it tells, the plan and its row; and the output that it leaves
 pub record Shown : Type 0 where
   pub state : State
-  pub told : Told
+  pub told : ToldInNumbers
   pub plan : ℕ
   pub row : Row
   pub out : List ℕ
@@ -93,4 +93,4 @@ second_of s book out =
 
 -- the answer of the code, with the octets that are kept, which stay, and the output that is left
 abbrev pub shown_with : HeldShown → List ℕ → List ℕ → Shown
-shown_with r kept out = record { state = joined r.state kept; told = r.told; plan = r.plan; row = r.row; out = out }
+shown_with r kept out = record { state = joined r.state kept; told = told_of r.told; plan = r.plan; row = r.row; out = out }

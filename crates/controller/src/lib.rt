@@ -7,6 +7,7 @@
 use frame::INFO_MOST;
 use frame::decoder::Receiver;
 use lamps::Row;
+use octets::refusal::Refusal;
 use plan::Which;
 use record::RECORD_LEN;
 
@@ -106,7 +107,7 @@ pub enum Event {
 // the decoder tells them; a start, a second and an offer tell 0. E6: how the link stands.
 #[derive(Clone, Copy)]
 pub struct Told {
-    pub refusal: u8,
+    pub refusal: Option<Refusal>,
     pub parameter: u8,
     pub event: Event,
     pub count: usize,
@@ -137,7 +138,7 @@ pub enum Reply {
     // 0F 80, of a message with this code
     CarriedOut(u16),
     // 0F 81: the code, the error number and the parameter number
-    Refused(u16, u8, u8),
+    Refused(u16, Refusal, u8),
     // 5F C4 and 5F C5 of a plan
     Times(u8),
     Plan(u8),
@@ -148,7 +149,7 @@ pub enum Reply {
 // What a message brought: the refusal and its parameter, the plan then requested, and which reply.
 #[derive(Clone, Copy)]
 pub struct Handled {
-    pub refusal: u8,
+    pub refusal: Option<Refusal>,
     pub parameter: u8,
     pub requested: u8,
     pub reply: Reply,

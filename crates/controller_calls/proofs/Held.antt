@@ -3,6 +3,8 @@ use Rattle.std.proofs.Common.{◌≡◌, ℕ, ◌+◌, ◌<◌, ◌≤◌, Bool,
 use native.Mathlib.Decide.{dec_lt}
 use borrow.Author.Tests.{lt-leb}
 use lib.Seq.{take-set-lt}
+use Rattle.octets.specs.declared.refusal.Refusal.{Refusal}
+use Rattle.octets.specs.Refusals.{refusal_number}
 use Rattle.octets.specs.Choice.{both}
 use Rattle.frame.specs.Frame.{info_most}
 use Rattle.frame.specs.declared.decoder.Head.{Head}
@@ -69,8 +71,8 @@ module _ (s : Held) (kept : List ℕ) where
 -- What the code does, it did
 
 module _ (s : Held) (lent book out : List ℕ) where
-  pub leaves_quiet : (n : ℕ) {r : HeldAnswer} → r ≡ held_quiet s n → CallLeaves (refused_call (joined s lent) n book out) lent r lent book out
-  leaves_quiet n e = rw e (record { answer = refl; beyond = refl; book = refl; out = refl })
+  pub leaves_quiet : (why : Refusal) {r : HeldAnswer} → r ≡ held_quiet s why → CallLeaves (refused_call (joined s lent) (refusal_number why) book out) lent r lent book out
+  leaves_quiet why e = rw e (record { answer = refl; beyond = refl; book = refl; out = refl })
 
   -- an octet that is dropped is counted, and else leaves everything as it is
   pub leaves-dropped : (b : ℕ) → idle_drops s.receiver.head.place b ≡ true → {r : HeldAnswer} → r ≡ held_received s (one_dropped s.receiver)
@@ -120,9 +122,9 @@ module _ (s : Held) (lent : List ℕ) where
           out = refl;
         })
 
-  pub idle-answered : {t : Received} → sound_of (joined s lent) ≡ true → received_with t lent ≡ idle_lent d n
+  pub idle-answered : (t : Received) → sound_of (joined s lent) ≡ true → received_with t lent ≡ idle_lent d n
       → answer_with (held_counted (with_receiver s t.receiver) t.dropped) lent ≡ line_idle_of (joined s lent)
-  idle-answered h e =
+  idle-answered t h e =
       let f = e ∙ (octets-lent.0 h₀ lent).idle_enough n (omega (arith, lent-enough s lent h)) ∙ counted-idles (joined s lent) in
       ap (idled_as (joined s lent)) f ∙ sym (idle-done (joined s lent) h)
 

@@ -26,14 +26,15 @@ use Rattle.checks.proofs.Stands.{some-long, some-state}
 use Rattle.plan.proofs.Reportable.{standing-none, standing-past}
 use Rattle.plan.proofs.Cases.{built-in-stands}
 use Rattle.controller.specs.declared.Running.{Running}
-use Rattle.controller.specs.declared.Handled.{Handled}
+use Rattle.controller.specs.declared.Handled as code_handled
 use Rattle.controller.specs.declared.Reply.TheVariants as reply
+use Rattle.controller.specs.Reply.{HandledInNumbers, handled_as}
 use Rattle.controller.specs.State.{State, running_sound, record_with, plan_record, started_at}
-use Rattle.controller.specs.Handling.{run_code, query_times_code, query_plan_code, query_running_code, accepted, refused_with, set_as, run_as, query_times_as, query_plan_as, query_running_as, handling_of}
+use Rattle.controller.specs.Handling.{run_code, query_times_code, query_plan_code, query_running_code, refused_with, set_as, run_as, query_times_as, query_plan_as, query_running_as, handling_of}
 use Rattle.controller.specs.Seconds.{picked_of}
 use Rattle.controller.proofs.Laws.{both_false, picked-ready, picked-stays}
 use Rattle.controller.proofs.Replying.{plan-in-book}
-use Rattle.controller_calls.specs.Handling.{HandlingLeaves, handled_as, Asks}
+use Rattle.controller_calls.specs.Handling.{HandlingLeaves, handled_by, done_for, Asks}
 use Rattle.controller_calls.specs.Stepper.{RecordOf}
 
 -- The record of a plan
@@ -150,16 +151,16 @@ asks-running {code} {second} a f g h = by a.one
 
 -- what a set answers
 module _ (code requested : ℕ) where
-  pub set-done : (d : ⊤) {h : Handled} → h ≡ accepted requested (reply.CarriedOut code) → handled_as code requested (Ok h) ≡ set_as code requested (set_answer (Ok d))
+  pub set-done : (d : ⊤) {h : code_handled.Handled} → h ≡ done_for requested (reply.CarriedOut code) → handled_by code requested (Ok h) ≡ set_as code requested (set_answer (Ok d))
   unfolding set_as
-  set-done d e = e
+  set-done d e = ap handled_as e
 
-  pub set-refused : (e : Fault) → handled_as code requested (Err e) ≡ set_as code requested (set_answer (Err e))
+  pub set-refused : (e : Fault) → handled_by code requested (Err e) ≡ set_as code requested (set_answer (Err e))
   unfolding set_as
   set-refused e = rw (ne_eqb (refusal_number e.refusal) refusal.none (refused-some e.refusal))
 
 -- by the code
-module _ (s : State) (book info : List ℕ) {code : ℕ} (ec : code ≡ code_in info) {h : Handled} where
+module _ (s : State) (book info : List ℕ) {code : ℕ} (ec : code ≡ code_in info) {h : HandledInNumbers} where
   pub handles-times : code_in info ≡ set_times_code → {a : Answered} {b : List ℕ} → setting.SetLeaves (set_times_of book info) a b → h ≡ set_as code s.requested a
       → HandlingLeaves (handling_of s book info) h b
   unfolding handling_of

@@ -21,10 +21,8 @@ use Rattle.controller.specs.Replies.{sent, acks, for_us, met_with_silence, messa
 use Rattle.controller.proofs.Laws.{message-other, message-repeat, message-silent, message-new, memory-other, memory-repeat, memory-silent, memory-new}
 use Rattle.controller.proofs.Judging.{last-parts}
 use Rattle.controller.proofs.Remembering.{repeat-is}
-use Rattle.controller_calls.specs.declared.replies.Brought.{Brought}
-use Rattle.controller_calls.specs.declared.replies.ResultCounted.{ResultCounted}
 use Rattle.controller_calls.specs.Memory.{Remembered}
-use Rattle.controller_calls.specs.Replies.{unchanged_as, brought_still, AcceptedWith, SilenceWith, BroughtLeft}
+use Rattle.controller_calls.specs.Replies.{ResultInNumbers, BroughtInNumbers, unchanged_as, brought_still, AcceptedWith, SilenceWith, BroughtLeft}
 use Rattle.controller_calls.proofs.Written.{sent-none, memory-came, out-came, brought-unchanged}
 
 -- A repeat, way by way
@@ -112,10 +110,10 @@ module _ (n : ℕ) (kept : List ℕ) where
 -- A message frame, way by way; before the decoder's own call the octets were `came`
 
 module _ (s : Held) (lent came book out : List ℕ) (seq addr n : ℕ) (e : drop info_most came ≡ drop info_most lent) where
-  abbrev Brings : Brought → List ℕ → List ℕ → List ℕ → Type 0
+  abbrev Brings : BroughtInNumbers → List ℕ → List ℕ → List ℕ → Type 0
   Brings q k b o = BroughtLeft (message_of (joined s came) seq addr (take n lent) book) (memory_of (joined s came) seq addr (take n lent)) lent out q k b o
 
-  pub taken-other : {q : Brought} {r : ResultCounted} → for_us s.own addr ≡ false → r ≡ unchanged_as s refusal.none event.Nothing 0 → q ≡ brought_still s r → Brings q lent book out
+  pub taken-other : {q : BroughtInNumbers} {r : ResultInNumbers} → for_us s.own addr ≡ false → r ≡ unchanged_as s refusal.none event.Nothing 0 → q ≡ brought_still s r → Brings q lent book out
   taken-other f h g =
       rw (message-other (joined s came) seq addr (take n lent) book f, memory-other (joined s came) seq addr (take n lent) book f)
       (brought-unchanged s came lent e refusal.none event.Nothing [] book sent-none h g)
@@ -124,7 +122,7 @@ module _ (s : Held) (lent came book out : List ℕ) (seq addr n : ℕ) (e : drop
     repeat-came : {u : Bool} → t ≡ u → is_repeat (joined s came).memory seq (take n lent) ≡ u
     repeat-came h = ap (λ (m : Memory). is_repeat m seq (take n lent)) (memory-came s came lent e) ∙ sym et ∙ h
 
-    pub taken-repeat : t ≡ true → {q : Brought} {r : ResultCounted} {count : ℕ} {o : List ℕ} → Stored (sent (acks s.own seq addr)) 0 out count o
+    pub taken-repeat : t ≡ true → {q : BroughtInNumbers} {r : ResultInNumbers} {count : ℕ} {o : List ℕ} → Stored (sent (acks s.own seq addr)) 0 out count o
         → r ≡ unchanged_as s refusal.none event.Nothing count → q ≡ brought_still s r → Brings q lent book o
     taken-repeat h p u g =
         let r = repeat-came h in
@@ -135,12 +133,12 @@ module _ (s : Held) (lent came book out : List ℕ) (seq addr n : ℕ) (e : drop
       silence-came : {u : Bool} → v ≡ u → met_with_silence (joined s came) addr (take n lent) ≡ u
       silence-came g = sym (ev came) ∙ g
 
-      pub taken-silent : v ≡ true → {q : Brought} {r : ResultCounted} → r ≡ unchanged_as s refusal.none event.Nothing 0 → q ≡ brought_still s r → Brings q lent book out
+      pub taken-silent : v ≡ true → {q : BroughtInNumbers} {r : ResultInNumbers} → r ≡ unchanged_as s refusal.none event.Nothing 0 → q ≡ brought_still s r → Brings q lent book out
       taken-silent z u g =
           rw (message-silent (joined s came) seq addr (take n lent) book f (repeat-came h) (silence-came z), memory-silent (joined s came) seq addr (take n lent) book f (repeat-came h) (silence-came z))
           (brought-unchanged s came lent e refusal.none event.Nothing [] book sent-none u g)
 
-      pub taken-new : v ≡ false → kept_len ≤ length lent → n ≤ info_most → {l : Last} {k : List ℕ} → Remembered seq n lent l k → {r : ResultCounted} {k' b o : List ℕ}
+      pub taken-new : v ≡ false → kept_len ≤ length lent → n ≤ info_most → {l : Last} {k : List ℕ} → Remembered seq n lent l k → {r : ResultInNumbers} {k' b o : List ℕ}
           → AcceptedWith s seq addr (take n k) k book out r k' b o → Brings (record { result = r; last = l }) k' b o
       taken-new z long most {l} m w =
           let g = rw (info-kept long most m) at (w came (out-came s came lent e ∙ sym (out_stays long most m))) in

@@ -1,9 +1,13 @@
 -- The frame out, as the code sends it and sends it again.
+use Rattle.std.specs.Prelude.{None}
 use Rattle.std.proofs.Common.{◌≡◌, ℕ, ◌+◌, ◌-◌, ◌%◌, ◌<◌, ◌≤◌, Bool, true, false, List, [], length, take, drop, sym, refl, ap, ◌∙◌, ⊎_elim, append-nil, arith, take-take, eq-eqb, ne_eqb, le-leb}
 use native.Mathlib.Decide.{dec_lt}
 use borrow.Author.Tests.{lt-leb}
 use Rattle.octets.specs.Put.{Put, Stored}
 use Rattle.octets.specs.Refusal as refusal
+use Rattle.octets.specs.declared.refusal.Refusal.{Refusal}
+use Rattle.octets.specs.declared.refusal.Refusal.TheVariants.{SenderBusy}
+use Rattle.octets.specs.Refusals.{refusal_number}
 use Rattle.octets.specs.Writing.{Written}
 use Rattle.octets.specs.Writing.{WriterLeaves, written_as}
 use Rattle.octets.proofs.Laws.{put-stored}
@@ -32,9 +36,8 @@ use Rattle.controller.proofs.Laws.{again_by, ack-by, nak-by, second-by, second-d
 use Rattle.controller.proofs.Sending.{answers-out}
 use Rattle.controller.proofs.Laws as laws
 use Rattle.controller.proofs.Replying.{message-most}
-use Rattle.controller_calls.specs.declared.replies.ResultCounted.{ResultCounted}
 use Rattle.controller_calls.specs.Held.{held_quiet}
-use Rattle.controller_calls.specs.Replies.{unchanged_as, AnsweredWith}
+use Rattle.controller_calls.specs.Replies.{ResultInNumbers, unchanged_as, AnsweredWith}
 use Rattle.controller_calls.specs.Sender.{InfoPut, Sendable}
 use Rattle.controller_calls.proofs.Held.{lent-enough}
 use Rattle.controller_calls.proofs.Putting.{sent_once, out-part, out-part-long, put-kept}
@@ -94,7 +97,7 @@ resent-came s came lent d link.Down = refl
 -- An ACK or a NAK
 
 module _ (s : Held) (addr : ℕ) (v : Event) (t : Turn) (lent out : List ℕ) where
-  abbrev turned_as : ℕ → ResultCounted
+  abbrev turned_as : ℕ → ResultInNumbers
   turned_as count = record { refusal = refusal.none; parameter = 0; event = v; count = count; seq = s.seq; requested = s.requested; out = t.out; link = t.link }
 
   pub answered-ours : addr ≡ s.own → {count : ℕ} {o : List ℕ} → Stored (sent (resent (joined s lent) t.link)) 0 out count o → AnsweredWith s addr v t lent out (turned_as count) o
@@ -102,7 +105,7 @@ module _ (s : Held) (addr : ℕ) (v : Event) (t : Turn) (lent out : List ℕ) wh
       let q = rw (resent-came s came lent d t.link) at p in
       rw (laws.answered-ours (joined s came) addr v t book (eq-eqb addr s.own e)) (record { told = stored-count q turned_as; out = q.holds })
 
-  pub answered-other : (addr ≡ s.own → ⊥) → {r : ResultCounted} → r ≡ unchanged_as s refusal.none event.Nothing 0 → AnsweredWith s addr v t lent out r out
+  pub answered-other : (addr ≡ s.own → ⊥) → {r : ResultInNumbers} → r ≡ unchanged_as s refusal.none event.Nothing 0 → AnsweredWith s addr v t lent out r out
   answered-other n u came book d =
       rw (laws.answered-other (joined s came) addr v t book (ne_eqb addr s.own n)) (stored-tells s refusal.none event.Nothing [] sent-none u came)
 
@@ -115,7 +118,7 @@ module _ (s : Held) (kept book out : List ℕ) where
       → shown_with
       (record {
         state = record { own = s.own; seq = s.seq; requested = s.requested; wait = s.wait; last = s.last; out = t.out; receiver = s.receiver; running = u };
-        told = record { refusal = refusal.none; parameter = 0; event = event.Nothing; count = count; dropped = 0; link = t.link };
+        told = record { refusal = None; parameter = 0; event = event.Nothing; count = count; dropped = 0; link = t.link };
         plan = s.running.plan;
         row = row;
       })
@@ -135,8 +138,8 @@ module _ (s : Held) (lent info out : List ℕ) where
   abbrev Leaves : HeldAnswer → List ℕ → List ℕ → Type 0
   Leaves r k o = OfferLeaves (offer_of (joined s lent) info out) lent r k o
 
-  pub offer-quiet : (n : ℕ) → offer_of (joined s lent) info out ≡ refused_offer (joined s lent) n out → {r : HeldAnswer} → r ≡ held_quiet s n → Leaves r lent out
-  offer-quiet n h e = rw (h, e) (record { answer = refl; beyond = refl; out = refl })
+  pub offer-quiet : (why : Refusal) → offer_of (joined s lent) info out ≡ refused_offer (joined s lent) (refusal_number why) out → {r : HeldAnswer} → r ≡ held_quiet s why → Leaves r lent out
+  offer-quiet why h e = rw (h, e) (record { answer = refl; beyond = refl; out = refl })
 
   module _ (h : sound_of (joined s lent) ≡ true) {n : ℕ} (w : RefusesMessage info 0 out n) where
     -- the frame fits where nothing is refused of it, and only there
@@ -152,8 +155,8 @@ module _ (s : Held) (lent info out : List ℕ) where
     unfolding write_frame written_as
     too_long i l = w s.seq s.own ∙ rw (i, lt-leb (0 + length (written f)) (length out) (omega arith))
 
-    pub offer-refused : (n ≡ refusal.none → ⊥) → {r : HeldAnswer} → r ≡ held_quiet s n → Leaves r lent out
-    offer-refused g e = offer-quiet n (by (info_fits f) refl) e
+    pub offer-refused : {why : Refusal} → n ≡ refusal_number why → (n ≡ refusal.none → ⊥) → {r : HeldAnswer} → r ≡ held_quiet s why → Leaves r lent out
+    offer-refused {why} en g e = offer-quiet why (by (info_fits f) refl ∙ ap (λ (k : ℕ). refused_offer (joined s lent) k out) en) e
       where
         by : (t : Bool) → info_fits f ≡ t → offer_of (joined s lent) info out ≡ refused_offer (joined s lent) n out
         by false i = rw (unfit i) (offer-4 (joined s lent) info out h i)
@@ -177,14 +180,14 @@ module _ (s : Held) (lent info out : List ℕ) where
       pub offer-none : {r : Written} {o : List ℕ} → WriterLeaves (write_frame f 0 out) r o → r.refusal ≡ refusal.none
       offer-none w = message-none s.seq s.own info out fits.0 fits.1 w
 
-      pub offer-busy : (s.out.len ≡ 0 → ⊥) → {r : HeldAnswer} → r ≡ held_quiet s refusal.sender_busy → Leaves r lent out
-      offer-busy g e = offer-quiet refusal.sender_busy (offer-15 (joined s lent) info out h fits.0 fits.1 g) e
+      pub offer-busy : (s.out.len ≡ 0 → ⊥) → {r : HeldAnswer} → r ≡ held_quiet s SenderBusy → Leaves r lent out
+      offer-busy g e = offer-quiet SenderBusy (offer-15 (joined s lent) info out h fits.0 fits.1 g) e
 
       abbrev offered_as : ℕ → ℕ → HeldAnswer
       offered_as q count =
           record {
             state = record { own = s.own; seq = q; requested = s.requested; wait = s.wait; last = s.last; out = sent_once (length info); receiver = s.receiver; running = s.running };
-            told = record { refusal = refusal.none; parameter = 0; event = event.Nothing; count = count; dropped = 0; link = link.Still };
+            told = record { refusal = None; parameter = 0; event = event.Nothing; count = count; dropped = 0; link = link.Still };
           }
 
       pub offer-sent : s.out.len ≡ 0 → {p : ℕ} {k : List ℕ} → Put info out_start lent p k → {r : Written} {o : List ℕ} → WriterLeaves (write_frame f 0 out) r o

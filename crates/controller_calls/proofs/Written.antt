@@ -5,6 +5,7 @@ use lib.Seq.{sets, length-sets}
 use Rattle.octets.specs.Put.{Stored}
 use Rattle.octets.specs.Refusal as refusal
 use Rattle.octets.specs.declared.refusal.Refusal.{Refusal}
+use Rattle.octets.specs.Refusals.{told_number}
 use Rattle.octets.specs.Writing.{Written, written_of, Writing, WriterLeaves, written_as}
 use Rattle.octets.proofs.Laws.{pick-by, stored-then}
 use Rattle.frame.specs.declared.Kind.{Kind}
@@ -23,11 +24,10 @@ use Rattle.plan_calls.proofs.Read.{refused-some}
 use Rattle.plan.proofs.Reports.{times-most, plan-most}
 use Rattle.controller.specs.declared.Event.{Event}
 use Rattle.controller.specs.declared.Event.TheVariants as event
-use Rattle.controller.specs.declared.Handled.{Handled}
 use Rattle.controller.specs.declared.Held.{Held}
 use Rattle.controller.specs.declared.HeldAnswer.{HeldAnswer}
-use Rattle.controller.specs.declared.Reply.{Reply}
-use Rattle.controller.specs.declared.Reply.TheVariants as reply
+use Rattle.controller.specs.Reply.{HandledInNumbers, ReplyInNumbers}
+use Rattle.controller.specs.Reply as reply
 use Rattle.controller.specs.declared.Link.TheVariants as link
 use Rattle.controller.specs.declared.Out.{Out}
 use Rattle.controller.specs.declared.Turn.{Turn}
@@ -37,10 +37,9 @@ use Rattle.controller.specs.State.{State, joined, kept_len, output_len, plan_rec
 use Rattle.controller.specs.Handling.{Handling, reply_info, handling_of}
 use Rattle.controller.specs.Replies.{Answer, CallLeaves, CanFind, sent, naks, acks, err_of, replies_of, ResultAndBook, leaves, unchanged, replied_of, handled_of, answered_of, done_of}
 use Rattle.controller.proofs.Replying.{by-reply, by_left, reply-as-came, ack-fits, nak-fits, sent-most}
-use Rattle.controller_calls.specs.declared.replies.Brought.{Brought}
-use Rattle.controller_calls.specs.declared.replies.ResultCounted.{ResultCounted}
+use Rattle.controller_calls.specs.declared.replies.Brought as code_brought
 use Rattle.controller_calls.specs.Handling.{HandlingLeaves, Reportable}
-use Rattle.controller_calls.specs.Replies.{ResultWritten, unchanged_as, brought_still, ReplyPut, RepliedWith, AcceptedLeft, AnsweredWith, BroughtLeft, BroughtWith}
+use Rattle.controller_calls.specs.Replies.{ResultInNumbers, BroughtInNumbers, brought_as, ResultWritten, unchanged_as, brought_still, ReplyPut, RepliedWith, AcceptedLeft, AnsweredWith, BroughtLeft, BroughtWith}
 use Rattle.controller_calls.proofs.Putting.{sent_once, info-put, put-kept, kept-as-was}
 
 -- What the decoder finds
@@ -108,12 +107,12 @@ sent-none {out} = record { place = refl; holds = refl; long = refl; fits = omega
 pub stored-count : {A : Type 0} {vs out o : List ℕ} {count : ℕ} → Stored vs 0 out count o → (f : ℕ → A) → f count ≡ f (length vs)
 stored-count p f = ap f (p.place ∙ omega arith)
 
-module _ (s : Held) (n : ℕ) (e : Event) (fs : List Frame) {out o : List ℕ} {count : ℕ} {r : ResultCounted} where
+module _ (s : Held) (n : ℕ) (e : Event) (fs : List Frame) {out o : List ℕ} {count : ℕ} {r : ResultInNumbers} where
   pub stored-tells : Stored (sent fs) 0 out count o → r ≡ unchanged_as s n e count → (kept : List ℕ) → ResultWritten (unchanged (joined s kept) n e fs) out r o
   stored-tells p h kept = record { told = h ∙ stored-count p (λ k. unchanged_as s n e k); out = p.holds }
 
 -- what the call answers of it, t being what the decoder's own call answered
-abbrev held_by : Held → Received → Brought → HeldAnswer
+abbrev held_by : Held → Received → code_brought.Brought → HeldAnswer
 held_by s t w =
     let r = w.result in
     record {
@@ -121,7 +120,7 @@ held_by s t w =
       told = record { refusal = r.refusal; parameter = r.parameter; event = r.event; count = r.count; dropped = t.dropped; link = r.link };
     }
 
-abbrev answered_by : State → Counted → Memory → Sender → ResultCounted → Answer
+abbrev answered_by : State → Counted → Memory → Sender → ResultInNumbers → Answer
 answered_by s c m q r =
     record {
       state = record { own = s.own; seq = r.seq; requested = r.requested; wait = s.wait; decoder = c.taken.decoder; dropped = c.kept; memory = m; sender = q; running = s.running };
@@ -132,7 +131,7 @@ answered_by s c m q r =
 received-info : (t : Received) (k l : List ℕ) → take info_most k ≡ take info_most l → received_with t k ≡ received_with t l
 received-info t k l e i =
     record {
-      taken = record { refusal = t.refusal; decoder = record { head = t.receiver.head; info = e i }; found = t.found };
+      taken = record { refusal = told_number t.refusal; decoder = record { head = t.receiver.head; info = e i }; found = t.found };
       told = t.dropped;
       kept = t.receiver.dropped;
     }
@@ -142,8 +141,8 @@ pub beyond-more : (n : ℕ) (k l : List ℕ) → drop info_most k ≡ drop info_
 beyond-more n k l e = sym (drop-drop n info_most k) ∙ ap (λ (m : List ℕ). drop n m) e ∙ drop-drop n info_most l
 
 -- a call tells of the state what was brought; t is what the decoder took, k the octets that it left, and k' those that are left then
-pub done-did : (s : Held) (lent book out : List ℕ) {w : Counted} {t : Received} {k k' : List ℕ} {r : Brought} {b o : List ℕ}
-    → ReceivedLeaves w lent t k → BroughtWith (found_means t.found (take info_most k)) s k book out r k' b o
+pub done-did : (s : Held) (lent book out : List ℕ) {w : Counted} {t : Received} {k k' : List ℕ} {r : code_brought.Brought} {b o : List ℕ}
+    → ReceivedLeaves w lent t k → BroughtWith (found_means t.found (take info_most k)) s k book out (brought_as r) k' b o
     → CallLeaves (done_of (joined s lent) w book out) lent (held_by s t r) k' b o
 unfolding done_of
 done-did s lent book out {w} {t} {k} {k'} {r} h f =
@@ -168,7 +167,7 @@ module _ (s : Held) (came lent : List ℕ) (e : drop info_most came ≡ drop inf
   out-came = beyond-more info_most came lent e
 
   -- no message frame is accepted: an octet that leaves SEQ, request and what is out
-  pub brought-unchanged : (n : ℕ) (v : Event) (fs : List Frame) (book : List ℕ) {out o : List ℕ} {count : ℕ} {r : ResultCounted} {q : Brought} → Stored (sent fs) 0 out count o
+  pub brought-unchanged : (n : ℕ) (v : Event) (fs : List Frame) (book : List ℕ) {out o : List ℕ} {count : ℕ} {r : ResultInNumbers} {q : BroughtInNumbers} → Stored (sent fs) 0 out count o
       → r ≡ unchanged_as s n v count → q ≡ brought_still s r → BroughtLeft (leaves book (unchanged (joined s came) n v fs)) (joined s came).memory lent out q lent book o
   brought-unchanged n v fs book p u g =
       rw (g, u)
@@ -188,7 +187,7 @@ module _ (s : Held) (came lent : List ℕ) (e : drop info_most came ≡ drop inf
       let o : take info_most (drop out_start lent) ≡ take info_most (drop out_start came) = ap (λ (l : List ℕ). take info_most l) (sym out-came) in
       pick-by (λ (w : ResultAndBook). (take info_most (drop out_start lent) ≡ w.result.sender.info) × (book ≡ w.book)) (eqb addr s.own) (λ _. (o, refl)) (λ _. (o, refl))
 
-  pub brought-answered : (addr : ℕ) (v : Event) (t : Turn) (book : List ℕ) {out o : List ℕ} {r : ResultCounted} {q : Brought} → AnsweredWith s addr v t lent out r o
+  pub brought-answered : (addr : ℕ) (v : Event) (t : Turn) (book : List ℕ) {out o : List ℕ} {r : ResultInNumbers} {q : BroughtInNumbers} → AnsweredWith s addr v t lent out r o
       → q ≡ brought_still s r → BroughtLeft (answered_of (joined s came) addr v t book) (joined s came).memory lent out q lent book o
   brought-answered addr v t book w g =
       let h = w came book out-came in
@@ -232,7 +231,7 @@ module _ {kind : Kind} (own n seq addr : ℕ) (out : List ℕ) where
 -- The reply
 
 -- what is there to be reported fits a frame
-pub info-fits : (s : Held) (book : List ℕ) (r : Reply) (kept : List ℕ) → Reportable s book r
+pub info-fits : (s : Held) (book : List ℕ) (r : ReplyInNumbers) (kept : List ℕ) → Reportable s book r
     → (let i = reply_info (joined s kept) book r in (info_least ≤ length i) × (length i ≤ info_most))
 unfolding reply_info times_info plan_info
 info-fits s book (reply.CarriedOut code) kept g = (omega arith, omega arith)
@@ -273,8 +272,8 @@ module _ (s : Held) (seq : ℕ) (info out : List ℕ) (least : info_least ≤ le
     pub reply-stored : Stored (sent (replies_of seq s.seq s.own info)) 0 out (a.count + w.count) o
     reply-stored = sent-two first second ack-in (frame-stored second a.count p (info-right s.seq s.own info least most) message-room wm refl)
 
-module _ (s : Held) (book : List ℕ) (seq addr : ℕ) (h : Handled) (lent out : List ℕ) where
-  abbrev reply_as : ℕ → ℕ → Out → ResultCounted
+module _ (s : Held) (book : List ℕ) (seq addr : ℕ) (h : HandledInNumbers) (lent out : List ℕ) where
+  abbrev reply_as : ℕ → ℕ → Out → ResultInNumbers
   reply_as count q o = record { refusal = h.refusal; parameter = h.parameter; event = event.Nothing; count = count; seq = q; requested = h.requested; out = o; link = link.Still }
 
   pub replied-ours : eqb addr s.own ≡ true → Reportable s book h.reply → kept_len ≤ length lent → {n : ℕ} {k : List ℕ} → ReplyPut s book h.reply lent n k
@@ -302,13 +301,13 @@ module _ (s : Held) (book info came : List ℕ) where
   due = handling_of (joined s came) book info
 
   -- what its reply reports is there, in the book that is left
-  pub handled-there : standing_of s.running.copy ≡ ready → {h : Handled} {b : List ℕ} → HandlingLeaves due h b → Reportable s b h.reply
+  pub handled-there : standing_of s.running.copy ≡ ready → {h : HandledInNumbers} {b : List ℕ} → HandlingLeaves due h b → Reportable s b h.reply
   handled-there r e =
       rw (e.handled, e.book)
       (by_left (joined s came) book info (Reportable s) (λ b. tt) (λ b n m. tt)
       (by-reply (joined s came) book info (λ h. Reportable s book h.reply) (λ q. tt) (λ n m. tt) (λ n. n) (λ e. e) r))
 
-  pub handled-brings : (seq addr : ℕ) {h : Handled} {lent out : List ℕ} {r : ResultCounted} {k b o : List ℕ} → RepliedWith s b seq addr h lent out r k o → HandlingLeaves due h b
+  pub handled-brings : (seq addr : ℕ) {h : HandledInNumbers} {lent out : List ℕ} {r : ResultInNumbers} {k b o : List ℕ} → RepliedWith s b seq addr h lent out r k o → HandlingLeaves due h b
       → drop out_start came ≡ drop out_start lent → AcceptedLeft (handled_of (joined s came) book seq addr due) lent out r k b o
   unfolding replied_of
   handled-brings seq addr t e d = record { replied = rw (e.handled, e.book, reply-as-came (joined s came) book info) at (t came d); book = e.book }

@@ -1,7 +1,7 @@
 -- The code's struct: which stand, and what a call answers that does nothing with it.
-use Rattle.std.specs.Prelude.{ℕ, ◌+◌, Bool, not, List, ◌==◌, nat_le}
+use Rattle.std.specs.Prelude.{ℕ, ◌+◌, Bool, not, List, ◌==◌, nat_le, Option, Some, None}
 use Rattle.octets.specs.Choice.{both}
-use Rattle.octets.specs.Refusal as refusal
+use Rattle.octets.specs.declared.refusal.Refusal.{Refusal}
 use Rattle.frame.specs.declared.decoder.Receiver.{Receiver}
 use Rattle.frame.specs.Decoder.{possible_of}
 use Rattle.frame.specs.Dropped.{stopped}
@@ -17,7 +17,7 @@ use Rattle.controller.specs.declared.Turn.{Turn}
 use Rattle.controller.specs.Memory.{last_fits}
 use Rattle.controller.specs.Sender.{wait_fits, out_fits}
 use Rattle.controller.specs.State.{kept_len, all, running_sound}
-use Rattle.controller.specs.Seconds.{tells, moved_on}
+use Rattle.controller.specs.Seconds.{moved_on}
 
 -- is the state sound, with so many octets lent?
 unfoldable pub held_sound : Held → ℕ → Bool
@@ -31,12 +31,16 @@ held_sound s lent =
     (both (possible_of s.receiver.head)
     (running_sound s.running)))))))
 
-abbrev pub held_quiet : Held → ℕ → HeldAnswer
-held_quiet s n = record { state = s; told = tells n }
+-- a call that tells its refusal alone, or that there is none
+abbrev pub held_tells : Option Refusal → Told
+held_tells why = record { refusal = why; parameter = 0; event = event.Nothing; count = 0; dropped = 0; link = link.Still }
+
+abbrev pub held_quiet : Held → Refusal → HeldAnswer
+held_quiet s why = record { state = s; told = held_tells (Some why) }
 
 -- nothing refused and nothing written, and so many octets dropped
 abbrev pub tells_dropped : ℕ → Told
-tells_dropped n = record { refusal = refusal.none; parameter = 0; event = event.Nothing; count = 0; dropped = n; link = link.Still }
+tells_dropped n = record { refusal = None; parameter = 0; event = event.Nothing; count = 0; dropped = n; link = link.Still }
 
 abbrev pub held_counted : Held → ℕ → HeldAnswer
 held_counted s n = record { state = s; told = tells_dropped n }
@@ -59,8 +63,8 @@ one_kept r =
 abbrev pub held_received : Held → Receiver → HeldAnswer
 held_received s r = held_counted (with_receiver s r) r.dropped
 
-abbrev pub held_dark : Held → ℕ → HeldShown
-held_dark s n = record { state = s; told = tells n; plan = 0; row = no_row }
+abbrev pub held_dark : Held → Refusal → HeldShown
+held_dark s why = record { state = s; told = held_tells (Some why); plan = 0; row = no_row }
 
 -- a second that is accepted: the frame out takes this turn, and so many octets are written
 abbrev pub held_shown : Held → List ℕ → Turn → ℕ → HeldShown
@@ -68,7 +72,7 @@ held_shown s book t count =
     let u = s.running in
     record {
       state = record { own = s.own; seq = s.seq; requested = s.requested; wait = s.wait; receiver = s.receiver; last = s.last; out = t.out; running = moved_on u s.requested book };
-      told = record { refusal = refusal.none; parameter = 0; event = event.Nothing; count = count; dropped = 0; link = t.link };
+      told = record { refusal = None; parameter = 0; event = event.Nothing; count = count; dropped = 0; link = t.link };
       plan = u.plan;
       row = row_at u.copy u.position;
     }

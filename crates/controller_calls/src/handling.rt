@@ -6,13 +6,12 @@ ghost use Rattle.message.specs.Reader.{code_in};
 ghost use Rattle.record.specs.Record.{plans_most};
 ghost use Rattle.checks.specs.Standing.{standing_of};
 ghost use Rattle.controller.specs.State.{plan_record};
-ghost use Rattle.controller.specs.Handling.{accepted};
-ghost use Rattle.controller_calls.specs.Handling.{HandledWith, handled_as, refused_for, DoneIf, Asks};
+ghost use Rattle.controller.specs.Reply.{handled_as};
+ghost use Rattle.controller_calls.specs.Handling.{HandledWith, handled_by, done_for, refused_for, DoneIf, Asks};
 
 use controller::{Handled, Held, Reply};
 use message::Fault;
 use message_calls::reader;
-use octets::refusal;
 use octets::refusal::Refusal;
 use plan::Which;
 use plan_calls::{book, setting};
@@ -32,7 +31,7 @@ const NOT_READY: Fault = Fault {
 // The message that INFO holds, carried out or refused.
 pub(crate) fn carry_out(s: Held, book: &mut [u8; BOOK_LEN], info: &[u8]) -> Handled
     requires { code_len ≤ length info.now }
-    ensures { HandledWith s book.old info.now result book.new }
+    ensures { HandledWith s book.old info.now (handled_as result) book.new }
 {
     let code = octets::word(info[0], info[1]);
     match handled(s, code, book, info) {
@@ -43,7 +42,7 @@ pub(crate) fn carry_out(s: Held, book: &mut [u8; BOOK_LEN], info: &[u8]) -> Hand
 
 fn handled(s: Held, code: u16, book: &mut [u8; BOOK_LEN], info: &[u8]) -> Result<Handled, Fault>
     requires { code ≡ code_in info.now }
-    ensures { HandledWith s book.old info.now (handled_as code s.requested result) book.new }
+    ensures { HandledWith s book.old info.now (handled_by code s.requested result) book.new }
 {
     let done = accepted(s.requested, Reply::CarriedOut(code));
     match code {
@@ -65,7 +64,7 @@ fn handled(s: Held, code: u16, book: &mut [u8; BOOK_LEN], info: &[u8]) -> Result
 // A message that leaves the book, of this code: read, and then by what was read.
 fn asked(s: Held, code: u16, book: &[u8; BOOK_LEN], info: &[u8]) -> Result<Handled, Fault>
     requires { (code ≡ code_in info.now) × Asks code (low_of code) }
-    ensures { HandledWith s book.now info.now (handled_as code s.requested result) book.now }
+    ensures { HandledWith s book.now info.now (handled_by code s.requested result) book.now }
 {
     let m = reader::read(info)?;
     let plan = octets::low(m.values[message::PLAN_AT]);
@@ -90,16 +89,16 @@ fn asked(s: Held, code: u16, book: &[u8; BOOK_LEN], info: &[u8]) -> Result<Handl
 
 // What is asked of a plan, where its record stands as it must.
 fn done_if(stands: bool, h: Handled) -> Result<Handled, Fault>
-    ensures { DoneIf stands h result }
+    ensures { DoneIf stands (handled_as h) result }
 {
     if stands { Ok(h) } else { Err(NOT_READY) }
 }
 
 fn accepted(requested: u8, reply: Reply) -> Handled
-    ensures { result ≡ accepted requested reply }
+    ensures { result ≡ done_for requested reply }
 {
     Handled {
-        refusal: refusal::NONE,
+        refusal: None,
         parameter: 0,
         requested,
         reply,
@@ -109,12 +108,11 @@ fn accepted(requested: u8, reply: Reply) -> Handled
 fn refused(code: u16, requested: u8, why: Fault) -> Handled
     ensures { result ≡ refused_for code requested why }
 {
-    let n = why.refusal.number();
     Handled {
-        refusal: n,
+        refusal: Some(why.refusal),
         parameter: why.field,
         requested,
-        reply: Reply::Refused(code, n, why.field),
+        reply: Reply::Refused(code, why.refusal, why.field),
     }
 }
 

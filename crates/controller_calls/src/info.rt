@@ -5,6 +5,7 @@ ghost use Rattle.record.specs.Record.{empty, ready};
 ghost use Rattle.checks.specs.Standing.{standing_of};
 ghost use Rattle.plan.specs.Reporting.{times_info, plan_info};
 ghost use Rattle.controller.specs.Handling.{answer_info};
+ghost use Rattle.controller.specs.Reply.{reply_of};
 ghost use Rattle.controller.specs.State.{kept_len};
 ghost use Rattle.controller_calls.specs.Handling.{Reportable};
 ghost use Rattle.controller_calls.specs.Replies.{ReplyPut};
@@ -16,15 +17,15 @@ use record::BOOK_LEN;
 
 // The INFO of a reply; how long it is.
 pub(crate) fn put(s: Held, reply: Reply, book: &[u8; BOOK_LEN], kept: &mut [u8]) -> u16
-    requires { (Reportable s book.now reply) × (kept_len ≤ length kept.old) }
-    ensures { ReplyPut s book.now reply kept.old result kept.new }
+    requires { (Reportable s book.now (reply_of reply)) × (kept_len ≤ length kept.old) }
+    ensures { ReplyPut s book.now (reply_of reply) kept.old result kept.new }
 {
     let u = s.running;
     let which = u.which;
     match reply {
         Reply::CarriedOut(code) => put_answer(message::CARRIED_OUT, code, &[], kept),
-        Reply::Refused(code, n, parameter) => {
-            put_answer(message::REFUSED, code, &[n, parameter], kept)
+        Reply::Refused(code, why, parameter) => {
+            put_answer(message::REFUSED, code, &[why.number(), parameter], kept)
         }
         Reply::Times(plan) => {
             let lent = book::built_in(which);

@@ -13,12 +13,11 @@ mod soundness;
 mod stepper;
 
 ghost use Rattle.std.specs.Prelude.{◌≡◌, ◌<◌};
-ghost use Rattle.octets.specs.Refusals.{refusal_number, told_number};
 ghost use Rattle.controller.specs.State.{joined};
 ghost use Rattle.controller.specs.Replies.{answer_with, CallLeaves, octet_of, line_idle_of};
 ghost use Rattle.controller.specs.Offers.{OfferLeaves, offer_of};
-ghost use Rattle.controller.specs.Seconds.{started_of, plain_start_of, old_start_of, StartsWith, shown_with, second_of, tells};
-ghost use Rattle.controller_calls.specs.Held.{tells_dropped, held_quiet, held_dark, held_shown};
+ghost use Rattle.controller.specs.Seconds.{started_of, plain_start_of, old_start_of, StartsWith, shown_with, second_of};
+ghost use Rattle.controller_calls.specs.Held.{held_tells, tells_dropped, held_quiet, held_dark, held_shown};
 
 use controller::{
     ALL, Event, Held, HeldAnswer, HeldShown, Link, NONE_ACCEPTED, NONE_OUT, OUT_AT, OUTPUT_LEN,
@@ -26,7 +25,6 @@ use controller::{
 };
 use frame_calls::{decoder, receiver, writer};
 use lamps::NO_ROW;
-use octets::refusal;
 use octets::refusal::Refusal;
 use plan::Which;
 use plan_calls::book;
@@ -202,13 +200,9 @@ pub fn offer(s: Held, kept: &mut [u8], info: &[u8], out: &mut [u8]) -> HeldAnswe
 }
 
 // "Other numbers in a refused call's result are 0."
-fn tells(why: Option<Refusal>) -> Told
-    ensures { result ≡ tells (told_number why) }
+fn tells(refusal: Option<Refusal>) -> Told
+    ensures { result ≡ held_tells refusal }
 {
-    let refusal = match why {
-        Some(r) => r.number(),
-        None => refusal::NONE,
-    };
     Told {
         refusal,
         parameter: 0,
@@ -231,7 +225,7 @@ pub(crate) fn tells_dropped(dropped: u16) -> Told
 
 // "same state, nothing written"
 fn quiet(s: Held, why: Refusal) -> HeldAnswer
-    ensures { result ≡ held_quiet s (refusal_number why) }
+    ensures { result ≡ held_quiet s why }
 {
     HeldAnswer {
         state: s,
@@ -240,7 +234,7 @@ fn quiet(s: Held, why: Refusal) -> HeldAnswer
 }
 
 fn dark(s: Held, why: Refusal) -> HeldShown
-    ensures { result ≡ held_dark s (refusal_number why) }
+    ensures { result ≡ held_dark s why }
 {
     HeldShown {
         state: s,

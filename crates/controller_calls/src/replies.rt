@@ -2,6 +2,7 @@
 ghost use Rattle.std.specs.Prelude.{◌≡◌, ◌<◌, ◌≤◌, true, length, take, drop, slice_set};
 ghost use Rattle.octets.specs.Part.{code_len};
 ghost use Rattle.octets.specs.Put.{Stored};
+ghost use Rattle.octets.specs.Refusals.{refusal_number};
 ghost use Rattle.frame.specs.Frame.{info_least, info_most, message};
 ghost use Rattle.frame.specs.Decoder.{joined_decoder};
 ghost use Rattle.frame.specs.Dropped.{counted_of};
@@ -9,12 +10,13 @@ ghost use Rattle.frame.specs.Run.{sound, found_means};
 ghost use Rattle.record.specs.Record.{ready};
 ghost use Rattle.checks.specs.Standing.{standing_of};
 ghost use Rattle.controller.specs.Memory.{last_fits};
+ghost use Rattle.controller.specs.Reply.{handled_as, reply_of};
 ghost use Rattle.controller.specs.Sender.{out_start, out_fits};
 ghost use Rattle.controller.specs.State.{joined, kept_len, output_len, sound_of};
 ghost use Rattle.controller.specs.Replies.{CallLeaves, sent, err_of, naks, acks, for_us, is_answer, replies_of, CanFind, done_of};
 ghost use Rattle.controller_calls.specs.Handling.{Reportable};
 ghost use Rattle.controller_calls.specs.Held.{one_dropped, one_kept};
-ghost use Rattle.controller_calls.specs.Replies.{unchanged_as, brought_still, RepliedWith, AcceptedWith, AnsweredWith, SilenceWith, BroughtWith};
+ghost use Rattle.controller_calls.specs.Replies.{result_told, brought_as, held_unchanged, held_still, RepliedWith, AcceptedWith, AnsweredWith, SilenceWith, BroughtWith};
 ghost use Rattle.controller_calls.specs.Sender.{Sendable};
 
 use crate::incoming::Incoming;
@@ -23,7 +25,6 @@ use controller::{ALL, Event, Handled, Held, HeldAnswer, Last, Link, OUT_AT, Out,
 use frame::Kind;
 use frame::decoder::{Found, Head, Receiver};
 use frame_calls::{receiver, writer};
-use octets::refusal;
 use octets::refusal::Refusal;
 use record::BOOK_LEN;
 
@@ -34,7 +35,7 @@ const ERR_LEN: u8 = 4;
 // the state then has, and how the link stands.
 #[derive(Clone, Copy)]
 pub struct ResultCounted {
-    pub refusal: u8,
+    pub refusal: Option<Refusal>,
     pub parameter: u8,
     pub event: Event,
     pub count: usize,
@@ -116,13 +117,13 @@ fn by_found(
     out: &mut [u8],
 ) -> Brought
     requires { (CanFind found) × (last_fits s.last ≡ true) × (out_fits s.wait s.out ≡ true) × (kept_len ≤ length kept.old) × (standing_of s.running.copy ≡ ready) × (output_len ≤ length out.old) }
-    ensures { BroughtWith (found_means found (take info_most kept.old)) s kept.old book.old out.old result kept.new book.new out.new }
+    ensures { BroughtWith (found_means found (take info_most kept.old)) s kept.old book.old out.old (brought_as result) kept.new book.new out.new }
 {
     match found {
-        Found::Nothing => still(s, unchanged(s, refusal::NONE, Event::Nothing, 0)),
-        Found::Refused(n, kind, seq, addr) => {
-            let count = nak(kind, s.own, n, seq, addr, out);
-            still(s, unchanged(s, n, Event::Nothing, count))
+        Found::Nothing => still(s, unchanged(s, None, Event::Nothing, 0)),
+        Found::Refused(why, kind, seq, addr) => {
+            let count = nak(kind, s.own, why, seq, addr, out);
+            still(s, unchanged(s, Some(why), Event::Nothing, count))
         }
         Found::Message(seq, addr, len) => {
             message_taken(s, Incoming { seq, addr, len }, kept, book, out)
@@ -140,7 +141,7 @@ fn by_found(
 
 // What is remembered stays.
 fn still(s: Held, res: ResultCounted) -> Brought
-    ensures { result ≡ brought_still s res }
+    ensures { result ≡ held_still s res }
 {
     Brought {
         result: res,
@@ -149,11 +150,11 @@ fn still(s: Held, res: ResultCounted) -> Brought
 }
 
 // No message was handled: there is no parameter, and SEQ, request and what is out stay.
-fn unchanged(s: Held, n: u8, event: Event, count: usize) -> ResultCounted
-    ensures { result ≡ unchanged_as s n event count }
+fn unchanged(s: Held, refusal: Option<Refusal>, event: Event, count: usize) -> ResultCounted
+    ensures { result ≡ held_unchanged s refusal event count }
 {
     ResultCounted {
-        refusal: n,
+        refusal,
         parameter: 0,
         event,
         count,
@@ -167,40 +168,39 @@ fn unchanged(s: Held, n: u8, event: Event, count: usize) -> ResultCounted
 // "A sound ACK or NAK for us is handed to the host as an event"; 02, E6: and to the sender, whose frame out takes the turn t; "one to FFFF is dropped."
 fn answered(s: Held, addr: u16, event: Event, t: Turn, kept: &[u8], out: &mut [u8]) -> ResultCounted
     requires { Sendable s.out t.link × (kept_len ≤ length kept.now) × (output_len ≤ length out.old) }
-    ensures { AnsweredWith s addr event t kept.now out.old result out.new }
+    ensures { AnsweredWith s addr event t kept.now out.old (result_told result) out.new }
 {
     if addr != s.own {
-        return unchanged(s, refusal::NONE, Event::Nothing, 0);
+        return unchanged(s, None, Event::Nothing, 0);
     }
     let count = frame_out::resend(s, t.link, kept, out);
     ResultCounted {
         out: t.out,
         link: t.link,
-        ..unchanged(s, refusal::NONE, event, count)
+        ..unchanged(s, None, event, count)
     }
 }
 
 // "Refusals 1 to 3 of a message frame write one NAK with the received SEQ, if the received ADDR is ours".
-fn nak(kind: Kind, own: u16, n: u8, seq: u8, addr: u16, out: &mut [u8]) -> usize
+fn nak(kind: Kind, own: u16, why: Refusal, seq: u8, addr: u16, out: &mut [u8]) -> usize
     requires { output_len ≤ length out.old }
-    ensures { Stored (sent (naks kind own n seq addr)) 0 out.old result out.new }
+    ensures { Stored (sent (naks kind own (refusal_number why) seq addr)) 0 out.old result out.new }
 {
     if addr != own {
         return 0;
     }
     match kind {
-        Kind::Message => writer::write_nak(seq, own, err(n), out, 0).unwrap(),
+        Kind::Message => writer::write_nak(seq, own, err(why), out, 0).unwrap(),
         _ => 0,
     }
 }
 
-fn err(n: u8) -> u8
-    ensures { result ≡ err_of n }
+fn err(why: Refusal) -> u8
+    ensures { result ≡ err_of (refusal_number why) }
 {
-    if n == Refusal::LenWrong.number() {
-        ERR_LEN
-    } else {
-        n
+    match why {
+        Refusal::LenWrong => ERR_LEN,
+        _ => why.number(),
     }
 }
 
@@ -214,17 +214,17 @@ fn message_taken(
     out: &mut [u8],
 ) -> Brought
     requires { (last_fits s.last ≡ true) × (kept_len ≤ length kept.old) × (standing_of s.running.copy ≡ ready) × (output_len ≤ length out.old) }
-    ensures { BroughtWith (sound (message m.seq m.addr (take m.len kept.old))) s kept.old book.old out.old result kept.new book.new out.new }
+    ensures { BroughtWith (sound (message m.seq m.addr (take m.len kept.old))) s kept.old book.old out.old (brought_as result) kept.new book.new out.new }
 {
     if !for_us(s.own, m.addr) {
-        return still(s, unchanged(s, refusal::NONE, Event::Nothing, 0));
+        return still(s, unchanged(s, None, Event::Nothing, 0));
     }
     if memory::is_repeat(s.last, m, kept) {
         let count = ack(s.own, m.seq, m.addr, out);
-        return still(s, unchanged(s, refusal::NONE, Event::Nothing, count));
+        return still(s, unchanged(s, None, Event::Nothing, count));
     }
     if met_with_silence(s, m.addr, &kept[..m.len as usize]) {
-        return still(s, unchanged(s, refusal::NONE, Event::Nothing, 0));
+        return still(s, unchanged(s, None, Event::Nothing, 0));
     }
     let last = memory::remember(m, &mut *kept);
     let result = accepted(s, m, kept, book, out);
@@ -249,11 +249,11 @@ fn accepted(
     out: &mut [u8],
 ) -> ResultCounted
     requires { (kept_len ≤ length kept.old) × (standing_of s.running.copy ≡ ready) × (output_len ≤ length out.old) }
-    ensures { AcceptedWith s m.seq m.addr (take m.len kept.old) kept.old book.old out.old result kept.new book.new out.new }
+    ensures { AcceptedWith s m.seq m.addr (take m.len kept.old) kept.old book.old out.old (result_told result) kept.new book.new out.new }
 {
     if is_answer(octets::word(kept[0], kept[1])) {
         let count = ack(s.own, m.seq, m.addr, out);
-        return unchanged(s, refusal::NONE, Event::Nothing, count);
+        return unchanged(s, None, Event::Nothing, count);
     }
     let h = handling::carry_out(s, &mut *book, &kept[..m.len as usize]);
     replied(s, m, h, kept, book, out)
@@ -292,8 +292,8 @@ fn replied(
     book: &[u8; BOOK_LEN],
     out: &mut [u8],
 ) -> ResultCounted
-    requires { (kept_len ≤ length kept.old) × (Reportable s book.now h.reply) × (output_len ≤ length out.old) }
-    ensures { RepliedWith s book.now m.seq m.addr h kept.old out.old result kept.new out.new }
+    requires { (kept_len ≤ length kept.old) × (Reportable s book.now (reply_of h.reply)) × (output_len ≤ length out.old) }
+    ensures { RepliedWith s book.now m.seq m.addr (handled_as h) kept.old out.old (result_told result) kept.new out.new }
 {
     let told = ResultCounted {
         parameter: h.parameter,

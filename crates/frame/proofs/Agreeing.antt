@@ -9,7 +9,7 @@ use borrow.Author.Tests.{ltb-true}
 use lib.Dec.{eqb, ltb}
 use lib.ListN.{length, take, drop, set, get_or}
 use lib.Seq.{take-suc-set}
-use Rattle.octets.specs.Refusal as refusal
+use Rattle.octets.specs.declared.refusal.Refusal.TheVariants as why
 use Rattle.octets.specs.Word.{low_of, word_of}
 use Rattle.octets.proofs.Laws.{pick-by, both_left, both_right, clash}
 use Rattle.frame.specs.declared.Kind.{Kind}
@@ -153,8 +153,8 @@ module _ (b e₁ e₂ : ℕ) (l₁ l₂ : List ℕ) where
               (λ _. info-parts (g + 1) w) (λ _. info-parts (g + 1) w);
         }
 
-    refused-same : (p : Place) → R p (after_aa (head_of p Message s e₁ a n g) b (found.Refused refusal.closing_wrong Message s a)) (after_aa (head_of p Message s e₂ a n g) b (found.Refused refusal.closing_wrong Message s a))
-    refused-same p = aa-same (at p Message s e₁ a n g l₁) (at p Message s e₂ a n g l₂) b (found.Refused refusal.closing_wrong Message s a) (found.Refused refusal.closing_wrong Message s a) refl
+    refused-same : (p : Place) → R p (after_aa (head_of p Message s e₁ a n g) b (found.Refused why.ClosingWrong Message s a)) (after_aa (head_of p Message s e₂ a n g) b (found.Refused why.ClosingWrong Message s a))
+    refused-same p = aa-same (at p Message s e₁ a n g l₁) (at p Message s e₂ a n g l₂) b (found.Refused why.ClosingWrong Message s a) (found.Refused why.ClosingWrong Message s a) refl
 
     info-same : info_due Message n g ≡ true → Goes Info Message Message s s a a n n g g
     info-same h = pick_two (R Info) (eqb b 0xAA) (record { outcome = refl; place = refl; parts = info-parts g same }) (kept_same Info h)

@@ -8,6 +8,9 @@ use native.Mathlib.Omega.{arith}
 use borrow.Author.Tests.{eqb-true, leb-true}
 use lib.Dec.{eqb, leb}
 use Rattle.octets.specs.Refusal as refusal
+use Rattle.octets.specs.Refusals.{refusal_number}
+use Rattle.octets.specs.declared.refusal.Refusal.{Refusal}
+use Rattle.octets.specs.declared.refusal.Refusal.TheVariants as why
 use Rattle.octets.specs.Word.{low_of, word_of}
 use Rattle.octets.proofs.Laws.{pick-by, both_left, both_right}
 use Rattle.frame.specs.declared.Kind.{Kind}
@@ -24,7 +27,7 @@ use Rattle.frame.proofs.Laws.{message-len, taken-done}
 
 pub record Findable (P : Found → Type 0) : Type 0 where
   pub nothing : P found.Nothing
-  pub refused : (n : ℕ) (k : Kind) (s a : ℕ) → n ≤ refusal.len_wrong → P (found.Refused n k s a)
+  pub refused : (r : Refusal) (k : Kind) (s a : ℕ) → refusal_number r ≤ refusal.len_wrong → P (found.Refused r k s a)
   pub message : (s a n : ℕ) → info_least ≤ n → n ≤ info_most → P (found.Message s a n)
   pub ack : (s a : ℕ) → P (found.Ack s a)
   pub nak : (s a e : ℕ) → P (found.Nak s a e)
@@ -61,9 +64,9 @@ module _ {P : Found → Type 0} (w : Findable P) where
     found_at LenHigh k h = w.nothing
     found_at LenLow k h = pick-by Finds (len_fits k (word_of (low_of n) b)) (λ _. w.nothing) (λ _. w.refused _ _ _ _ (omega arith))
     found_at Info k h = pick-by Finds (eqb b 0xAA) (λ _. w.nothing) (λ _. w.nothing)
-    found_at InfoAa k h = pick-by Finds (eqb b 0xAA) (λ _. w.nothing) (λ _. after-aa (head_of InfoAa k s e a n g) b (found.Refused refusal.closing_wrong k s a) (w.refused _ _ _ _ (omega arith)))
+    found_at InfoAa k h = pick-by Finds (eqb b 0xAA) (λ _. w.nothing) (λ _. after-aa (head_of InfoAa k s e a n g) b (found.Refused why.ClosingWrong k s a) (w.refused _ _ _ _ (omega arith)))
     found_at CloseAa k h = pick-by Finds (eqb b 0xAA) (λ _. w.nothing) (λ _. w.refused _ _ _ _ (omega arith))
-    found_at CloseCc k h = pick-by Finds (eqb b 0xCC) (λ _. w.nothing) (λ _. after-aa (head_of CloseCc k s e a n g) b (found.Refused refusal.closing_wrong k s a) (w.refused _ _ _ _ (omega arith)))
+    found_at CloseCc k h = pick-by Finds (eqb b 0xCC) (λ _. w.nothing) (λ _. after-aa (head_of CloseCc k s e a n g) b (found.Refused why.ClosingWrong k s a) (w.refused _ _ _ _ (omega arith)))
     found_at Err k h = w.nothing
     found_at Cks k h = at-cks k h
 

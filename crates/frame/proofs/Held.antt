@@ -2,6 +2,7 @@
 use Prim.Native.Nat.{ℕ, ◌<◌}
 use mathlib.Core.List.{List}
 use lib.Dec.{eqb}
+use Rattle.octets.specs.declared.refusal.Refusal.TheVariants.{ClosingWrong}
 use Rattle.octets.specs.Octet.{Octets}
 use Rattle.octets.specs.Word.{low_of, word_of}
 use Rattle.octets.proofs.Laws.{pick-by, octets-take, octets-set}
@@ -61,9 +62,9 @@ module _ (h : Head) (i : List ℕ) (b : ℕ) (hs : h.seq < 256) (hb : b < 256) w
   step-octet LenHigh = (hs, tt)
   step-octet LenLow = pick-by SteppedOctet (len_fits h.kind (word_of (low_of h.len) b)) (λ _. (hs, tt)) (λ _. (hs, hs))
   step-octet Info = pick-by SteppedOctet (eqb b 0xAA) (λ _. (hs, tt)) (λ _. (hs, tt))
-  step-octet InfoAa = pick-by SteppedOctet (eqb b 0xAA) (λ _. (hs, tt)) (λ _. after-aa (refused_by h 2) hs)
+  step-octet InfoAa = pick-by SteppedOctet (eqb b 0xAA) (λ _. (hs, tt)) (λ _. after-aa (refused_by h ClosingWrong) hs)
   step-octet CloseAa = pick-by SteppedOctet (eqb b 0xAA) (λ _. (hs, tt)) (λ _. (hs, hs))
-  step-octet CloseCc = pick-by SteppedOctet (eqb b 0xCC) (λ _. (hs, tt)) (λ _. after-aa (refused_by h 2) hs)
+  step-octet CloseCc = pick-by SteppedOctet (eqb b 0xCC) (λ _. (hs, tt)) (λ _. after-aa (refused_by h ClosingWrong) hs)
   step-octet Err = (hs, tt)
   step-octet Cks = pick-by SteppedOctet (eqb (cks_in h i) b) (λ _. (hs, sound-octet h.kind)) (λ _. (hs, hs))
 

@@ -25,7 +25,8 @@ use Rattle.frame.specs.declared.decoder.Place.TheVariants.{Idle, LoneAa, Seq, Ad
 use Rattle.frame.specs.declared.decoder.Stepped.{Stepped}
 use Rattle.frame.specs.declared.decoder.Found.{Found}
 use Rattle.frame.specs.declared.decoder.Found.TheVariants.{Nothing}
-use Rattle.octets.specs.Refusal.{len_wrong, closing_wrong, info_wrong}
+use Rattle.octets.specs.Refusal.{info_wrong}
+use Rattle.octets.specs.declared.refusal.Refusal.TheVariants.{LenWrong, ClosingWrong}
 
 -- Frame
 
@@ -139,7 +140,7 @@ module _ (h : Head) (n : ℕ) where
       → len_judged h n ≡ stepped (head_of (after_len h.kind) h.kind h.seq h.err h.addr n 0) Nothing
   len-right e = rw e
 
-  pub len-wrong : len_fits h.kind n ≡ false → len_judged h n ≡ ended h (refused_by h len_wrong)
+  pub len-wrong : len_fits h.kind n ≡ false → len_judged h n ≡ ended h (refused_by h LenWrong)
   len-wrong e = rw e
 
 -- INFO that is still to come has its place in the array
@@ -184,9 +185,9 @@ module _ (h : Head) where
     room_at LenHigh q = none
     room_at LenLow q = pick-by Room (len_fits h.kind (word_of (low_of h.len) b)) (λ _. none) (λ _. none)
     room_at Info q = pick-by Room (eqb b 0xAA) (λ _. none) (λ _. info-kept q)
-    room_at InfoAa q = pick-by Room (eqb b 0xAA) (λ _. info-kept q) (λ _. aa-room (refused_by h closing_wrong))
+    room_at InfoAa q = pick-by Room (eqb b 0xAA) (λ _. info-kept q) (λ _. aa-room (refused_by h ClosingWrong))
     room_at CloseAa q = pick-by Room (eqb b 0xAA) (λ _. none) (λ _. none)
-    room_at CloseCc q = pick-by Room (eqb b 0xCC) (λ _. none) (λ _. aa-room (refused_by h closing_wrong))
+    room_at CloseCc q = pick-by Room (eqb b 0xCC) (λ _. none) (λ _. aa-room (refused_by h ClosingWrong))
     room_at Err q = none
     room_at Cks q = pick-by Room (eqb (cks_in h i) b) (λ _. none) (λ _. none)
 

@@ -12,6 +12,7 @@ use Rattle.octets.specs.Choice.{both}
 use Rattle.octets.proofs.Laws.{pick-by, both_left, both_right, clash, parted}
 use Rattle.frame.specs.declared.decoder.Head.{Head}
 use Rattle.frame.specs.declared.decoder.Receiver.{Receiver}
+use Rattle.octets.proofs.Refusals.{told-apart}
 use Rattle.frame.specs.declared.decoder.Received.{Received}
 use Rattle.frame.specs.Frame.{info_most, message_len}
 use Rattle.frame.specs.declared.Kind.{Kind}
@@ -33,7 +34,7 @@ is_info p = info_goes_on p 12 0 0
 pub received-one-to-one : (r s : Received) (k l : List ℕ) → received_with r k ≡ received_with s l → drop info_most k ≡ drop info_most l → (r ≡ s) × (k ≡ l)
 received-one-to-one r s k l e d = (
   (λ i. record {
-    refusal = (e i).taken.refusal;
+    refusal = told-apart r.refusal s.refusal (λ j. (e j).taken.refusal) i;
     receiver = record { head = (e i).taken.decoder.head; dropped = (e i).kept };
     found = (e i).taken.found;
     dropped = (e i).told;

@@ -6,7 +6,7 @@ use mathlib.Core.List.{List}
 use native.Mathlib.Omega.{arith}
 use borrow.Author.Tests.{eq-eqb, lt-ltb, ltb-true, ltb-false}
 use lib.Dec.{eqb, ltb}
-use Rattle.octets.specs.Refusal as refusal
+use Rattle.octets.specs.declared.refusal.Refusal.TheVariants as why
 use Rattle.octets.specs.Word.{low_of, word_of}
 use Rattle.octets.proofs.Laws.{pick-by, both_left, both_right}
 use Rattle.frame.specs.declared.Kind.{Kind}
@@ -76,9 +76,9 @@ module _ (s e a n g : ℕ) (l : List ℕ) (b : ℕ) (octet : b < 256) where
   step-at-place LenLow k h =
       pick-by Possible (len_fits k (word_of (low_of n) b)) (λ t. after-len k a (word_of (low_of n) b) t) (λ _. refl)
   step-at-place Info k h = pick-by Possible (eqb b 0xAA) (λ _. h) (λ _. after_kept Info k h)
-  step-at-place InfoAa k h = pick-by Possible (eqb b 0xAA) (λ _. after_kept InfoAa k h) (λ _. after-aa (head_of InfoAa k s e a n g) b (found.Refused refusal.closing_wrong k s a))
+  step-at-place InfoAa k h = pick-by Possible (eqb b 0xAA) (λ _. after_kept InfoAa k h) (λ _. after-aa (head_of InfoAa k s e a n g) b (found.Refused why.ClosingWrong k s a))
   step-at-place CloseAa k h = pick-by Possible (eqb b 0xAA) (λ _. h) (λ _. refl)
-  step-at-place CloseCc k h = pick-by Possible (eqb b 0xCC) (λ _. close-then-cks k h) (λ _. after-aa (head_of CloseCc k s e a n g) b (found.Refused refusal.closing_wrong k s a))
+  step-at-place CloseCc k h = pick-by Possible (eqb b 0xCC) (λ _. close-then-cks k h) (λ _. after-aa (head_of CloseCc k s e a n g) b (found.Refused why.ClosingWrong k s a))
   step-at-place Err k h = err-then-cks k h
   step-at-place Cks k h = pick-by Possible (eqb (cks_in (head_of Cks k s e a n g) l) b) (λ _. refl) (λ _. refl)
 

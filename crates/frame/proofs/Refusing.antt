@@ -11,6 +11,7 @@ use lib.ListN.{length, replicate}
 use lib.Seq.{sets}
 use Rattle.octets.specs.Octet.{Octets}
 use Rattle.octets.specs.Refusal as refusal
+use Rattle.octets.specs.declared.refusal.Refusal.TheVariants as why
 use Rattle.octets.specs.Word.{high_of, low_of}
 use Rattle.octets.proofs.Laws.{pick-by, both_right, octets-left}
 use Rattle.frame.specs.declared.Kind.{Kind}
@@ -74,11 +75,11 @@ module _ (k₀ : Kind) (s₀ e a₀ n₀ g₀ : ℕ) (l : List ℕ) (hl : length
   unfolding step_of
   doubling-step s a n g x i h =
       pick-by (λ (t : Stepped). outcome_of (taken_as (at InfoAa Message s e a n g i) x t) ≡ refused refusal.closing_wrong Message s a) (eqb x 0xAA) (λ t. absurd (h (eqb-true x 0xAA t)))
-      (λ _. after-aa-outcome (at InfoAa Message s e a n g i) x (found.Refused refusal.closing_wrong Message s a))
+      (λ _. after-aa-outcome (at InfoAa Message s e a n g i) x (found.Refused why.ClosingWrong Message s a))
 
   closing-step : (s a n g x : ℕ) (i : List ℕ) → (x ≡ 0xCC → ⊥) → outcome_of (step_of (at CloseCc Message s e a n g i) x) ≡ refused refusal.closing_wrong Message s a
   unfolding step_of
-  closing-step s a n g x i h = rw (ne_eqb x 0xCC h) (after-aa-outcome (at CloseCc Message s e a n g i) x (found.Refused refusal.closing_wrong Message s a))
+  closing-step s a n g x i h = rw (ne_eqb x 0xCC h) (after-aa-outcome (at CloseCc Message s e a n g i) x (found.Refused why.ClosingWrong Message s a))
 
   cks-step : (f : Frame) (x : ℕ) → info_fits f ≡ true → (x ≡ cks_of f → ⊥) → outcome_of (step_of (ready f e l) x) ≡ refused refusal.cks_wrong (kind_of f) (seq_of f) (addr_of f)
   unfolding step_of ready

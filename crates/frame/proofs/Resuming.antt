@@ -5,7 +5,7 @@ use mathlib.Core.Bool.{Bool, true, false}
 use borrow.Author.Tests.{ne_eqb, eqb-false, not-true}
 use lib.Dec.{eqb}
 use Rattle.octets.specs.Choice.{pick}
-use Rattle.octets.specs.Refusal as refusal
+use Rattle.octets.specs.declared.refusal.Refusal.TheVariants as why
 use Rattle.octets.specs.Word.{low_of, word_of}
 use Rattle.octets.proofs.Laws.{pick-by, clash}
 use Rattle.frame.specs.declared.decoder.Place.{Place}
@@ -81,9 +81,9 @@ module _ (d : Decoder) (b : ℕ) where
   resumed-at LenHigh = λ h. absurd (h refl)
   resumed-at LenLow = pick-by (Resumed LenLow) (len_fits d.head.kind (word_of (low_of d.head.len) b)) (λ _ h. absurd (h refl)) (λ _ h. refl)
   resumed-at Info = pick-by (Resumed Info) (eqb b 0xAA) (λ _ h. absurd (h refl)) (λ _ h. absurd (h refl))
-  resumed-at InfoAa = pick-by (Resumed InfoAa) (eqb b 0xAA) (λ _ h. absurd (h refl)) (λ _ h. aa-resumed (refused_by d.head refusal.closing_wrong))
+  resumed-at InfoAa = pick-by (Resumed InfoAa) (eqb b 0xAA) (λ _ h. absurd (h refl)) (λ _ h. aa-resumed (refused_by d.head why.ClosingWrong))
   resumed-at CloseAa = pick-by (Resumed CloseAa) (eqb b 0xAA) (λ _ h. absurd (h refl)) (λ _ h. refl)
-  resumed-at CloseCc = pick-by (Resumed CloseCc) (eqb b 0xCC) (λ _ h. absurd (h refl)) (λ _ h. aa-resumed (refused_by d.head refusal.closing_wrong))
+  resumed-at CloseCc = pick-by (Resumed CloseCc) (eqb b 0xCC) (λ _ h. absurd (h refl)) (λ _ h. aa-resumed (refused_by d.head why.ClosingWrong))
   resumed-at Err = λ h. absurd (h refl)
   resumed-at Cks = pick-by (Resumed Cks) (eqb (cks_in d.head d.info) b) (λ _ h. refl) (λ _ h. refl)
 

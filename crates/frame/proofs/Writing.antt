@@ -12,6 +12,7 @@ use lib.ListN.{length, set, take, length-set, length-append}
 use lib.Seq.{take-suc-set, length-take-le, take_at, append_snoc}
 use Rattle.octets.specs.Octet.{Octets}
 use Rattle.octets.specs.Refusal as refusal
+use Rattle.octets.specs.declared.refusal.Refusal.TheVariants as why
 use Rattle.octets.specs.Word.{high_of, low_of, word_of}
 use Rattle.octets.proofs.Laws.{pick-by, both_left, both_right, clash, octets-left, octets-right}
 use Rattle.frame.specs.declared.Kind.{Kind}
@@ -200,12 +201,12 @@ module _ (s e a n g : ℕ) (l : List ℕ) (hl : length l ≡ info_most) (b : ℕ
       let y = front Message s a n ++ doubled (take g l) in
       let u = due h in
       let r : held d ≡ y ++ (0xAA ∷ []) = sym (append_assoc (front Message s a n) (doubled (take g l)) (0xAA ∷ [])) in
-      let w = after-aa-held d b (found.Refused refusal.closing_wrong Message s a) y in
+      let w = after-aa-held d b (found.Refused why.ClosingWrong Message s a) y in
       let z : held d ++ (b ∷ []) ≡ front Message s a n ++ (doubled (take g l) ++ (0xAA ∷ b ∷ [])) = simp append_assoc in
       pick-by (Goes InfoAa Message) (eqb b 0xAA)
       (λ t. let q = eqb-true b 0xAA t in at_stored InfoAa (held d) refl h (z ∙ ap (λ (v : List ℕ). front Message s a n ++ (doubled (take g l) ++ v)) (ap (λ (c : ℕ). 0xAA ∷ c ∷ []) q ∙ sym (twice-aa b q))) refl)
-      (λ t. refuse refusal.closing_wrong Message s a w.0 (after-aa-outcome d b (found.Refused refusal.closing_wrong Message s a)) (ap (λ (v : List ℕ). v ++ (b ∷ [])) r ∙ w.1)
-      (let f = info-len Message n u.0 in rw z (doubling s a n b (take g l) f.0 f.1 (omega (arith, length-take-le g l (omega arith))) (eqb-false b 0xAA t))) (after-aa-begun d b (found.Refused refusal.closing_wrong Message s a)))
+      (λ t. refuse refusal.closing_wrong Message s a w.0 (after-aa-outcome d b (found.Refused why.ClosingWrong Message s a)) (ap (λ (v : List ℕ). v ++ (b ∷ [])) r ∙ w.1)
+      (let f = info-len Message n u.0 in rw z (doubling s a n b (take g l) f.0 f.1 (omega (arith, length-take-le g l (omega arith))) (eqb-false b 0xAA t))) (after-aa-begun d b (found.Refused why.ClosingWrong Message s a)))
 
   at-close-aa : info_whole Message n g ≡ true → Goes CloseAa Message (step_at CloseAa (head_of CloseAa Message s e a n g) l b)
   unfolding held
@@ -225,12 +226,12 @@ module _ (s e a n g : ℕ) (l : List ℕ) (hl : length l ≡ info_most) (b : ℕ
       let y = front Message s a n ++ doubled (take g l) in
       let u = whole-info h in
       let r : held d ≡ y ++ (0xAA ∷ []) = sym (append_assoc (front Message s a n) (doubled (take g l)) (0xAA ∷ [])) in
-      let w = after-aa-held d b (found.Refused refusal.closing_wrong Message s a) y in
+      let w = after-aa-held d b (found.Refused why.ClosingWrong Message s a) y in
       let z : held d ++ (b ∷ []) ≡ front Message s a n ++ (doubled (take g l) ++ (0xAA ∷ b ∷ [])) = simp append_assoc in
       pick-by (Goes CloseCc Message) (eqb b 0xCC)
       (λ t. kept refl refl (z ∙ ap (λ (c : ℕ). front Message s a n ++ (doubled (take g l) ++ (0xAA ∷ c ∷ []))) (eqb-true b 0xCC t)))
-      (λ t. refuse refusal.closing_wrong Message s a w.0 (after-aa-outcome d b (found.Refused refusal.closing_wrong Message s a)) (ap (λ (v : List ℕ). v ++ (b ∷ [])) r ∙ w.1)
-      (let m = info-len Message n u.0 in rw (z, ← u.1) (closing_cc s a b (take g l) (omega (arith, u.1)) (omega (arith, u.1)) (eqb-false b 0xCC t))) (after-aa-begun d b (found.Refused refusal.closing_wrong Message s a)))
+      (λ t. refuse refusal.closing_wrong Message s a w.0 (after-aa-outcome d b (found.Refused why.ClosingWrong Message s a)) (ap (λ (v : List ℕ). v ++ (b ∷ [])) r ∙ w.1)
+      (let m = info-len Message n u.0 in rw (z, ← u.1) (closing_cc s a b (take g l) (omega (arith, u.1)) (omega (arith, u.1)) (eqb-false b 0xCC t))) (after-aa-begun d b (found.Refused why.ClosingWrong Message s a)))
 
   idle-held : (k : Kind) → held (at Idle k s e a n g l) ≡ []
   unfolding held

@@ -3,6 +3,8 @@ use Rattle.std.specs.Prelude.{ℕ, ◌+◌, ◌-◌, Bool, true, false, not, Lis
 use Rattle.octets.specs.Choice.{pick, both}
 use Rattle.octets.specs.ExclusiveOr.{exclusive_or}
 use Rattle.octets.specs.Refusal as refusal
+use Rattle.octets.specs.declared.refusal.Refusal.{Refusal}
+use Rattle.octets.specs.declared.refusal.Refusal.TheVariants as why
 use Rattle.octets.specs.Word.{low_of, word_of}
 use Rattle.frame.specs.declared.Kind.{Kind}
 use Rattle.frame.specs.declared.Kind.TheVariants.{Message, Ack, Nak}
@@ -109,8 +111,8 @@ abbrev pub opened : Head → Kind → Found → Stepped
 opened h k f = found_at h Seq k f
 
 -- the refusal of the frame that is open
-abbrev pub refused_by : Head → ℕ → Found
-refused_by h n = found.Refused n h.kind h.seq h.addr
+abbrev pub refused_by : Head → Refusal → Found
+refused_by h r = found.Refused r h.kind h.seq h.addr
 
 -- "Idle: AA is remembered, all else is dropped."
 abbrev pub idle_octet : Head → ℕ → Stepped
@@ -184,7 +186,7 @@ abbrev pub len_judged : Head → ℕ → Stepped
 len_judged h n =
     pick (len_fits h.kind n)
     (stepped (head_of (after_len h.kind) h.kind h.seq h.err h.addr n 0) found.Nothing)
-    (ended h (refused_by h refusal.len_wrong))
+    (ended h (refused_by h why.LenWrong))
 
 -- "After n octets of INFO come AA and CC": the place where g of them are in
 abbrev pub after_info : ℕ → ℕ → Place
@@ -203,16 +205,16 @@ info_octet h b = pick (eqb b 0xAA) (moved h InfoAa) (kept h)
 -- "In INFO an AA followed by something else .. is refusal 2. The wrong octet after an AA is then judged as if it had
 -- followed a lone AA"
 abbrev pub info_aa_octet : Head → ℕ → Stepped
-info_aa_octet h b = pick (eqb b 0xAA) (kept h) (after_aa h b (refused_by h refusal.closing_wrong))
+info_aa_octet h b = pick (eqb b 0xAA) (kept h) (after_aa h b (refused_by h why.ClosingWrong))
 
 -- "or a wrong octet at the AA or CC of the end, is refusal 2"; "a wrong octet where the closing AA was due returns to
 -- idle"
 abbrev pub close_aa_octet : Head → ℕ → Stepped
-close_aa_octet h b = pick (eqb b 0xAA) (moved h CloseCc) (ended h (refused_by h refusal.closing_wrong))
+close_aa_octet h b = pick (eqb b 0xAA) (moved h CloseCc) (ended h (refused_by h why.ClosingWrong))
 
 -- "The wrong octet after an AA is then judged as if it had followed a lone AA": here too
 abbrev pub close_cc_octet : Head → ℕ → Stepped
-close_cc_octet h b = pick (eqb b 0xCC) (moved h Cks) (after_aa h b (refused_by h refusal.closing_wrong))
+close_cc_octet h b = pick (eqb b 0xCC) (moved h Cks) (after_aa h b (refused_by h why.ClosingWrong))
 
 -- the octets that are kept of the open frame: to LEN, and from there to CKS before doubling
 unfoldable pub front_in : Head → List ℕ
@@ -238,7 +240,7 @@ sound_by h = sound_as h.kind h
 
 -- "Refusals 1 and 3 and the end of a sound frame also leave it idle, with no AA remembered."
 abbrev pub cks_octet : Head → List ℕ → ℕ → Stepped
-cks_octet h i b = pick (eqb (cks_in h i) b) (ended h (sound_by h)) (ended h (refused_by h refusal.cks_wrong))
+cks_octet h i b = pick (eqb (cks_in h i) b) (ended h (sound_by h)) (ended h (refused_by h why.CksWrong))
 
 abbrev pub step_at : Place → Head → List ℕ → ℕ → Stepped
 step_at Idle h i b = idle_octet h b

@@ -1,8 +1,9 @@
 -- 02, E5: "The decoder's result for every octet also gives how many octets have been taken since the last sound frame ended, or since
 -- the start, that belong to no sound frame."
-use Rattle.std.specs.Prelude.{ℕ, ◌+◌, ◌-◌, ◌≤◌, ◌≡◌, Bool, true, false, List, eqb, leb, length, take, drop}
+use Rattle.std.specs.Prelude.{ℕ, ◌+◌, ◌-◌, ◌≤◌, ◌≡◌, Bool, true, false, List, Some, None, eqb, leb, length, take, drop}
 use Rattle.octets.specs.Choice.{pick}
-use Rattle.octets.specs.Refusal as refusal
+use Rattle.octets.specs.declared.refusal.Refusal.TheVariants.{StateUnsound}
+use Rattle.octets.specs.Refusals.{told_number}
 use Rattle.frame.specs.declared.Kind.{Kind}
 use Rattle.frame.specs.declared.Kind.TheVariants.{Message, Ack, Nak}
 use Rattle.frame.specs.declared.decoder.Place.{Place}
@@ -110,10 +111,10 @@ fresh_receiver = record { head = fresh_head; dropped = 0 }
 
 -- what a call answers: refused, and done with the head h, the number n kept and m told
 abbrev pub received_none : Receiver → Received
-received_none r = record { refusal = refusal.state_unsound; receiver = r; found = found.Nothing; dropped = 0 }
+received_none r = record { refusal = Some StateUnsound; receiver = r; found = found.Nothing; dropped = 0 }
 
 abbrev pub received_as : Head → ℕ → Found → ℕ → Received
-received_as h n f m = record { refusal = refusal.none; receiver = record { head = h; dropped = n }; found = f; dropped = m }
+received_as h n f m = record { refusal = None; receiver = record { head = h; dropped = n }; found = f; dropped = m }
 
 -- by what was found, n being the number before and m that after
 abbrev pub received_by : Found → Head → ℕ → ℕ → Received
@@ -123,7 +124,7 @@ received_by f h n m = received_as h (number_kept f m) f (number_told f n m)
 abbrev pub received_with : Received → List ℕ → Counted
 received_with r kept =
     record {
-      taken = record { refusal = r.refusal; decoder = joined_decoder r.receiver.head kept; found = r.found };
+      taken = record { refusal = told_number r.refusal; decoder = joined_decoder r.receiver.head kept; found = r.found };
       told = r.dropped;
       kept = r.receiver.dropped;
     }

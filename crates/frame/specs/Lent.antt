@@ -1,6 +1,7 @@
 -- The decoder's calls as the code makes them: the head and the number stand in one struct, and the octets that INFO is kept in are lent,
 -- 256 of them or more.
 use Rattle.std.specs.Prelude.{ℕ, ◌≤◌, ◌<◌, ◌≡◌, List, ◌++◌, length, take, drop}
+use Rattle.octets.specs.Refusals.{told_number}
 use Rattle.frame.specs.declared.decoder.Head.{Head}
 use Rattle.frame.specs.declared.decoder.Found.TheVariants as found
 use Rattle.frame.specs.declared.decoder.Received.{Received}
@@ -15,7 +16,7 @@ pub record CallsLent (h : Head) (kept : List ℕ) : Type 0 where
   -- the decoder has the first 256, whatever stands beyond
   pub joined : joined_decoder h kept ≡ record { head = h; info = take 256 kept }
   pub received : (r : Received) → received_with r kept ≡ record {
-    taken = record { refusal = r.refusal; decoder = record { head = r.receiver.head; info = take 256 kept }; found = r.found };
+    taken = record { refusal = told_number r.refusal; decoder = record { head = r.receiver.head; info = take 256 kept }; found = r.found };
     told = r.dropped;
     kept = r.receiver.dropped;
   }
@@ -28,7 +29,7 @@ pub record CallsLent (h : Head) (kept : List ℕ) : Type 0 where
 -- What the contract of the octet call says: it answers what is due, the numbers too, and leaves the INFO octets that are due, and those beyond as
 -- they came.
 pub record ReceivedSo (w : Counted) (lent : List ℕ) (r : Received) (k : List ℕ) : Type 0 where
-  pub refusal : r.refusal ≡ w.taken.refusal
+  pub refusal : told_number r.refusal ≡ w.taken.refusal
   pub head : r.receiver.head ≡ w.taken.decoder.head
   pub found : r.found ≡ w.taken.found
   pub told : r.dropped ≡ w.told

@@ -4,6 +4,8 @@ use Rattle.std.specs.Prelude.{ℕ, ◌+◌, ◌-◌, ◌*◌, ◌/◌, ◌%◌, 
 use Rattle.std.specs.Int.Bits.{bit_xor}
 use Rattle.octets.specs.ExclusiveOr.{exclusive_or}
 use Rattle.octets.specs.Octet.{Octets}
+use Rattle.octets.specs.declared.refusal.Refusal.{Refusal}
+use Rattle.octets.specs.Refusals.{refusal_number}
 use Rattle.octets.specs.Writing.{Writing}
 use Rattle.frame.specs.declared.Kind.{Kind}
 use Rattle.frame.specs.declared.Kind.TheVariants.{Message, Ack, Nak}
@@ -129,7 +131,7 @@ NoneYet d x xs = (drops d.head.place x ≡ false) × (outcome_of (taken_of d x) 
 -- what the decoder's own call can give: nothing; a refusal, 1 to 3; a message frame, and of how many octets its INFO is; an ACK; a NAK
 abbrev pub FoundFits : Found → Type 0
 FoundFits found.Nothing = Unit
-FoundFits (found.Refused n k s a) = n ≤ 3
+FoundFits (found.Refused r k s a) = refusal_number r ≤ 3
 FoundFits (found.Message s a n) = (2 ≤ n) × (n ≤ 256)
 FoundFits (found.Ack s a) = Unit
 FoundFits (found.Nak s a e) = Unit
@@ -139,7 +141,7 @@ FoundFits (found.Nak s a e) = Unit
 pub record RunRows : Type 0 where
   -- what the decoder gives for an octet stands for 01's frame, or refused frame, with the same numbers
   pub none : (i : List ℕ) → found_means found.Nothing i ≡ nothing
-  pub refusal : (n : ℕ) (k : Kind) (s a : ℕ) (i : List ℕ) → found_means (found.Refused n k s a) i ≡ refused n k s a
+  pub refusal : (r : Refusal) (k : Kind) (s a : ℕ) (i : List ℕ) → found_means (found.Refused r k s a) i ≡ refused (refusal_number r) k s a
   pub message : (s a n : ℕ) (i : List ℕ) → found_means (found.Message s a n) i ≡ sound (message s a (take n i))
   pub ack : (s a : ℕ) (i : List ℕ) → found_means (found.Ack s a) i ≡ sound (ack s a)
   pub nak : (s a e : ℕ) (i : List ℕ) → found_means (found.Nak s a e) i ≡ sound (nak s a e)

@@ -1,6 +1,7 @@
 -- Octets taken one after another: what each brings, and where the decoder then is.
 use Rattle.std.specs.Prelude.{ℕ, ◌≡◌, Bool, false, not, List, [], ◌∷◌, eqb, length, take}
 use Rattle.octets.specs.Choice.{both}
+use Rattle.octets.specs.Refusals.{refusal_number}
 use Rattle.frame.specs.declared.Kind.{Kind}
 use Rattle.frame.specs.declared.decoder.Place.{Place}
 use Rattle.frame.specs.declared.decoder.Place.TheVariants.{Idle, LoneAa, Seq, AddrHigh, AddrLow, LenHigh, LenLow, Info, InfoAa, CloseAa, CloseCc, Err, Cks}
@@ -19,7 +20,7 @@ pub data Outcome : Type 0 where
 -- the outcome that each answer of the decoder stands for, i being the octets it keeps for INFO
 abbrev pub found_means : Found → List ℕ → Outcome
 found_means found.Nothing i = nothing
-found_means (found.Refused n k s a) i = refused n k s a
+found_means (found.Refused r k s a) i = refused (refusal_number r) k s a
 found_means (found.Message s a n) i = sound (message s a (take n i))
 found_means (found.Ack s a) i = sound (ack s a)
 found_means (found.Nak s a e) i = sound (nak s a e)

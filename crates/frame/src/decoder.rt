@@ -1,5 +1,6 @@
 // 01, "Frames": the decoder, and what an octet brings it to. The octets of INFO are lent to it at each call and stand outside it.
 use crate::Kind;
+use octets::refusal::Refusal;
 
 // What the next octet is to the decoder.
 #[derive(Clone, Copy, Debug, PartialEq, Eq)]
@@ -38,7 +39,7 @@ pub struct Head {
 pub enum Found {
     Nothing,
     // A frame was refused: the refusal, and the frame's kind, SEQ and ADDR.
-    Refused(u8, Kind, u8, u16),
+    Refused(Refusal, Kind, u8, u16),
     // A sound frame ended: its SEQ and ADDR, and how many of the octets kept are its INFO, or its ERR.
     Message(u8, u16, u16),
     Ack(u8, u16),
@@ -57,7 +58,7 @@ pub struct Receiver {
 // number from before that frame, and the receiver then has 0.
 #[derive(Clone, Copy)]
 pub struct Received {
-    pub refusal: u8,
+    pub refusal: Option<Refusal>,
     pub receiver: Receiver,
     pub found: Found,
     pub dropped: u16,

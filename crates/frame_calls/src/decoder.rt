@@ -1,6 +1,5 @@
 // 01, "Frames": "The decoder takes one octet a call."
 ghost use Rattle.std.specs.Prelude.{◌≡◌, true, ◌+◌, ◌≤◌, ◌<◌, ltb, take};
-ghost use Rattle.octets.specs.Refusals.{refusal_number};
 ghost use Rattle.frame.specs.Frame.{len_fits, info_most, message_len};
 ghost use Rattle.frame.specs.Decoder.{has_info, info_due, info_whole, err_due, cks_due, idle_drops, info_goes_on, possible_of, head_at, found_at, moved, ended, opened, refused_by, idle_octet, after_aa, after_len, len_judged, after_info, kept, info_octet, info_aa_octet, close_aa_octet, close_cc_octet, cks_in, sound_by, cks_octet, step_at};
 
@@ -142,9 +141,9 @@ fn opened(h: Head, k: Kind, f: Found) -> Stepped
 
 // The refusal of the frame that is open.
 fn refused_by(h: Head, r: Refusal) -> Found
-    ensures { result ≡ refused_by h (refusal_number r) }
+    ensures { result ≡ refused_by h r }
 {
-    Found::Refused(r.number(), h.kind, h.seq, h.addr)
+    Found::Refused(r, h.kind, h.seq, h.addr)
 }
 
 // "Idle: AA is remembered, all else is dropped."

@@ -9,7 +9,7 @@ ghost use Rattle.frame.specs.Dropped.{open_at, open_in, open_most, stopped, wait
 use crate::{FRONT_LEN, decoder, writer};
 use frame::decoder::{Found, Head, Place, Received, Receiver, Stepped};
 use frame::{INFO_MOST, Kind};
-use octets::refusal::{NONE, Refusal};
+use octets::refusal::Refusal;
 
 // "The number stops at 65,535".
 const DROPPED_MOST: u16 = 65535;
@@ -76,7 +76,7 @@ fn unsound(r: Receiver) -> Received
     ensures { result ≡ received_none r }
 {
     Received {
-        refusal: Refusal::StateUnsound.number(),
+        refusal: Some(Refusal::StateUnsound),
         receiver: r,
         found: Found::Nothing,
         dropped: 0,
@@ -88,7 +88,7 @@ fn received(head: Head, kept: u16, found: Found, told: u16) -> Received
     ensures { result ≡ received_as head kept found told }
 {
     Received {
-        refusal: NONE,
+        refusal: None,
         receiver: Receiver {
             head,
             dropped: kept,

@@ -130,7 +130,7 @@ module _ (s : Held) (lent b o : List ℕ) (x : ℕ) {r : HeldAnswer} {k b' o' : 
         out = d.out;
       }
 
-module _ (s : Held) (lent b o : List ℕ) {r : HeldShown} {o' : List ℕ} (e : shown_with r lent o' ≡ second_of (joined s lent) b o) where
+module _ (s : Held) (lent b o : List ℕ) (r : HeldShown) {o' : List ℕ} (e : shown_with r lent o' ≡ second_of (joined s lent) b o) where
   -- what a second counts is in the output too
   pub second_fits : r.told.count ≤ length o'
   second_fits = let l = outputs-left.1 (joined s lent) b o in omega (arith, l.within, l.long, ap (λ (w : Shown). w.told.count) e, ap (λ (w : Shown). length w.out) e)

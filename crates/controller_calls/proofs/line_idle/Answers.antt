@@ -13,4 +13,4 @@ returns-then-not-stands c =
 pub returns : goal.returns
 returns c =
     let a = c.args in
-    rw c.tells_dropped.ensures (idle-answered a.s a.kept.now (sym (sound-joined a.s a.kept.now) ∙ sym c.if-not-stands.ensures) c.line_idle-t.ensures)
+    rw c.tells_dropped.ensures (idle-answered a.s a.kept.now c.line_idle-t.result (sym (sound-joined a.s a.kept.now) ∙ sym c.if-not-stands.ensures) c.line_idle-t.ensures)

@@ -1,5 +1,6 @@
 -- `controller_calls::octet`: one law for each way.
 use Rattle.std.proofs.Common.{◌≡◌, sym, ◌∙◌, arith, rules}
+use Rattle.octets.specs.declared.refusal.Refusal.TheVariants.{StateUnsound, BookWrong, OutputShort}
 use Rattle.controller.specs.State.{joined}
 use Rattle.controller.proofs.Laws.{octet-7, octet-8, octet-9, octet-counted}
 use Rattle.controller_calls.proofs.Held.{sound-joined, lent-enough, leaves_quiet, leaves-dropped, kept-room, leaves_kept}
@@ -10,14 +11,14 @@ returns-then-not-stands c =
     let a = c.args in
     let k = a.kept.now in
     rw (octet-7 (joined a.s k) a.book.now a.out.now a.b (sym (sound-joined a.s k) ∙ sym c.if-not-stands.ensures))
-    (leaves_quiet a.s k a.book.now a.out.now 7 c.quiet.ensures)
+    (leaves_quiet a.s k a.book.now a.out.now StateUnsound c.quiet.ensures)
 
 pub returns-in_default : goal.returns-in_default
 returns-in_default c =
     let a = c.args in
     let k = a.kept.now in
     rw (octet-8 (joined a.s k) a.book.now a.out.now a.b (sym (sound-joined a.s k) ∙ sym c.if-not-stands.ensures) (search rules))
-    (leaves_quiet a.s k a.book.now a.out.now 8 c.quiet-in_default.ensures)
+    (leaves_quiet a.s k a.book.now a.out.now BookWrong c.quiet-in_default.ensures)
 
 pub returns-then-out-lt-OUTPUT_LEN : goal.returns-then-out-lt-OUTPUT_LEN
 returns-then-out-lt-OUTPUT_LEN c =
@@ -26,7 +27,7 @@ returns-then-out-lt-OUTPUT_LEN c =
     let eb : c.in-Some.book.now ≡ a.book.now = search rules in
     rw eb
     (rw (octet-9 (joined a.s k) a.book.now a.out.now a.b (sym (sound-joined a.s k) ∙ sym c.if-not-stands.ensures) (search rules) c.if-out-lt-OUTPUT_LEN.true)
-    (leaves_quiet a.s k a.book.now a.out.now 9 c.quiet-then-out-lt-OUTPUT_LEN.ensures))
+    (leaves_quiet a.s k a.book.now a.out.now OutputShort c.quiet-then-out-lt-OUTPUT_LEN.ensures))
 
 pub returns-then-idle_drops : goal.returns-then-idle_drops
 returns-then-idle_drops c =

@@ -2,6 +2,7 @@
 use Rattle.std.proofs.Common.{◌≡◌, refl, sym, ◌∙◌, arith, rules}
 use Rattle.octets.specs.Refusal as refusal
 use Rattle.octets.specs.Refusals.{told_number}
+use Rattle.octets.specs.declared.refusal.Refusal.TheVariants.{StateUnsound}
 use Rattle.plan_calls.proofs.Read.{refused-some}
 use Rattle.controller.specs.State.{joined}
 use Rattle.controller.proofs.Laws.{offer-7}
@@ -14,13 +15,13 @@ pub returns-then-not-stands : goal.returns-then-not-stands
 returns-then-not-stands c =
     let a = c.args in
     let h = sym (sound-joined a.s a.kept.now) ∙ sym c.if-not-stands.ensures in
-    offer-quiet a.s a.kept.now a.info.now a.out.now 7 (offer-7 (joined a.s a.kept.now) a.info.now a.out.now h) c.quiet.ensures
+    offer-quiet a.s a.kept.now a.info.now a.out.now StateUnsound (offer-7 (joined a.s a.kept.now) a.info.now a.out.now h) c.quiet.ensures
 
 pub returns-in-Some : goal.returns-in-Some
 returns-in-Some c =
     let a = c.args in
     let h = sym (sound-joined a.s a.kept.now) ∙ sym c.if-not-stands.ensures in
-    offer-refused a.s a.kept.now a.info.now a.out.now h c.in-Some.ensures (refused-some _) c.quiet-in-Some.ensures
+    offer-refused a.s a.kept.now a.info.now a.out.now h c.in-Some.ensures refl (refused-some _) c.quiet-in-Some.ensures
 
 pub returns-then-s-ne0 : goal.returns-then-s-ne0
 returns-then-s-ne0 c =

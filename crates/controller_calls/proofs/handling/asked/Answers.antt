@@ -1,5 +1,5 @@
 -- `controller_calls::handling::asked` meets its contract: what the reader refuses is refused, and the code picks the law.
-use Rattle.std.proofs.Common.{◌≡◌, ℕ, ◌≤◌, List, get_or, eqb, refl, sym, ◌∙◌, rules}
+use Rattle.std.proofs.Common.{◌≡◌, ℕ, ◌≤◌, List, get_or, eqb, refl, sym, ap, ◌∙◌, rules}
 use Rattle.std.proofs.lemmas.Result.{err_from_is_err_and}
 use Rattle.octets.specs.Word.{low_of}
 use Rattle.message.specs.declared.Message.{Message}
@@ -9,6 +9,7 @@ use Rattle.message.proofs.Numbers.{field-numbers}
 use Rattle.record.specs.Record.{plans_most, empty}
 use Rattle.plan.specs.Setting.{plan_in}
 use Rattle.plan_calls.proofs.Read.{plan-asked, refused-some}
+use Rattle.controller.specs.Reply.{handled_as}
 use Rattle.controller.specs.State.{joined}
 use Rattle.controller.specs.Handling.{run_as, query_times_as, query_plan_as}
 use Rattle.controller_calls.proofs.Laws.{asked-unread, asked-run, asked-times, asked-plan, asked-running, asks-running, pick-not}
@@ -65,4 +66,4 @@ returns-in_default c kept =
     let m : a.code ≡ 0x5F44 → ⊥ = search rules in
     let o : a.code ≡ 0x5F45 → ⊥ = search rules in
     asked-running (joined a.s kept) a.book.now a.info.now c.requires.0 c.in_ok-m.ensures refl (sym c.requires.0 ∙ asks-running c.requires.1 n m o)
-    c.accepted-in_default.ensures
+    (ap handled_as c.accepted-in_default.ensures)

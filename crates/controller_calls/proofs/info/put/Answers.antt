@@ -10,7 +10,7 @@ returns-in-CarriedOut c kept = rw c.in-CarriedOut.is c.put_answer.ensures
 
 pub returns-in-Refused : goal.returns-in-Refused
 unfolding reply_info
-returns-in-Refused c kept = rw c.in-Refused.is c.put_answer-in-Refused.ensures
+returns-in-Refused c kept = rw c.in-Refused.is (rw c.number.ensures at c.put_answer-in-Refused.ensures)
 
 pub returns-in-Times : goal.returns-in-Times
 unfolding reply_info

@@ -1,6 +1,7 @@
 -- `controller_calls::replies::accepted` meets its contract: an answer is acknowledged, any other message carried out and replied to.
 use Rattle.std.proofs.Common.{[], take, sym, refl, ap, ◌∙◌}
 use Rattle.controller.specs.State.{joined}
+use Rattle.controller_calls.specs.Replies.{result_told}
 use Rattle.controller.specs.Replies.{is_answer}
 use Rattle.controller.proofs.Laws.{accepted-answer, accepted-handled}
 use Rattle.controller_calls.proofs.Putting.{kept-as-was}
@@ -12,7 +13,7 @@ pub returns-then-is_answer : goal.returns-then-is_answer
 returns-then-is_answer c came d =
     let a = c.args in
     rw (accepted-answer (joined a.s came) a.m.seq a.m.addr (take a.m.len a.kept.now) a.book.now (ap is_answer (code-kept a.m.len a.kept.now a.m.has_info.0 ∙ sym c.word.ensures) ∙ sym c.if-is_answer.ensures))
-    (record { replied = record { tells = stored-tells a.s _ _ _ c.ack-count.ensures c.unchanged.ensures came; kept = kept-as-was a.s.out a.kept.now came d }; book = refl })
+    (record { replied = record { tells = stored-tells a.s _ _ _ c.ack-count.ensures (ap result_told c.unchanged.ensures) came; kept = kept-as-was a.s.out a.kept.now came d }; book = refl })
 
 pub replied-requires : goal.replied-requires
 replied-requires c =

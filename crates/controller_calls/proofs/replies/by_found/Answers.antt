@@ -1,6 +1,7 @@
 -- `controller_calls::replies::by_found` meets its contract: what the decoder found decides.
-use Rattle.std.proofs.Common.{[], take-take}
+use Rattle.std.proofs.Common.{[], ap, take-take}
 use Rattle.frame.specs.Frame.{info_most}
+use Rattle.controller_calls.specs.Replies.{result_told, brought_as}
 use Rattle.controller_calls.proofs.Sending.{ack-sends, nak-sends}
 use Rattle.controller_calls.proofs.Written.{can-take, sent-none, brought-unchanged, brought-answered}
 use Rattle.controller_calls.proofs.replies.by_found.Goals as goal
@@ -18,12 +19,12 @@ answered-requires-in-Nak c =
 pub returns-in-Nothing : goal.returns-in-Nothing
 returns-in-Nothing c came e =
     let a = c.args in
-    rw c.in-Nothing.is (brought-unchanged a.s came a.kept.now e _ _ [] a.book.now sent-none c.unchanged.ensures c.still.ensures)
+    rw c.in-Nothing.is (brought-unchanged a.s came a.kept.now e _ _ [] a.book.now sent-none (ap result_told c.unchanged.ensures) (ap brought_as c.still.ensures))
 
 pub returns-in-Refused : goal.returns-in-Refused
 returns-in-Refused c came e =
     let a = c.args in
-    rw c.in-Refused.is (brought-unchanged a.s came a.kept.now e _ _ _ a.book.now c.nak-count.ensures c.unchanged-in-Refused.ensures c.still-in-Refused.ensures)
+    rw c.in-Refused.is (brought-unchanged a.s came a.kept.now e _ _ _ a.book.now c.nak-count.ensures (ap result_told c.unchanged-in-Refused.ensures) (ap brought_as c.still-in-Refused.ensures))
 
 pub returns-in-Message : goal.returns-in-Message
 returns-in-Message c came e =
@@ -32,9 +33,9 @@ returns-in-Message c came e =
 pub returns-in-Ack : goal.returns-in-Ack
 returns-in-Ack c came e =
     let a = c.args in
-    rw c.in-Ack.is (brought-answered a.s came a.kept.now e _ _ _ a.book.now (rw c.acked-t.ensures at c.answered.ensures) c.still-in-Ack.ensures)
+    rw c.in-Ack.is (brought-answered a.s came a.kept.now e _ _ _ a.book.now (rw c.acked-t.ensures at c.answered.ensures) (ap brought_as c.still-in-Ack.ensures))
 
 pub returns-in-Nak : goal.returns-in-Nak
 returns-in-Nak c came e =
     let a = c.args in
-    rw c.in-Nak.is (brought-answered a.s came a.kept.now e _ _ _ a.book.now (rw c.naked-t.ensures at c.answered-in-Nak.ensures) c.still-in-Nak.ensures)
+    rw c.in-Nak.is (brought-answered a.s came a.kept.now e _ _ _ a.book.now (rw c.naked-t.ensures at c.answered-in-Nak.ensures) (ap brought_as c.still-in-Nak.ensures))
