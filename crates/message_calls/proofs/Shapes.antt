@@ -8,7 +8,7 @@ use native.Mathlib.Nat.{mul-le-mul_right}
 use native.Mathlib.Omega.{arith}
 use lib.Dec.{eqb, leb}
 use lib.ListN.{length, get_or, take, drop, get_or-eq_default, length-drop}
-use lib.Seq.{get_or-drop, take_all}
+use lib.Seq.{get_or-drop, drop-drop, take_all}
 use borrow.Author.Tests.{eqb-true, eq-eqb}
 use Rattle.octets.specs.Choice.{both}
 use Rattle.octets.specs.First.{First}
@@ -25,7 +25,7 @@ use Rattle.message.proofs.Layouts.{length_cut, rows-length, rows-octets, fitting
 use Rattle.message.proofs.Ranges.{both-le}
 use Rattle.message.proofs.Values.{size-most}
 use Rattle.message_calls.specs.declared.shape.Shape.{Shape}
-use Rattle.message_calls.specs.Shape.{IsListed, place_number, shape_rows}
+use Rattle.message_calls.specs.Shape.{IsListed, NumberOut, shape_rows}
 use Rattle.std.proofs.lemmas.Slice.Zip.{get_or-zip}
 use Rattle.std.specs.Prelude.{Option, Some, None}
 use Rattle.std.proofs.lemmas.List.FromFn.{length-enumerate_from, get_or-enumerate_from}
@@ -121,24 +121,21 @@ at-any [] i d e h = absurd (omega arith)
 at-any (x ∷ xs) zero d e h = refl
 at-any (x ∷ xs) (suc i) d e h = at-any xs i d e (omega arith)
 
-abbrev pub out_of_range : Field × ℕ → Bool
-out_of_range p = not (passes p.0 p.1)
-
-module _ (fs : List Field) (vs : List ℕ) (h : length fs ≤ length vs) where
-  pair-out : (i : ℕ) → i < length fs → out_at fs vs i ≡ out_of_range (get_or (zip fs vs) i (no_field, 0))
-  pair-out i l = sym (ap out_of_range (get_or-zip fs vs i (no_field, 0) l (omega arith)))
-
-  -- the first pair that fails is the first field that does
-  pub first-pair : (r : Option ℕ)
-      → MatchOption r (AllWithin (λ p. out_of_range p ≡ false) (zip fs vs) 0 (length (zip fs vs)))
-      (λ i. (i < length (zip fs vs)) × HoldsAt (λ p. out_of_range p ≡ true) (zip fs vs) i × AllWithin (λ p. out_of_range p ≡ false) (zip fs vs) 0 i)
-      → First (out_at fs vs) (length fs) (place_number r)
-  first-pair None a = first-none (λ j l. pair-out j l ∙ a j (no_field, 0) (omega arith) (omega (arith, zip-len fs vs h)))
-  first-pair (Some i) a =
-      let n : i < length fs = omega (arith, zip-len fs vs h, a.0) in
-      first_found n (λ j l. pair-out j (omega arith) ∙ a.2 j (no_field, 0) (omega arith) l) (pair-out i n ∙ a.1 (no_field, 0))
-
 -- A turn of a loop over the fields
+
+-- the field that is next, where those ahead are all from place n on
+module _ (fs : List Field) (n : ℕ) {f : Field} {gs : List Field} (e : f ∷ gs ≡ drop n fs) where
+  pub next-there : n < length fs
+  next-there = omega (arith, ap length e, length-drop n fs)
+
+  pub next_field : f ≡ get_or fs n no_field
+  next_field = let z : n + 0 ≡ n = omega arith in rw z at (ap (λ (hs : List Field). get_or hs 0 no_field) e ∙ get_or-drop n fs 0 no_field)
+
+  pub next_ahead : gs ≡ drop (n + 1) fs
+  next_ahead = ap (drop 1) e ∙ drop-drop 1 n fs
+
+pub all-past : (fs : List Field) (n : ℕ) → [] ≡ drop n fs → length fs ≤ n
+all-past fs n e = omega (arith, ap length e, length-drop n fs)
 
 module _ (fs : List Field) (n : ℕ) (f : Field) where
   pub numbered-turn : (i : ℕ) → (n < length (enumerate_from 0 fs)) × ((i, f) ≡ get_or (enumerate_from 0 fs) n (i, f)) → (n < length fs) × (i ≡ n) × (f ≡ get_or fs n no_field)
@@ -178,9 +175,9 @@ zero-passes : (v : ℕ) → not (passes no_field v) ≡ false → v ≡ 0
 zero-passes v h = omega (arith, (both-le 0 v v 0 (not-false (passes no_field v) h)).1)
 
 module _ (fs : List Field) (vs : List ℕ) (m : length fs ≤ fields_most) where
-  pub found-out : (r : Option ℕ) → true ≡ is_some r → First (out_at fs vs) (length fs) (place_number r) → first_out fs vs ≡ 0 → ⊥
+  pub found-out : (r : Option ℕ) → true ≡ is_some r → NumberOut (out_at fs vs) (length fs) r → first_out fs vs ≡ 0 → ⊥
   found-out None q h z = clash q refl
-  found-out (Some i) q h z = omega (arith, z, first-whole fs vs h m (λ w. absurd (omega (arith, w))))
+  found-out (Some n) q h z = omega (arith, z, h.0, first-whole fs vs h.1 m (λ w. absurd (omega (arith, w, h.0))))
 
   module _ {n : ℕ} (e : n ≡ length fs) (l : length vs ≡ fields_most) where
     rest : take (fields_most - n) (drop n vs) ≡ drop n vs
@@ -194,7 +191,7 @@ module _ (fs : List Field) (vs : List ℕ) (m : length fs ≤ fields_most) where
         let o = (search-first (out_at fs vs) fields_most).none z (n + j) (omega (arith, length-drop n vs)) in
         get_or-drop n vs j 0 ∙ zero-passes (get_or vs (n + j) 0) (rw (get_or-eq_default fs no_field {n = n + j} (omega (arith, e))) at o)))
 
-    pub clear-in : (r : Option ℕ) → false ≡ is_some r → First (out_at fs vs) (length fs) (place_number r) → list_all (λ v. eqb v 0) (take (fields_most - n) (drop n vs)) ≡ true → first_out fs vs ≡ 0
+    pub clear-in : (r : Option ℕ) → false ≡ is_some r → NumberOut (out_at fs vs) (length fs) r → list_all (λ v. eqb v 0) (take (fields_most - n) (drop n vs)) ≡ true → first_out fs vs ≡ 0
     clear-in (Some i) q h c = absurd (clash (sym q) refl)
     clear-in None q h c =
         sym

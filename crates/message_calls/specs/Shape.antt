@@ -1,5 +1,6 @@
 -- The layout of a code, and a layout with its count k, as the code has them.
-use Rattle.std.specs.Prelude.{ℕ, ◌+◌, ◌≡◌, true, false, List, Option, Some, None}
+use Rattle.std.specs.Prelude.{ℕ, ◌+◌, ◌≤◌, ◌≡◌, Bool, true, false, List, Option, Some, None}
+use Rattle.octets.specs.First.{First}
 use Rattle.message.specs.declared.layout.Field.{Field}
 use Rattle.message.specs.declared.layout.LayoutLine.{LayoutLine}
 use Rattle.message.specs.Layouts.{known, k_fits, layout_rows}
@@ -27,10 +28,10 @@ ShapeOf y k (Some s) = (k_fits (kept_by y) k ≡ true) × (s.line ≡ y) × (s.k
 abbrev pub shape_rows : Shape → List Field
 shape_rows s = layout_rows (kept_by s.line) s.k
 
--- the number of a field, from 1, by its place, and 0 where none is told
-abbrev pub place_number : Option ℕ → ℕ
-place_number None = 0
-place_number (Some i) = i + 1
+-- the number, from 1, of the first of n places at which `fails` holds, and none where it holds at none
+abbrev pub NumberOut : (ℕ → Bool) → ℕ → Option ℕ → Type 0
+NumberOut fails n None = First fails n 0
+NumberOut fails n (Some r) = (1 ≤ r) × First fails n r
 
 -- the layout of a message that may be written, and none of another
 abbrev pub WritableAs : Message → Option Shape → Type 0

@@ -1,12 +1,11 @@
 // 01, "Messages": the layouts: their rows, their sizes and the ranges of their fields. What stands in a table is picked by a
 // `match`: a constant table would be built on the stack wherever it is read.
 ghost use Rattle.std.specs.Prelude.{◌≡◌, ◌+◌, ◌≤◌, length, get_or};
-ghost use Rattle.octets.specs.First.{First};
 ghost use Rattle.message.specs.Fields.{two_of, width_of, passes, no_field};
 ghost use Rattle.message.specs.Layouts.{number_of};
 ghost use Rattle.message.specs.Values.{size_of, numbered, out_at};
 ghost use Rattle.message.specs.Table.{table, table_len, cut};
-ghost use Rattle.message_calls.specs.Shape.{LineOf, place_number, shape_rows};
+ghost use Rattle.message_calls.specs.Shape.{LineOf, NumberOut, shape_rows};
 
 use crate::shape::Shape;
 use crate::walk::Walk;
@@ -104,13 +103,22 @@ pub fn passes(f: Field, v: u16) -> bool
     }
 }
 
-// "The search over fields stops at the first that fails": its place, from 0.
+// "The search over fields stops at the first that fails and yields its number".
 pub(crate) fn first_out(shape: Shape, values: &[u16; FIELDS_MOST]) -> Option<usize>
-    ensures { First (out_at (shape_rows shape) values.now) (length (shape_rows shape)) (place_number result) }
+    ensures { NumberOut (out_at (shape_rows shape) values.now) (length (shape_rows shape)) result }
 {
-    Walk::over(shape)
-        .zip(values)
-        .position(|(field, value)| !passes(field, *value))
+    let mut walk = Walk::over(shape);
+    let mut number: usize = 0;
+    loop {
+        let Some(field) = walk.next() else {
+            break None;
+        };
+        let value = values[number];
+        number += 1;
+        if !passes(field, value) {
+            break Some(number);
+        }
+    }
 }
 
 // The count k among the values; 0 where the layout has none.

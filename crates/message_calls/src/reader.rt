@@ -47,10 +47,10 @@ fn ranged(shape: Shape, part: &[u8]) -> Result<Message, Fault>
     ensures { (l : ℕ) → Kept l shape.line → reading_of result ≡ ranged_of l shape.k part.now }
 {
     let values = values(shape, part);
-    if let Some(place) = layout::first_out(shape, &values) {
+    if let Some(number) = layout::first_out(shape, &values) {
         return Err(Fault {
             refusal: Refusal::OutOfRange,
-            field: (place + 1) as u8,
+            field: number as u8,
         });
     }
     Ok(Message {

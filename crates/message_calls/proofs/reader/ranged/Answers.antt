@@ -9,18 +9,15 @@ use Rattle.message_calls.specs.Shape.{shape_rows}
 use Rattle.message_calls.proofs.Shapes.{rows-most, rows-by, first-whole}
 use Rattle.message_calls.proofs.reader.ranged.Goals as goal
 
-pub overflow_add-result : goal.overflow_add-result
-overflow_add-result c = let w = c.in-Some.ensures.within in omega (arith, rows-most c.args.shape)
-
 pub overflow_cast-result : goal.overflow_cast-result
-overflow_cast-result c = let w = c.in-Some.ensures.within in omega (arith, rows-most c.args.shape)
+overflow_cast-result c = let w = c.in-Some.ensures.1.within in omega (arith, rows-most c.args.shape)
 
 pub returns-in-Some : goal.returns-in-Some
 unfolding ranged_of part_of
 returns-in-Some c =
     let s = c.args.shape in
-    let n : c.in-Some.place + 1 ≡ 0 → ⊥ = λ z. omega (arith, z) in
-    let e : c.in-Some.place + 1 ≡ first_out (shape_rows s) c.values-values.result = first-whole (shape_rows s) c.values-values.result c.in-Some.ensures (rows-most s) (λ z. absurd (n z)) in
+    let n : c.in-Some.number ≡ 0 → ⊥ = λ z. omega (arith, z, c.in-Some.ensures.0) in
+    let e : c.in-Some.number ≡ first_out (shape_rows s) c.values-values.result = first-whole (shape_rows s) c.values-values.result c.in-Some.ensures.1 (rows-most s) (λ z. absurd (n z)) in
     λ l h. rw (← rows-by s h, ← c.values-values.ensures, ← e, ne_eqb _ _ n)
 
 pub returns : goal.returns
