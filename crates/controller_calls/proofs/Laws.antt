@@ -1,12 +1,13 @@
 -- What the functions' proofs rest on: one law for each way through.
 use Rattle.std.specs.Prelude.{⊤, Ok, Err}
-use Rattle.std.proofs.Common.{◌≡◌, ℕ, ◌<◌, ◌≤◌, Bool, true, false, not, eqb, leb, ◌⊎◌, List, [], length, take, sym, refl, ap, ◌∙◌, subst, inl, inr, arith, take_all, Bor, le-ltb, lt-ltb, eq-eqb, ne_eqb, le-leb}
+use Rattle.std.proofs.Common.{◌≡◌, ℕ, ◌+◌, ◌<◌, ◌≤◌, Bool, true, false, not, eqb, leb, ◌⊎◌, List, [], length, take, sym, refl, ap, ◌∙◌, subst, inl, inr, arith, take_all, Bor, le-ltb, lt-ltb, eq-eqb, ne_eqb, le-leb}
 use native.Mathlib.Decide.{dec_le, ℕ_discrete}
 use borrow.Author.Tests.{lt-leb}
 use Rattle.octets.specs.Choice.{pick, both}
 use Rattle.octets.specs.Part.{PartOf}
 use Rattle.octets.specs.Refusal as refusal
 use Rattle.octets.specs.Refusals.{refusal_number}
+use Rattle.octets.specs.Word.{high_of, low_of}
 use Rattle.octets.specs.Same.{same}
 use Rattle.octets.proofs.Laws.{same-is}
 use Rattle.message.specs.declared.Fault.{Fault}
@@ -140,14 +141,24 @@ module _ (info : List ℕ) where
       by (inr (inr (inr e))) = inr (inr (inr (omega (arith, ec, a.octets, e))))
 
 -- the last of the four is left
-pub asks-running : {code second : ℕ} → Asks code second → (code ≡ run_code → ⊥) → (code ≡ query_times_code → ⊥) → (code ≡ query_plan_code → ⊥) → code ≡ query_running_code
-asks-running {code} {second} a f g h = by a.one
-  where
-    by : (second ≡ 0x18) ⊎ ((second ≡ 0x44) ⊎ ((second ≡ 0x45) ⊎ (second ≡ 0x48))) → code ≡ query_running_code
-    by (inl e) = absurd (f (omega (arith, a.octets, e)))
-    by (inr (inl e)) = absurd (g (omega (arith, a.octets, e)))
-    by (inr (inr (inl e))) = absurd (h (omega (arith, a.octets, e)))
-    by (inr (inr (inr e))) = omega (arith, a.octets, e)
+pub asks-running : {second : ℕ} → (second ≡ 0x18) ⊎ ((second ≡ 0x44) ⊎ ((second ≡ 0x45) ⊎ (second ≡ 0x48))) → (second ≡ 0x18 → ⊥) → (second ≡ 0x44 → ⊥) → (second ≡ 0x45 → ⊥)
+    → second ≡ 0x48
+asks-running (inl e) f g h = absurd (f e)
+asks-running (inr (inl e)) f g h = absurd (g e)
+asks-running (inr (inr (inl e))) f g h = absurd (h e)
+asks-running (inr (inr (inr e))) f g h = e
+
+-- The octets of a code
+
+module _ {code j : ℕ} where
+  pub high-other : j < 256 → (high_of code ≡ 0x5F → ⊥) → code ≡ 0x5F00 + j → ⊥
+  high-other l n e = n (omega (arith, l, e))
+
+  pub low-other : j < 256 → (low_of code ≡ j → ⊥) → code ≡ 0x5F00 + j → ⊥
+  low-other l n e = n (omega (arith, l, e))
+
+  pub code_is : high_of code ≡ 0x5F → low_of code ≡ j → code ≡ 0x5F00 + j
+  code_is h e = omega (arith, h, e)
 
 -- what a set answers
 module _ (code requested : ℕ) where

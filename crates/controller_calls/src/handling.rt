@@ -1,7 +1,6 @@
 // 01, "Messages": "The controller handles 14, 15, 18, 44, 45, 48": what each does, and which reply it gets.
 ghost use Rattle.std.specs.Prelude.{◌≡◌, ◌≤◌, length};
 ghost use Rattle.octets.specs.Part.{code_len};
-ghost use Rattle.octets.specs.Word.{low_of};
 ghost use Rattle.message.specs.Reader.{code_in};
 ghost use Rattle.record.specs.Record.{plans_most};
 ghost use Rattle.checks.specs.Standing.{standing_of};
@@ -28,6 +27,21 @@ const NOT_READY: Fault = Fault {
     field: message::PLAN,
 };
 
+// The first octet of the codes that are handled, and the second of each.
+const CODE_HIGH: u8 = (message::SET_TIMES / 256) as u8;
+
+const SET_TIMES: u8 = (message::SET_TIMES % 256) as u8;
+
+const SET_PLAN: u8 = (message::SET_PLAN % 256) as u8;
+
+const RUN: u8 = (message::RUN % 256) as u8;
+
+const QUERY_TIMES: u8 = (message::QUERY_TIMES % 256) as u8;
+
+const QUERY_PLAN: u8 = (message::QUERY_PLAN % 256) as u8;
+
+const QUERY_RUNNING: u8 = (message::QUERY_RUNNING % 256) as u8;
+
 // The message that INFO holds, carried out or refused.
 pub(crate) fn carry_out(s: Held, book: &mut [u8; BOOK_LEN], info: &[u8]) -> Handled
     requires { code_len ≤ length info.now }
@@ -44,42 +58,50 @@ fn handled(s: Held, code: u16, book: &mut [u8; BOOK_LEN], info: &[u8]) -> Result
     requires { code ≡ code_in info.now }
     ensures { HandledWith s book.old info.now (handled_by code s.requested result) book.new }
 {
+    if octets::high(code) != CODE_HIGH {
+        return Err(NOT_HANDLED);
+    }
     let done = accepted(s.requested, Reply::CarriedOut(code));
-    match code {
-        message::SET_TIMES => {
+    let second = octets::low(code);
+    match second {
+        SET_TIMES => {
             setting::set_times(book, info)?;
             Ok(done)
         }
-        message::SET_PLAN => {
+        SET_PLAN => {
             setting::set_plan(book, info)?;
             Ok(done)
         }
-        message::RUN | message::QUERY_TIMES | message::QUERY_PLAN | message::QUERY_RUNNING => {
-            asked(s, code, book, info)
-        }
+        RUN | QUERY_TIMES | QUERY_PLAN | QUERY_RUNNING => asked(s, code, second, book, info),
         _ => Err(NOT_HANDLED),
     }
 }
 
-// A message that leaves the book, of this code: read, and then by what was read.
-fn asked(s: Held, code: u16, book: &[u8; BOOK_LEN], info: &[u8]) -> Result<Handled, Fault>
-    requires { (code ≡ code_in info.now) × Asks code (low_of code) }
+// A message that leaves the book, of this code with this second octet: read, and then by what was read.
+fn asked(
+    s: Held,
+    code: u16,
+    second: u8,
+    book: &[u8; BOOK_LEN],
+    info: &[u8],
+) -> Result<Handled, Fault>
+    requires { (code ≡ code_in info.now) × Asks code second }
     ensures { HandledWith s book.now info.now (handled_by code s.requested result) book.now }
 {
     let m = reader::read(info)?;
     let plan = octets::low(m.values[message::PLAN_AT]);
     let which = s.running.which;
-    match code {
+    match second {
         // "5F 18 notes the requested plan."
-        message::RUN => {
+        RUN => {
             let ready = standing(which, book, plan) == record::READY;
             done_if(ready, accepted(plan, Reply::CarriedOut(code)))
         }
-        message::QUERY_TIMES => {
+        QUERY_TIMES => {
             let set = standing(which, book, plan) != record::EMPTY;
             done_if(set, accepted(s.requested, Reply::Times(plan)))
         }
-        message::QUERY_PLAN => {
+        QUERY_PLAN => {
             let ready = standing(which, book, plan) == record::READY;
             done_if(ready, accepted(s.requested, Reply::Plan(plan)))
         }

@@ -30,7 +30,7 @@ pub(crate) fn is_repeat(last: Last, m: Incoming, kept: &[u8]) -> bool
         return false;
     }
     let end = m.len as usize;
-    kept[..end] == kept[INFO_MOST..INFO_MOST + end]
+    octets::same(&kept[..end], &kept[INFO_MOST..INFO_MOST + end])
 }
 
 // The frame is accepted: its INFO is kept behind those of the decoder.
