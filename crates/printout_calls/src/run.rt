@@ -4,7 +4,7 @@ ghost use Rattle.controller.specs.State.{joined};
 ghost use Rattle.controller.specs.Seconds.{started_of, StartsWith};
 ghost use Rattle.octets.specs.Put.{Put};
 ghost use Rattle.printout.specs.Listing.{octet_line};
-ghost use Rattle.printout.specs.Run.{own, listing_wait, Listed, start_asked, run_start, second_made, BadWith, octet_made, line_made};
+ghost use Rattle.printout.specs.Run.{own, listing_wait, Listed, is_old, start_asked, run_start, second_made, BadWith, octet_made, line_made};
 
 use controller::{HeldAnswer, Link};
 use line::LineFound;
@@ -22,15 +22,23 @@ pub const WORD_LEN: usize = 3;
 
 // 02, E1: "the plain start takes the new one"; the word `old` asks for the other. `words` is how many words stand after the
 // program's name, and `word` is the first of them. `None`: the program does not know them.
-#[tactic(auto, unfolding(printout::specs::Run::start_asked, printout::specs::Run::is_old))]
+#[tactic(auto, unfolding(printout::specs::Run::start_asked))]
 pub fn start_asked(words: usize, word: &[u8]) -> Option<Which>
     ensures { result ≡ start_asked words word.now }
 {
-    match (words, word) {
-        (0, _) => Some(Which::New),
-        (1, b"old") => Some(Which::Old),
+    match words {
+        0 => Some(Which::New),
+        1 if is_old(word) => Some(Which::Old),
         _ => None,
     }
+}
+
+// Whoever lends room for the word lends `WORD_LEN` octets, so that number is asked too.
+#[tactic(auto, unfolding(printout::specs::Run::is_old))]
+fn is_old(word: &[u8]) -> bool
+    ensures { result ≡ is_old word.now }
+{
+    word.len() == WORD_LEN && matches!(word, b"old")
 }
 
 // A fresh start, with nothing in the text.
