@@ -65,7 +65,7 @@ pub fn write_ack(seq: u8, addr: u16, out: &mut [u8], at: usize) -> Result<usize,
 {
     let f = crate::front(Kind::Ack, seq, addr, ACK_LEN);
     let e = [octets::exclusive_or(0, &f)];
-    write_parts(&f, &[], &[], &e, out, at)
+    write_plain(&f, &e, out, at)
 }
 
 pub fn write_nak(seq: u8, addr: u16, err: u8, out: &mut [u8], at: usize) -> Result<usize, Refusal>
@@ -76,7 +76,7 @@ pub fn write_nak(seq: u8, addr: u16, err: u8, out: &mut [u8], at: usize) -> Resu
         err,
         octets::exclusive_or(octets::exclusive_or(0, &f), &[err]),
     ];
-    write_parts(&f, &[], &[], &e, out, at)
+    write_plain(&f, &e, out, at)
 }
 
 // "n from 2 to 256", of INFO in two runs
@@ -107,6 +107,20 @@ fn write_parts(
     let q = put_doubled(rest, &mut *out, h);
     octets::put(end, &mut *out, q);
     Ok(need)
+}
+
+// A frame without INFO: its front and its end, where there is room for both.
+fn write_plain(front: &[u8], end: &[u8], out: &mut [u8], at: usize) -> Result<usize, Refusal>
+    requires { (length front.now ≤ info_most) × (length end.now ≤ info_most) }
+    ensures { WriterLeaves (written_as (front.now ++ end.now) at out.old) (written_of result) out.new }
+{
+    let n = front.len() + end.len();
+    if !octets::room(out.len(), at, n) {
+        return Err(Refusal::OutputShort);
+    }
+    let p = octets::put(front, &mut *out, at);
+    octets::put(end, &mut *out, p);
+    Ok(n)
 }
 
 // How many octets INFO is as sent.

@@ -1,11 +1,10 @@
--- `frame_calls::writer::write_ack`: its parts are those of an ACK, which has no INFO to double.
+-- `frame_calls::writer::write_ack`: its parts are those of an ACK.
 use Rattle.std.proofs.Common.{refl}
-use Rattle.frame.specs.Frame.{ack, doubled}
+use Rattle.frame.specs.Frame.{ack}
 use Rattle.frame.proofs.Laws.{ack-parts, write_as}
 use Rattle.frame_calls.proofs.writer.write_ack.Goals as goal
 
 pub returns : goal.returns
-unfolding doubled
 returns c =
     let a = c.args in
-    write_as (ack a.seq a.addr) a.out.now a.at refl (ack-parts a.seq a.addr c.front-f.ensures c.exclusive_or.ensures) c.write_parts.ensures
+    write_as (ack a.seq a.addr) a.out.now a.at refl (ack-parts a.seq a.addr c.front-f.ensures c.exclusive_or.ensures) c.write_plain.ensures
