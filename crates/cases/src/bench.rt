@@ -1,10 +1,9 @@
-// The decoder and the writers put to work aloud.
+// The decoder and the writers put to work aloud. A write that fails within a line is let go: the one that ends the line tells.
 use crate::reading::LentDecoder;
-use crate::say::HexOctets;
+use crate::say::{Decimal, HexOctets};
 use crate::words::FrameWord;
 use crate::{script, writing};
 use frame::Kind;
-use std::io;
 
 // The decoder, where the next frame is written, and how long the last one was.
 #[derive(Clone, Copy)]
@@ -23,13 +22,7 @@ impl Bench {
         }
     }
 
-    pub(crate) fn done(
-        &mut self,
-        rt: &impl Print,
-        w: FrameWord,
-        o: &[u8],
-        out: &mut [u8],
-    ) -> io::Result<()> {
+    pub(crate) fn done(&mut self, rt: &impl Print, w: FrameWord, o: &[u8], out: &mut [u8]) {
         match w {
             FrameWord::Read => self.read(rt, o, out),
             FrameWord::Idle => self.decoder.idle(rt),
@@ -40,33 +33,33 @@ impl Bench {
             FrameWord::Ack => self.write(rt, Kind::Ack, o, out),
             FrameWord::Nak => self.write(rt, Kind::Nak, o, out),
             FrameWord::Compose => self.compose(rt, o, out),
-            FrameWord::Output => print!(rt; "\toutput {}", HexOctets(out)),
+            FrameWord::Output => {
+                let _ = print!(rt; "\toutput {}", HexOctets(out));
+            }
         }
     }
 
     // The octets given or, where there are none, those that were written last.
-    fn read(&mut self, rt: &impl Print, o: &[u8], out: &[u8]) -> io::Result<()> {
+    fn read(&mut self, rt: &impl Print, o: &[u8], out: &[u8]) {
         if o.is_empty() {
             let last = script::first(script::rest(out, self.at), self.written);
-            print!(rt; "\tread back")?;
+            let _ = print!(rt; "\tread back");
             return self.decoder.read(rt, last);
         }
-        print!(rt; "\tread {}", HexOctets(o))?;
-        self.decoder.read(rt, o)
+        let _ = print!(rt; "\tread {}", HexOctets(o));
+        self.decoder.read(rt, o);
     }
 
-    fn place(&mut self, rt: &impl Print, at: u16) -> io::Result<()> {
+    fn place(&mut self, rt: &impl Print, at: u16) {
         self.at = usize::from(at);
-        print!(rt; "\tplace {at}")
+        let _ = print!(rt; "\tplace {}", Decimal(self.at));
     }
 
-    fn write(&mut self, rt: &impl Print, k: Kind, o: &[u8], out: &mut [u8]) -> io::Result<()> {
-        self.written = writing::write(rt, k, o, out, self.at)?;
-        Ok(())
+    fn write(&mut self, rt: &impl Print, k: Kind, o: &[u8], out: &mut [u8]) {
+        self.written = writing::write(rt, k, o, out, self.at);
     }
 
-    fn compose(&mut self, rt: &impl Print, o: &[u8], out: &mut [u8]) -> io::Result<()> {
-        self.written = writing::compose(rt, o, out, self.at)?;
-        Ok(())
+    fn compose(&mut self, rt: &impl Print, o: &[u8], out: &mut [u8]) {
+        self.written = writing::compose(rt, o, out, self.at);
     }
 }

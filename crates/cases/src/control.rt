@@ -1,14 +1,15 @@
 // The controller's calls made aloud: what was handed in, and what came back.
+// A write that fails within a line is let go: the one that ends the line tells.
 use crate::say::{
-    Address, Dropped, Ended, Happened, HexOctets, RefusedAtOctet, RefusedCall, SecondShown,
+    Address, Decimal, Dropped, Ended, Happened, Hex2, HexOctets, RefusedAtOctet, RefusedCall,
+    SecondShown,
 };
 use crate::script;
 use crate::words::CallWord;
-use controller::{Held, HeldShown, KEPT_LEN, Link, OUTPUT_LEN, Told};
+use controller::{Event, Held, HeldShown, KEPT_LEN, Link, OUTPUT_LEN, Told};
 use frame_calls::writer;
 use plan::Which;
 use record::BOOK_LEN;
-use std::io;
 
 // The controller's own address at first, and its T where none is given.
 const OWN: u16 = 0x0001;
@@ -42,13 +43,7 @@ impl Post {
         }
     }
 
-    pub(crate) fn done(
-        &mut self,
-        rt: &impl Print,
-        w: CallWord,
-        o: &[u8],
-        output: &mut [u8],
-    ) -> io::Result<()> {
+    pub(crate) fn done(&mut self, rt: &impl Print, w: CallWord, o: &[u8], output: &mut [u8]) {
         let own = self.state.own;
         let out = script::first_mut(output, self.output_lent);
         match w {
@@ -66,7 +61,7 @@ impl Post {
     }
 
     // A fresh start with this built-in plan: the own address is given, and a T behind it or none.
-    fn start(&mut self, rt: &impl Print, which: Which, o: &[u8]) -> io::Result<()> {
+    fn start(&mut self, rt: &impl Print, which: Which, o: &[u8]) {
         let own = octets::word_at(o, 0);
         let wait = o.get(2).copied().unwrap_or(WAIT);
         let (f, plan) = match which {
@@ -77,37 +72,38 @@ impl Post {
             ),
         };
         self.state = f.state;
-        print!(rt; "\tfresh {}{plan}", Address(own))?;
+        let _ = print!(rt; "\tfresh {}{plan}", Address(own));
         if wait != WAIT {
-            print!(rt; ", T = {wait}")?;
+            let _ = print!(rt; ", T = {}", Decimal(usize::from(wait)));
         }
-        print!(rt; "{}", RefusedCall(f.told.refusal))
+        let _ = print!(rt; "{}", RefusedCall(f.told.refusal));
     }
 
     // Book and output are from now on so long, two octets each.
-    fn lend(&mut self, rt: &impl Print, o: &[u8]) -> io::Result<()> {
+    fn lend(&mut self, rt: &impl Print, o: &[u8]) {
         self.book_lent = usize::from(octets::word_at(o, 0));
         self.output_lent = usize::from(octets::word_at(o, 2));
-        print!(rt;
+        let _ = print!(rt;
             "\tlent a book of {} and an output of {}",
-            self.book_lent, self.output_lent
-        )
+            Decimal(self.book_lent),
+            Decimal(self.output_lent)
+        );
     }
 
-    fn take_aloud(&mut self, rt: &impl Print, o: &[u8], out: &mut [u8]) -> io::Result<()> {
-        print!(rt; "\ttake {}", HexOctets(o))?;
-        self.take(rt, o, out)
+    fn take_aloud(&mut self, rt: &impl Print, o: &[u8], out: &mut [u8]) {
+        let _ = print!(rt; "\ttake {}", HexOctets(o));
+        self.take(rt, o, out);
     }
 
     // Hands the octets over one by one; what the last of them tells of octets dropped is said.
-    fn take(&mut self, rt: &impl Print, o: &[u8], out: &mut [u8]) -> io::Result<()> {
+    fn take(&mut self, rt: &impl Print, o: &[u8], out: &mut [u8]) {
         let mut dropped = 0;
         for (number, b) in (1..=o.len()).zip(o) {
             let told = self.octet(*b, &mut *out);
-            say_told(rt, told, number, out)?;
+            say_told(rt, told, number, out);
             dropped = told.dropped;
         }
-        print!(rt; "{}", Dropped(dropped))
+        let _ = print!(rt; "{}", Dropped(dropped));
     }
 
     // The octet call.
@@ -119,27 +115,20 @@ impl Post {
     }
 
     // A message frame to this address: the octets given are its SEQ and its INFO.
-    fn send(&mut self, rt: &impl Print, addr: u16, o: &[u8], out: &mut [u8]) -> io::Result<()> {
-        print!(rt; "\tsend {}: {}", Address(addr), HexOctets(o))?;
-        self.hand_over(rt, addr, octets::octet_at(o, 0), script::rest(o, 1), out)
+    fn send(&mut self, rt: &impl Print, addr: u16, o: &[u8], out: &mut [u8]) {
+        let _ = print!(rt; "\tsend {}: {}", Address(addr), HexOctets(o));
+        self.hand_over(rt, addr, octets::octet_at(o, 0), script::rest(o, 1), out);
     }
 
-    fn hand_over(
-        &mut self,
-        rt: &impl Print,
-        addr: u16,
-        seq: u8,
-        info: &[u8],
-        out: &mut [u8],
-    ) -> io::Result<()> {
+    fn hand_over(&mut self, rt: &impl Print, addr: u16, seq: u8, info: &[u8], out: &mut [u8]) {
         let mut frame = [0u8; OUTPUT_LEN];
         let count = writer::write_message(seq, addr, info, &mut frame, 0).unwrap_or(0);
-        self.take(rt, script::first(&frame, count), out)
+        self.take(rt, script::first(&frame, count), out);
     }
 
     // A message 256 times, each with the SEQ after that of the one before, since with the same SEQ it would be a repeat; what comes of all but the
     // last is not said.
-    fn keep(&mut self, rt: &impl Print, o: &[u8], out: &mut [u8]) -> io::Result<()> {
+    fn keep(&mut self, rt: &impl Print, o: &[u8], out: &mut [u8]) {
         let own = self.state.own;
         let seq = octets::octet_at(o, 0);
         let info = script::rest(o, 1);
@@ -147,12 +136,13 @@ impl Post {
             self.unheard_pair(seq.wrapping_add(i), info, &mut *out);
         }
         let last = seq.wrapping_add(SILENT);
-        print!(rt;
-            "\t255 times in silence, then\tsend {}: {last:02X} {}",
+        let _ = print!(rt;
+            "\t255 times in silence, then\tsend {}: {} {}",
             Address(own),
+            Hex2(last),
             HexOctets(info)
-        )?;
-        self.hand_over(rt, own, last, info, out)
+        );
+        self.hand_over(rt, own, last, info, out);
     }
 
     // A message frame to its own address and the ACK of its reply, whatever is told.
@@ -172,67 +162,71 @@ impl Post {
         }
     }
 
-    fn line_idle(&mut self, rt: &impl Print) -> io::Result<()> {
+    fn line_idle(&mut self, rt: &impl Print) {
         let a = controller_calls::line_idle(self.state, &self.kept);
         self.state = a.state;
         let told = a.told;
-        print!(rt;
+        let _ = print!(rt;
             "\tline-idle call{}{}",
             RefusedCall(told.refusal),
             Dropped(told.dropped)
-        )
+        );
     }
 
     // A message of the host's own.
-    fn offer(&mut self, rt: &impl Print, o: &[u8], out: &mut [u8]) -> io::Result<()> {
+    fn offer(&mut self, rt: &impl Print, o: &[u8], out: &mut [u8]) {
         let a = controller_calls::offer(self.state, &mut self.kept, o, &mut *out);
         self.state = a.state;
         let told = a.told;
-        print!(rt; "\toffer {}{}", HexOctets(o), RefusedCall(told.refusal))?;
+        let _ = print!(rt; "\toffer {}{}", HexOctets(o), RefusedCall(told.refusal));
         if told.refusal.is_none() {
-            print!(rt; "\tsent {}", HexOctets(script::first(out, told.count)))?;
+            let _ = print!(rt; "\tsent {}", HexOctets(script::first(out, told.count)));
         }
-        Ok(())
     }
 
     // So many seconds; what the link does in each is said, and what the last of them shows.
-    fn wait(&mut self, rt: &impl Print, count: usize, out: &mut [u8]) -> io::Result<()> {
-        print!(rt; "\twait {count}")?;
+    fn wait(&mut self, rt: &impl Print, count: usize, out: &mut [u8]) {
+        let _ = print!(rt; "\twait {}", Decimal(count));
         let mut last = None;
         for number in 1..=count {
-            last = Some(self.second(rt, number, &mut *out)?);
+            last = Some(self.second(rt, number, &mut *out));
         }
-        match last {
-            Some(shown) => print!(rt; "{}", SecondShown(shown)),
-            None => Ok(()),
+        if let Some(shown) = last {
+            let _ = print!(rt; "{}", SecondShown(shown));
         }
     }
 
-    fn second(&mut self, rt: &impl Print, number: usize, out: &mut [u8]) -> io::Result<HeldShown> {
+    fn second(&mut self, rt: &impl Print, number: usize, out: &mut [u8]) -> HeldShown {
         let book = script::first(&self.book, self.book_lent);
         let w = controller_calls::second(self.state, &self.kept, book, &mut *out);
         self.state = w.state;
         let link = w.told.link;
         if !matches!(link, Link::Still) {
             let ended = Ended(link, script::first(out, w.told.count));
-            print!(rt; ", after {number} {ended}")?;
+            let _ = print!(rt; ", after {} {ended}", Decimal(number));
         }
-        Ok(w)
+        w
     }
 }
 
 // What octet number `number` told, and what it wrote.
-fn say_told(rt: &impl Print, told: Told, number: usize, out: &[u8]) -> io::Result<()> {
-    let refused = RefusedAtOctet {
-        number,
-        refusal: told.refusal,
-        parameter: told.parameter,
-    };
+fn say_told(rt: &impl Print, told: Told, number: usize, out: &[u8]) {
+    // Most octets have nothing to say, and a `print!` of nothing still costs its buffer.
+    if told.refusal.is_some() {
+        let refused = RefusedAtOctet {
+            number,
+            refusal: told.refusal,
+            parameter: told.parameter,
+        };
+        let _ = print!(rt; "{refused}");
+    }
+    if !matches!(told.event, Event::Nothing) {
+        let _ = print!(rt; "{}", Happened(told.event));
+    }
     let written = script::first(out, told.count);
-    print!(rt; "{refused}{}", Happened(told.event))?;
-    match told.link {
+    let _ = match told.link {
         Link::Still if written.is_empty() => Ok(()),
         Link::Still => print!(rt; "\treply {}", HexOctets(written)),
         link => print!(rt; "\t{}", Ended(link, written)),
-    }
+    };
 }

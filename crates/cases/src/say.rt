@@ -1,4 +1,4 @@
-// What is printed, thing by thing. A thing that says nothing where there is nothing to say brings its own tab.
+// What is printed, thing by thing. A thing that says nothing where there is nothing to say brings its own tab. The digits are those of `text`.
 use crate::script;
 use controller::{Event, HeldShown, Link};
 use frame::Kind;
@@ -8,6 +8,48 @@ use std::fmt;
 
 // So many of one octet in a row are counted.
 const COUNTED: usize = 4;
+
+// An octet in two hexadecimal digits.
+#[derive(Clone, Copy)]
+pub(crate) struct Hex2(pub(crate) u8);
+
+impl fmt::Display for Hex2 {
+    fn fmt<W: fmt::Write>(&self, f: &mut fmt::Formatter<W>) -> fmt::Result {
+        let mut digits = [0u8; 2];
+        text::put_hex2(self.0, &mut digits, 0);
+        write_digits(f, &digits)
+    }
+}
+
+// A lamp word in sixteen digits, as in the listing.
+#[derive(Clone, Copy)]
+struct Hex16(u64);
+
+impl fmt::Display for Hex16 {
+    fn fmt<W: fmt::Write>(&self, f: &mut fmt::Formatter<W>) -> fmt::Result {
+        let mut digits = [0u8; 16];
+        text::put_hex16(self.0, &mut digits, 0);
+        write_digits(f, &digits)
+    }
+}
+
+#[derive(Clone, Copy)]
+pub(crate) struct Decimal(pub(crate) usize);
+
+impl fmt::Display for Decimal {
+    fn fmt<W: fmt::Write>(&self, f: &mut fmt::Formatter<W>) -> fmt::Result {
+        let mut digits = [0u8; 20];
+        let end = text::put_decimal(self.0 as u64, &mut digits, 0);
+        write_digits(f, script::first(&digits, end))
+    }
+}
+
+fn write_digits<W: fmt::Write>(f: &mut fmt::Formatter<W>, digits: &[u8]) -> fmt::Result {
+    for digit in digits {
+        f.write_char(char::from(*digit))?;
+    }
+    Ok(())
+}
 
 // Octets parted by blanks, as an action has them.
 #[derive(Clone, Copy)]
@@ -34,11 +76,13 @@ struct Run<'a>(&'a [u8]);
 impl fmt::Display for Run<'_> {
     fn fmt<W: fmt::Write>(&self, f: &mut fmt::Formatter<W>) -> fmt::Result {
         match self.0 {
-            [b, ..] if self.0.len() >= COUNTED => write!(f, "x{} {b:02X}", self.0.len()),
+            [b, ..] if self.0.len() >= COUNTED => {
+                write!(f, "x{} {}", Decimal(self.0.len()), Hex2(*b))
+            }
             [b, rest @ ..] => {
-                write!(f, "{b:02X}")?;
+                write!(f, "{}", Hex2(*b))?;
                 for c in rest {
-                    write!(f, " {c:02X}")?;
+                    write!(f, " {}", Hex2(*c))?;
                 }
                 Ok(())
             }
@@ -53,7 +97,7 @@ pub(crate) struct Address(pub(crate) u16);
 impl fmt::Display for Address {
     fn fmt<W: fmt::Write>(&self, f: &mut fmt::Formatter<W>) -> fmt::Result {
         let [high, low] = self.0.to_be_bytes();
-        write!(f, "{high:02X} {low:02X}")
+        write!(f, "{} {}", Hex2(high), Hex2(low))
     }
 }
 
@@ -68,7 +112,7 @@ impl fmt::Display for FrameHead {
             Kind::Ack => "ACK",
             Kind::Nak => "NAK",
         };
-        write!(f, "{kind} {:02X} {}", self.1, Address(self.2))
+        write!(f, "{kind} {} {}", Hex2(self.1), Address(self.2))
     }
 }
 
@@ -96,11 +140,11 @@ pub(crate) struct Brought<'a> {
 
 impl fmt::Display for Brought<'_> {
     fn fmt<W: fmt::Write>(&self, f: &mut fmt::Formatter<W>) -> fmt::Result {
-        let n = self.number;
+        let n = Decimal(self.number);
         match self.found {
             Found::Nothing => Ok(()),
             Found::Refused(why, kind, seq, addr) => {
-                let r = why.number();
+                let r = Decimal(usize::from(why.number()));
                 let head = FrameHead(kind, seq, addr);
                 write!(f, "\toctet {n}: refusal {r}, {head}")
             }
@@ -112,7 +156,7 @@ impl fmt::Display for Brought<'_> {
             Found::Ack(seq, addr) => write!(f, "\toctet {n}: {}", FrameHead(Kind::Ack, seq, addr)),
             Found::Nak(seq, addr, err) => {
                 let head = FrameHead(Kind::Nak, seq, addr);
-                write!(f, "\toctet {n}: {head}, ERR {err:02X}")
+                write!(f, "\toctet {n}: {head}, ERR {}", Hex2(err))
             }
         }
     }
@@ -126,7 +170,7 @@ impl fmt::Display for Dropped {
     fn fmt<W: fmt::Write>(&self, f: &mut fmt::Formatter<W>) -> fmt::Result {
         match self.0 {
             0 => Ok(()),
-            n => write!(f, "\tdropped {n}"),
+            n => write!(f, "\tdropped {}", Decimal(usize::from(n))),
         }
     }
 }
@@ -139,7 +183,10 @@ impl fmt::Display for RefusedCall {
     fn fmt<W: fmt::Write>(&self, f: &mut fmt::Formatter<W>) -> fmt::Result {
         match self.0 {
             None => Ok(()),
-            Some(why) => write!(f, "\tcall refused {}", why.number()),
+            Some(why) => {
+                let r = Decimal(usize::from(why.number()));
+                write!(f, "\tcall refused {r}")
+            }
         }
     }
 }
@@ -154,14 +201,15 @@ pub(crate) struct RefusedAtOctet {
 
 impl fmt::Display for RefusedAtOctet {
     fn fmt<W: fmt::Write>(&self, f: &mut fmt::Formatter<W>) -> fmt::Result {
-        let n = self.number;
         let Some(why) = self.refusal else {
             return Ok(());
         };
-        let r = why.number();
+        let n = Decimal(self.number);
+        let r = Decimal(usize::from(why.number()));
+        write!(f, "\toctet {n}: refusal {r}")?;
         match self.parameter {
-            0 => write!(f, "\toctet {n}: refusal {r}"),
-            parameter => write!(f, "\toctet {n}: refusal {r}, parameter {parameter}"),
+            0 => Ok(()),
+            parameter => write!(f, ", parameter {}", Decimal(usize::from(parameter))),
         }
     }
 }
@@ -174,8 +222,8 @@ impl fmt::Display for Happened {
     fn fmt<W: fmt::Write>(&self, f: &mut fmt::Formatter<W>) -> fmt::Result {
         match self.0 {
             Event::Nothing => Ok(()),
-            Event::Ack(seq) => write!(f, "\tevent ACK {seq:02X}"),
-            Event::Nak(seq, err) => write!(f, "\tevent NAK {seq:02X} {err:02X}"),
+            Event::Ack(seq) => write!(f, "\tevent ACK {}", Hex2(seq)),
+            Event::Nak(seq, err) => write!(f, "\tevent NAK {} {}", Hex2(seq), Hex2(err)),
         }
     }
 }
@@ -201,7 +249,6 @@ pub(crate) struct SecondShown(pub(crate) HeldShown);
 
 impl fmt::Display for SecondShown {
     fn fmt<W: fmt::Write>(&self, f: &mut fmt::Formatter<W>) -> fmt::Result {
-        let plan = self.0.plan;
         let row = self.0.row;
         let refusal = self.0.told.refusal;
         if refusal.is_some() {
@@ -209,8 +256,12 @@ impl fmt::Display for SecondShown {
         }
         write!(
             f,
-            ": plan {plan}, step {}, left {}, {:016X} {:016X}",
-            row.step, row.left, row.steady, row.flashing
+            ": plan {}, step {}, left {}, {} {}",
+            Decimal(usize::from(self.0.plan)),
+            Decimal(usize::from(row.step)),
+            Decimal(usize::from(row.left)),
+            Hex16(row.steady),
+            Hex16(row.flashing)
         )
     }
 }

@@ -1,11 +1,14 @@
 // The octets of an action, read from its text, and parts of octets that are there whatever is asked for.
+ghost use Rattle.std.specs.Prelude.{◌≤◌, ◌<◌, IfSome, length};
 
 // The first n octets, or all where there are fewer.
 pub(crate) fn first(s: &[u8], n: usize) -> &[u8] {
     s.get(..n).unwrap_or(s)
 }
 
-pub(crate) fn first_mut(s: &mut [u8], n: usize) -> &mut [u8] {
+pub(crate) fn first_mut(s: &mut [u8], n: usize) -> &mut [u8]
+    ensures { length result.now ≤ n }
+{
     let end = n.min(s.len());
     &mut s[..end]
 }
@@ -76,7 +79,9 @@ fn taken(p: Parsed, c: u8, o: &mut [u8]) -> Parsed {
 }
 
 // What a digit counts; capitals only, so that no word is taken for octets.
-fn digit(c: u8) -> Option<u8> {
+fn digit(c: u8) -> Option<u8>
+    ensures { IfSome result (λ d. d < 16) }
+{
     match c {
         b'0'..=b'9' => Some(c - b'0'),
         b'A'..=b'F' => Some(c - b'A' + 10),

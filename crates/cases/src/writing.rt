@@ -1,29 +1,23 @@
 // Frames and messages written aloud: what is to be written, and the octets that were or the refusal.
-use crate::say::{FrameHead, HexOctets, RefusedCall};
+// A write that fails within a line is let go: the one that ends the line tells.
+use crate::say::{Decimal, FrameHead, HexOctets, RefusedCall};
 use crate::script;
 use frame::Kind;
 use frame_calls::writer;
 use message::{FIELDS_MOST, Message};
 use octets::refusal::Refusal;
-use std::io;
 
 const OWN: u16 = 0x0001;
 
 // The octets given are SEQ and, after it, INFO of a message or ERR of a NAK. Gives how many octets were written.
-pub(crate) fn write(
-    rt: &impl Print,
-    k: Kind,
-    o: &[u8],
-    out: &mut [u8],
-    at: usize,
-) -> io::Result<usize> {
+pub(crate) fn write(rt: &impl Print, k: Kind, o: &[u8], out: &mut [u8], at: usize) -> usize {
     let label = match k {
         Kind::Message => ", INFO ",
         Kind::Ack => "",
         Kind::Nak => ", ERR ",
     };
     let head = FrameHead(k, octets::octet_at(o, 0), OWN);
-    print!(rt; "\twrite {head}{label}{}", HexOctets(script::rest(o, 1)))?;
+    let _ = print!(rt; "\twrite {head}{label}{}", HexOctets(script::rest(o, 1)));
     let w = written(k, o, &mut *out, at);
     say_written(rt, w, out, at)
 }
@@ -38,8 +32,8 @@ fn written(k: Kind, o: &[u8], out: &mut [u8], at: usize) -> Result<usize, Refusa
 }
 
 // The message writer, given a code and its fields' values, two octets each. Gives how many octets were written.
-pub(crate) fn compose(rt: &impl Print, o: &[u8], out: &mut [u8], at: usize) -> io::Result<usize> {
-    print!(rt; "\tcompose {}", HexOctets(o))?;
+pub(crate) fn compose(rt: &impl Print, o: &[u8], out: &mut [u8], at: usize) -> usize {
+    let _ = print!(rt; "\tcompose {}", HexOctets(o));
     let w = message_calls::writer::write(message_in(o), &mut *out, at);
     say_written(rt, w, out, at)
 }
@@ -57,21 +51,16 @@ fn message_in(o: &[u8]) -> Message {
     }
 }
 
-fn say_written(
-    rt: &impl Print,
-    w: Result<usize, Refusal>,
-    out: &[u8],
-    at: usize,
-) -> io::Result<usize> {
+fn say_written(rt: &impl Print, w: Result<usize, Refusal>, out: &[u8], at: usize) -> usize {
     match w {
         Ok(count) => {
             let o = script::first(script::rest(out, at), count);
-            print!(rt; "\twritten {count}: {}", HexOctets(o))?;
-            Ok(count)
+            let _ = print!(rt; "\twritten {}: {}", Decimal(count), HexOctets(o));
+            count
         }
         Err(r) => {
-            print!(rt; "{}", RefusedCall(Some(r)))?;
-            Ok(0)
+            let _ = print!(rt; "{}", RefusedCall(Some(r)));
+            0
         }
     }
 }
